@@ -1,9 +1,9 @@
 //! Files by name.
 
-ghost use Rattle.std.specs.Prelude.{◌≡◌, ℕ, List, Option, Some, length, drop, min};
+ghost use Rattle.std.specs.Prelude.{◌≡◌, ◌↔◌, IsTrue, ℕ, List, Option, Some, length, drop, min};
 ghost use Rattle.std.specs.List.{find};
 ghost use Rattle.std.specs.Option.{option_copied};
-ghost use Rattle.eds_io.specs.Files.{file_named, is_named, IsPiece};
+ghost use Rattle.eds_io.specs.Files.{file_named, is_named, HaveOwnNames, IsPiece};
 ghost use Rattle.eds_io.specs.InMemory.{piece_size, place_of, got_of};
 
 use crate::shelf::Got;
@@ -27,6 +27,20 @@ fn file_of<'a>(files: &'a [NamedFile], name: &str) -> Option<&'a NamedFile>
     ensures { option_copied result ≡ find (is_named name.now) files.now }
 {
     files.iter().find(|file| file.name.as_str() == name)
+}
+
+/// Whether no two files have one name.
+pub fn have_own_names(files: &[NamedFile]) -> bool
+    ensures { IsTrue result ↔ HaveOwnNames files.now }
+{
+    let mut rest = files;
+    while let [file, after @ ..] = rest {
+        if file_of(after, file.name.as_str()).is_some() {
+            return false;
+        }
+        rest = after;
+    }
+    true
 }
 
 /// Where the first file of a name stands among files.

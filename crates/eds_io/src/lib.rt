@@ -4,7 +4,8 @@
 mod calls;
 mod calm;
 mod files;
-mod host;
+mod host_shelf;
+mod host_sink;
 mod mem_shelf;
 mod mem_sink;
 mod shelf;
@@ -13,8 +14,9 @@ mod tally;
 mod whole;
 
 pub use calm::{CalmShelf, CalmSink};
-pub use files::{NamedFile, NamedFiles, Numbers};
-pub use host::{HostShelf, HostSink};
+pub use files::{NamedFile, NamedFiles, Numbers, have_own_names};
+pub use host_shelf::HostShelf;
+pub use host_sink::HostSink;
 pub use mem_shelf::MemShelf;
 pub use mem_sink::MemSink;
 pub use shelf::{Got, Shelf};

@@ -66,13 +66,7 @@ impl MemShelf {
             self.tally.count(place);
             return Got::Failed;
         }
-        read_named(
-            self.files.as_slice(),
-            name,
-            from,
-            self.most as usize,
-            room,
-        )
+        read_named(self.files.as_slice(), name, from, self.most as usize, room)
     }
 }
 

@@ -1,6 +1,6 @@
 //! Whole files, and whole reports.
 
-ghost use Rattle.std.specs.Prelude.{◌≡◌, ◌≤◌, ◌<◌, ◌++◌, ℕ, List, Option, Some, None, Ok, Err, length, take, IfOk, OnOk, OnErr, IsSomeAnd, ◌^◌, ◌-◌};
+ghost use Rattle.std.specs.Prelude.{◌≡◌, ◌≤◌, ◌<◌, ◌++◌, ℕ, List, Option, Some, None, Ok, Err, length, take, IfOk, OnOk, OnErr, IsOk, IsSomeAnd, ◌^◌, ◌-◌};
 ghost use Rattle.eds_io.specs.Counts.{HasRisen};
 ghost use Rattle.eds_io.specs.Files.{Files, file_named};
 ghost use Rattle.eds_io.specs.Whole.{UnlessFailed, UnlessMemory};
@@ -64,6 +64,7 @@ pub fn read_whole<S: Shelf>(
     ensures files { S.files shelf.new ≡ S.files shelf.old }
     ensures calm { (other : List ℕ) → S.faults shelf.old other ≤ S.faults shelf.new other }
     ensures cause { result ≡ Err (Fail.Named ReadEnd.ReadFault) → HasRisen (S.faults shelf.old name.now) (S.faults shelf.new name.now) }
+    ensures steady { (told : Files) (file : List ℕ) → S.files shelf.old ≡ Some told → file_named name.now told ≡ Some file → length file ≤ most → ¬ (HasRisen (S.faults shelf.old name.now) (S.faults shelf.new name.now)) → UnlessMemory result (result ≡ Ok file) }
 {
     let mut buffer = make_room(alloc)?;
     let buffer = buffer.as_mut_slice();
@@ -92,6 +93,7 @@ pub fn write_whole<K: Sink>(sink: &mut K, octets: &[u8]) -> Result<(), WriteFaul
     ensures prefix { (before : List ℕ) → K.written sink.old ≡ Some before → OnErr result ((n : ℕ) × (n < length octets.now) × (K.written sink.new ≡ Some (before ++ take n octets.now))) }
     ensures calm { K.faults sink.old ≤ K.faults sink.new }
     ensures cause { OnErr result (HasRisen (K.faults sink.old) (K.faults sink.new)) }
+    ensures steady { ¬ (HasRisen (K.faults sink.old) (K.faults sink.new)) → IsOk result }
 {
     let mut done = 0usize;
     while done < octets.len() {

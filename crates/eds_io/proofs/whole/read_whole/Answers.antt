@@ -1,13 +1,9 @@
+-- Where a piece goes past `most`, so does the file.
 use Rattle.std.proofs.Common.{arith, refl, ◌∙◌, ◌≡◌, ◌++◌, Option, Some, None, ℕ, List, length, take, length-append, length-take}
-use Rattle.eds_io.specs.Files.{Files, file_named, IsPiece}
 use Rattle.std.specs.Option.{IsSomeAnd}
+use Rattle.eds_io.specs.Files.{Files, file_named, IsPiece}
 use Rattle.eds_io.proofs.Begins.{Begins-more, piece-past}
 use Rattle.eds_io.proofs.whole.read_whole.Goals as goal
-
-pub returns-then-n-most-clause-missing : goal.returns-then-n-most-clause-missing
-returns-then-n-most-clause-missing g c = λ told known lacks.
-    let piece = c.in-Bytes.ensures.octets told c.in-Bytes.n (c.loop-octets.invariant.files ∙ known) refl in
-    absurd (rw lacks at piece)
 
 pub returns-then-n-most-clause-too_big : goal.returns-then-n-most-clause-too_big
 returns-then-n-most-clause-too_big g c = λ told known _.
@@ -15,12 +11,19 @@ returns-then-n-most-clause-too_big g c = λ told known _.
     (c.in-Bytes.ensures.octets told c.in-Bytes.n (c.loop-octets.invariant.files ∙ known) refl)
     c.loop-octets.invariant.within (omega (arith, c.if-n-most.true))
 
+pub returns-then-n-most-clause-missing : goal.returns-then-n-most-clause-missing
+returns-then-n-most-clause-missing g c = λ told known lacks.
+    let longer = returns-then-n-most-clause-too_big g c told known refl in
+    absurd (rw lacks at longer)
+
 pub returns-then-n-most-clause-complete : goal.returns-then-n-most-clause-complete
 returns-then-n-most-clause-complete g c = λ told file known there small.
-    let longer = piece-past (file_named c.args.name.now told) c.read_at.new.room c.loop-octets.from c.in-Bytes.n c.args.most
-    (c.in-Bytes.ensures.octets told c.in-Bytes.n (c.loop-octets.invariant.files ∙ known) refl)
-    c.loop-octets.invariant.within (omega (arith, c.if-n-most.true)) in
+    let longer = returns-then-n-most-clause-too_big g c told known refl in
     absurd (omega (arith, rw there at longer))
+
+pub returns-then-n-most-clause-steady : goal.returns-then-n-most-clause-steady
+returns-then-n-most-clause-steady g c = λ told file known there small _.
+    returns-then-n-most-clause-complete g c told file known there small
 
 pub loop-octets-preserved : goal.loop-octets-preserved
 loop-octets-preserved g c =
