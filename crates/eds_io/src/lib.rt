@@ -22,3 +22,6 @@ pub use mem_sink::MemSink;
 pub use shelf::{Got, Shelf};
 pub use sink::{Sink, Wrote};
 pub use whole::{ReadEnd, WriteFault, read_whole, write_whole};
+
+#[cfg(test)]
+mod tests;
