@@ -1,5 +1,5 @@
 -- The octets read so far.
-use Rattle.std.proofs.Common.{◌≡◌, ◌≤◌, ◌<◌, ◌+◌, ◌-◌, ◌++◌, ℕ, List, [], length, take, drop, Option, Some, None, IsSomeAnd, arith, sym, ◌∙◌, ap, take-add, length-append, length-drop, length-take}
+use Rattle.std.proofs.Common.{◌≡◌, ◌≤◌, ◌<◌, ◌+◌, ◌++◌, ℕ, List, [], length, take, drop, Option, Some, None, IsSomeAnd, arith, sym, ◌∙◌, ap, take-add, length-append, length-drop, length-take}
 use Rattle.eds_io.specs.Files.{IsPiece}
 
 -- they are the file's first

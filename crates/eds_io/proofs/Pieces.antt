@@ -1,5 +1,5 @@
 -- Pieces of a list, one after another.
-use Rattle.std.proofs.Common.{◌≡◌, ◌≤◌, ◌+◌, ◌-◌, ◌++◌, ℕ, List, length, take, drop, arith, sym, ◌∙◌, ap, append_assoc, take-add, length-drop}
+use Rattle.std.proofs.Common.{◌≡◌, ◌+◌, ◌-◌, ◌++◌, ℕ, List, length, take, drop, arith, append_assoc, take-add, length-drop}
 use Rattle.std.proofs.lemmas.List.{take_all}
 
 -- what a list has from a place on, all of it

@@ -1,5 +1,5 @@
 -- A shelf and a sink in memory, which fail where they are told to.
-use Rattle.std.specs.Prelude.{◌≡◌, ◌==◌, ℕ, ◌+◌, ◌-◌, ◌<◌, ◌≤◌, nat_lt, min, List, [], ◌∷◌, ◌++◌, length, take, drop, replicate, slice_index, slice_index_or, slice_set, if◌then◌else◌, Bool, true, Option, Some, None}
+use Rattle.std.specs.Prelude.{◌==◌, ℕ, ◌+◌, nat_lt, min, List, [], ◌++◌, length, take, drop, replicate, slice_index, slice_index_or, slice_set, if◌then◌else◌, Bool, true, Option, Some, None}
 use Rattle.std.specs.List.{list_any, position}
 use Rattle.eds_io.specs.Counts.{counted}
 use Rattle.eds_io.specs.Files.{Files, file_named, is_named}

@@ -51,7 +51,13 @@ fn one_number(alloc: Global, number: u64) -> Result<Numbers, Memory> {
 }
 
 // How a whole read ends, which is Whole only where it gives just that text.
-fn read_ending<S: Shelf>(alloc: Global, shelf: &mut S, name: &str, most: u64, text: &str) -> Ending {
+fn read_ending<S: Shelf>(
+    alloc: Global,
+    shelf: &mut S,
+    name: &str,
+    most: u64,
+    text: &str,
+) -> Ending {
     match read_whole(alloc, shelf, name, most) {
         Ok(octets) => {
             if octets.as_slice() == text.as_bytes() {

@@ -1,7 +1,6 @@
 -- Where a piece goes past `most`, so does the file.
-use Rattle.std.proofs.Common.{arith, refl, ◌∙◌, ◌≡◌, ◌++◌, Option, Some, None, ℕ, List, length, take, length-append, length-take}
-use Rattle.std.specs.Option.{IsSomeAnd}
-use Rattle.eds_io.specs.Files.{Files, file_named, IsPiece}
+use Rattle.std.proofs.Common.{arith, refl, ◌∙◌, take, length-append, length-take}
+use Rattle.eds_io.specs.Files.{file_named}
 use Rattle.eds_io.proofs.Begins.{Begins-more, piece-past}
 use Rattle.eds_io.proofs.whole.read_whole.Goals as goal
 

@@ -1,4 +1,4 @@
-use Rattle.std.proofs.Common.{arith, refl, ap, ◌∙◌, ◌++◌, ◌+◌, Some, length, take, drop, ◌-◌, length-drop}
+use Rattle.std.proofs.Common.{arith, refl, ap, ◌∙◌, ◌++◌, ◌+◌, Some, take, length-drop}
 use Rattle.eds_io.proofs.Pieces.{take-rest, written-more}
 use Rattle.eds_io.proofs.whole.write_whole.Goals as goal
 
