@@ -48,3 +48,7 @@ filled bs = bs ++ replicate (8 * oct bs - length bs) false
 -- the octets of bits, the last filled with zeros
 abbrev pub octets_of : Bits → List ℕ
 octets_of bs = map unsigned_of (pieces 8 (filled bs))
+
+-- the bits with a piece in place of as many from bit `at` on
+abbrev pub with_piece : ℕ → Bits → Bits → Bits
+with_piece at piece bs = take at bs ++ (piece ++ drop (at + length piece) bs)
