@@ -80,7 +80,7 @@ low-add m n x =
     bits_same (low_bits (m + n) x) (low_bits m (x / 2 ^ n) ++ low_bits n x)
     (omega (arith, length-append (low_bits m (x / 2 ^ n)) (low_bits n x), length-low (m + n) x, length-low m (x / 2 ^ n), length-low n x))
     (let l : 2 ^ length (low_bits n x) ≡ 2 ^ n = ap (λ k. 2 ^ k) (length-low n x) in
-     unsigned-low_mod (m + n) x ∙ mod-pow-add x m n ∙ rw (l, unsigned-low_mod m (x / 2 ^ n), unsigned-low_mod n x) refl ∙ sym (unsigned-append (low_bits m (x / 2 ^ n)) (low_bits n x)))
+    unsigned-low_mod (m + n) x ∙ mod-pow-add x m n ∙ rw (l, unsigned-low_mod m (x / 2 ^ n), unsigned-low_mod n x) refl ∙ sym (unsigned-append (low_bits m (x / 2 ^ n)) (low_bits n x)))
 
 -- ---- a part of a list, by its number
 
@@ -125,8 +125,8 @@ with_piece-append at one other bs h =
     let same : with_piece at one bs ≡ (take at bs ++ one) ++ rest = sym (append_assoc (take at bs) one rest) in
     let before : take (at + length one) (with_piece at one bs) ≡ take at bs ++ one = ap (λ r. take (at + length one) r) same ∙ take_at (take at bs ++ one) rest (at + length one) l in
     let after : drop (at + length one + length other) (with_piece at one bs) ≡ drop (at + length one + length other) bs =
-        ap (λ r. drop (at + length one + length other) r) same ∙ ap (λ k. drop (k + length other) ((take at bs ++ one) ++ rest)) (sym l)
-        ∙ drop-append-add (take at bs ++ one) rest (length other) ∙ drop-drop (length other) (at + length one) bs in
+    ap (λ r. drop (at + length one + length other) r) same ∙ ap (λ k. drop (k + length other) ((take at bs ++ one) ++ rest)) (sym l)
+    ∙ drop-append-add (take at bs ++ one) rest (length other) ∙ drop-drop (length other) (at + length one) bs in
     let far : at + length (one ++ other) ≡ at + length one + length other = omega (arith, length-append one other) in
     rw (before, after, far) (simp append_assoc)
 

@@ -2,5 +2,6 @@
 #![tactic(auto)]
 
 mod reader;
+mod window;
 
 pub use reader::{BitReader, BitView};
