@@ -3,5 +3,7 @@
 
 mod reader;
 mod window;
+mod writer;
 
 pub use reader::{BitReader, BitView};
+pub use writer::put;
