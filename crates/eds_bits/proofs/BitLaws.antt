@@ -1,7 +1,7 @@
 -- Laws of lists of bits and of their numbers.
-use Rattle.std.proofs.Common.{◌≡◌, ℕ, zero, suc, ◌+◌, ◌-◌, ◌*◌, ◌/◌, ◌%◌, ◌^◌, ◌<◌, ◌≤◌, Bool, true, false, eqb, List, [], ◌∷◌, ◌++◌, length, take, drop, refl, sym, ◌∙◌, ap, arith, length-append}
+use Rattle.std.proofs.Common.{◌≡◌, ℕ, zero, suc, ◌+◌, ◌*◌, ◌/◌, ◌%◌, ◌^◌, ◌<◌, ◌≤◌, Bool, true, false, eqb, [], ◌∷◌, ◌++◌, length, take, drop, refl, sym, ◌∙◌, ap, arith, length-append}
 use Rattle.std.proofs.Math.Nat.{pow-suc, mod-eq_of_lt}
-use Rattle.std.proofs.lemmas.Nat.{pow-add, pow_pos, mod-pow-add, mod_below, mod_low, shr_high, shr-shr, shr_below}
+use Rattle.std.proofs.lemmas.Nat.{pow-add, pow_pos, mod-pow-add, mod_below, mod_low, shr_high}
 use Rattle.std.proofs.lemmas.Bool.Decides.{nat_tests}
 use Rattle.std.proofs.lemmas.List.{take_at, drop_at, drop-drop, take-append-drop, append_assoc, length-take, length-drop, take-append-le, drop-append-le}
 use Rattle.std.proofs.Math.Seq.{take-append-add, drop-append-add}
@@ -23,6 +23,18 @@ unsigned-append (x ∷ xs) ys =
 -- one bit more at the end, which doubles the number before it
 pub unsigned-push : (xs : Bits) (b : Bool) → unsigned_of (xs ++ b ∷ []) ≡ 2 * unsigned_of xs + bit_value b
 unsigned-push xs b = omega (arith, unsigned-append xs (b ∷ []))
+
+-- the number as a reader of bits gathers it: each bit doubles what came before
+abbrev pub number_onto : ℕ → Bits → ℕ
+number_onto n [] = n
+number_onto n (b ∷ bs) = number_onto (2 * n + bit_value b) bs
+
+pub number_onto_is : (n : ℕ) (bs : Bits) → number_onto n bs ≡ n * 2 ^ length bs + unsigned_of bs
+number_onto_is n [] = omega arith
+number_onto_is n (b ∷ bs) = rw pow-suc (omega (arith, number_onto_is (2 * n + bit_value b) bs))
+
+pub unsigned-number_onto : (bs : Bits) → unsigned_of bs ≡ number_onto 0 bs
+unsigned-number_onto bs = omega (arith, number_onto_is 0 bs)
 
 pub unsigned_bound : (bs : Bits) → unsigned_of bs < 2 ^ length bs
 unsigned_bound [] = omega arith
@@ -108,6 +120,29 @@ length-with_piece at piece bs h =
 -- an empty piece changes nothing
 pub with_piece-nil : (at : ℕ) (bs : Bits) → with_piece at [] bs ≡ bs
 with_piece-nil at bs = let e : at + 0 ≡ at = omega arith in rw e (take-append-drop at bs)
+
+-- before the piece, in it and after it
+pub take-with_piece : (at : ℕ) (piece bs : Bits) → at ≤ length bs → take at (with_piece at piece bs) ≡ take at bs
+take-with_piece at piece bs h = take_at (take at bs) (piece ++ drop (at + length piece) bs) at (omega (arith, length-take at bs))
+
+pub part-with_piece : (at : ℕ) (piece bs : Bits) → at ≤ length bs → take (length piece) (drop at (with_piece at piece bs)) ≡ piece
+part-with_piece at piece bs h =
+    ap (take (length piece)) (drop_at (take at bs) (piece ++ drop (at + length piece) bs) at (omega (arith, length-take at bs)))
+    ∙ take_at piece (drop (at + length piece) bs) (length piece) refl
+
+pub drop-with_piece : (at : ℕ) (piece bs : Bits) → at + length piece ≤ length bs → drop (at + length piece) (with_piece at piece bs) ≡ drop (at + length piece) bs
+drop-with_piece at piece bs h =
+    ap (λ k. drop (k + length piece) (with_piece at piece bs)) at_front ∙ drop-append-add (take at bs) (piece ++ drop (at + length piece) bs) (length piece)
+    ∙ drop_at piece (drop (at + length piece) bs) (length piece) refl
+  where
+    at_front : at ≡ length (take at bs)
+    at_front = omega (arith, length-take at bs)
+
+-- what is read where a number was put is that number
+pub unsigned-with_piece : (at n v : ℕ) (bs : Bits) → at ≤ length bs → v < 2 ^ n → unsigned_of (take n (drop at (with_piece at (low_bits n v) bs))) ≡ v
+unsigned-with_piece at n v bs h fits =
+    ap (λ k. unsigned_of (take k (drop at (with_piece at (low_bits n v) bs)))) (sym (length-low n v))
+    ∙ ap unsigned_of (part-with_piece at (low_bits n v) bs h) ∙ unsigned-low n v fits
 
 -- a piece between a front and an end
 pub with_piece-within : (at skip : ℕ) (front middle end piece : Bits) → at ≡ length front + skip → skip + length piece ≤ length middle → with_piece at piece (front ++ (middle ++ end)) ≡ front ++ (with_piece skip piece middle ++ end)

@@ -1,13 +1,12 @@
 -- Laws of octets and their bits.
-use Rattle.std.proofs.Common.{◌≡◌, ℕ, zero, suc, ◌+◌, ◌-◌, ◌*◌, ◌/◌, ◌%◌, ◌^◌, ◌<◌, ◌≤◌, Bool, true, false, List, [], ◌∷◌, ◌++◌, length, take, drop, map, replicate, All, refl, sym, ◌∙◌, ap, arith, length-append, length-drop, length-take}
-use Rattle.std.proofs.lemmas.List.{take_at, drop_at, drop-drop, append_assoc, append-nil, take_all, drop_all, nil_from_length, take-append-drop, length-replicate, length-map}
-use Rattle.std.proofs.lemmas.Nat.{pow_pos}
+use Rattle.std.proofs.Common.{◌≡◌, ℕ, zero, suc, ◌+◌, ◌-◌, ◌*◌, ◌/◌, ◌^◌, ◌<◌, ◌≤◌, false, List, [], ◌∷◌, ◌++◌, length, take, drop, map, replicate, All, refl, sym, ◌∙◌, ap, arith, length-append, length-drop, length-take}
+use Rattle.std.proofs.lemmas.List.{take_at, drop_at, append-nil, take_all, drop_all, nil_from_length, take-append-drop, length-replicate, length-map}
 use Rattle.std.proofs.Math.Nat.{pow-le-pow_right}
 use Rattle.std.proofs.lemmas.List.Concat.{flat_map-append}
 use Rattle.std.proofs.lemmas.List.Elements.{All-head, All-tail, All-cons, All-nil}
 use Rattle.std.proofs.Math.Seq.{take-append-add, drop-append-add}
 use Rattle.eds_bits.specs.Bits.{Bits, low_bits, bits_of, unsigned_of, first_pieces, oct, filled, octets_of}
-use Rattle.eds_bits.proofs.BitLaws.{length-low, unsigned-low, low-unsigned, unsigned-append, unsigned_bound}
+use Rattle.eds_bits.proofs.BitLaws.{length-low, length-with_piece, unsigned-low, low-unsigned, unsigned-append, unsigned_bound}
 
 pub length-bits_of : (octets : List ℕ) → length (bits_of octets) ≡ 8 * length octets
 length-bits_of [] = refl
@@ -116,3 +115,6 @@ octets_of_below bs = octets_below ((length (filled bs) + 7) / 8) (filled bs)
 -- how many bits follow the first `at`
 pub length_after : (at : ℕ) (os : List ℕ) → length (drop at (bits_of os)) ≡ 8 * length os - at
 length_after at os = omega (arith, length-drop at (bits_of os), length-bits_of os)
+
+-- how many bits there are
+pub ruleset bit_counts = (length-bits_of, length_after, length-low, length-with_piece)

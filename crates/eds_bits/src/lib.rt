@@ -7,3 +7,6 @@ mod writer;
 
 pub use reader::{BitReader, BitView};
 pub use writer::put;
+
+#[cfg(test)]
+mod tests;

@@ -3,8 +3,8 @@
 ghost use Rattle.std.specs.Prelude.{◌≡◌, ◌+◌, ◌*◌, ◌%◌, ◌^◌, ◌<◌, ◌≤◌, length};
 ghost use Rattle.eds_bits.specs.Bits.{bits_of, unsigned_of};
 
-/// The whole octets that hold some bits: from octet `first` up to octet `last`, which is not among them. Before the
-/// bits there are `skip` others in these octets, and after them `pad`.
+/// The whole octets that hold some bits: from octet `first` up to octet `last`, which is not among them. `pad` bits
+/// of the last one follow these bits.
 #[derive(Clone, Copy)]
 pub struct Window {
     pub first: usize,

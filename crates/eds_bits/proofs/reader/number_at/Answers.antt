@@ -1,4 +1,4 @@
-use Rattle.std.proofs.Common.{◌≡◌, ◌/◌, ◌%◌, ◌^◌, arith, ap, sym, ◌∙◌}
+use Rattle.std.proofs.Common.{arith, ◌∙◌}
 use Rattle.eds_bits.proofs.Windows.{window_part}
 use Rattle.eds_bits.proofs.reader.number_at.Goals as goal
 

@@ -1,5 +1,4 @@
-use Rattle.std.proofs.Common.{◌≡◌, ◌*◌, ◌%◌, ◌^◌, ◌<◌, ◌≤◌, length, take, bit_or, arith, ap, ◌∙◌, length-take}
-use Rattle.eds_bits.specs.Bits.{bits_of, unsigned_of}
+use Rattle.std.proofs.Common.{◌*◌, ◌%◌, ◌^◌, ◌≤◌, length, take, bit_or, arith, ap, ◌∙◌, length-take}
 use Rattle.eds_bits.proofs.Windows.{octet_step, octets_bound}
 use Rattle.eds_bits.proofs.window.number_of.Goals as goal
 

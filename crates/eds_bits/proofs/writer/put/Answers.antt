@@ -1,5 +1,5 @@
-use Rattle.std.proofs.Common.{◌≡◌, ◌≤◌, ◌<◌, ◌-◌, ◌*◌, List, ℕ, length, take, drop, arith, ap, ◌∙◌, length-take, length-drop}
-use Rattle.eds_bits.specs.Bits.{bits_of, low_bits}
+use Rattle.std.proofs.Common.{◌≤◌, ◌-◌, ◌*◌, List, ℕ, length, take, drop, arith, ap, ◌∙◌, length-take}
+use Rattle.eds_bits.specs.Bits.{low_bits}
 use Rattle.eds_bits.proofs.Windows.{octets_bound, window_put}
 use Rattle.eds_bits.proofs.writer.put.Goals as goal
 

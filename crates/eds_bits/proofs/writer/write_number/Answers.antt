@@ -1,4 +1,4 @@
-use Rattle.std.proofs.Common.{◌≡◌, ◌+◌, ◌-◌, ◌*◌, ◌/◌, ◌%◌, ◌^◌, length, bit_and, arith, ap, sym, ◌∙◌, length-set}
+use Rattle.std.proofs.Common.{◌≡◌, ◌+◌, ◌-◌, ◌*◌, ◌/◌, ◌^◌, length, bit_and, arith, ap, sym, ◌∙◌, length-set}
 use Rattle.std.proofs.lemmas.Nat.{and_mask}
 use Rattle.eds_bits.specs.Bits.{low_bits}
 use Rattle.eds_bits.proofs.Windows.{low_none, written_more}
