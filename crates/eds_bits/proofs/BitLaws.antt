@@ -36,72 +36,72 @@ number_onto_is n (b ∷ bs) = rw pow-suc (omega (arith, number_onto_is (2 * n + 
 pub unsigned-number_onto : (bs : Bits) → unsigned_of bs ≡ number_onto 0 bs
 unsigned-number_onto bs = omega (arith, number_onto_is 0 bs)
 
-pub unsigned_bound : (bs : Bits) → unsigned_of bs < 2 ^ length bs
-unsigned_bound [] = omega arith
-unsigned_bound (true ∷ bs) = rw pow-suc (omega (arith, unsigned_bound bs))
-unsigned_bound (false ∷ bs) = rw pow-suc (omega (arith, unsigned_bound bs))
+pub unsigned-lt : (bs : Bits) → unsigned_of bs < 2 ^ length bs
+unsigned-lt [] = omega arith
+unsigned-lt (true ∷ bs) = rw pow-suc (omega (arith, unsigned-lt bs))
+unsigned-lt (false ∷ bs) = rw pow-suc (omega (arith, unsigned-lt bs))
 
 -- as many bits with one number are the same bits
-pub bits_same : (bs cs : Bits) → length bs ≡ length cs → unsigned_of bs ≡ unsigned_of cs → bs ≡ cs
-bits_same [] [] l e = refl
-bits_same [] (c ∷ cs) l e = absurd (omega arith)
-bits_same (b ∷ bs) [] l e = absurd (omega arith)
-bits_same (true ∷ bs) (true ∷ cs) l e =
+pub unsigned_same : (bs cs : Bits) → length bs ≡ length cs → unsigned_of bs ≡ unsigned_of cs → bs ≡ cs
+unsigned_same [] [] l e = refl
+unsigned_same [] (c ∷ cs) l e = absurd (omega arith)
+unsigned_same (b ∷ bs) [] l e = absurd (omega arith)
+unsigned_same (true ∷ bs) (true ∷ cs) l e =
     let k : length bs ≡ length cs = omega arith in
     let p : 2 ^ length bs ≡ 2 ^ length cs = ap (λ n. 2 ^ n) k in
-    ap (λ r. true ∷ r) (bits_same bs cs k (omega arith))
-bits_same (false ∷ bs) (false ∷ cs) l e = ap (λ r. false ∷ r) (bits_same bs cs (omega arith) (omega arith))
-bits_same (true ∷ bs) (false ∷ cs) l e =
+    ap (λ r. true ∷ r) (unsigned_same bs cs k (omega arith))
+unsigned_same (false ∷ bs) (false ∷ cs) l e = ap (λ r. false ∷ r) (unsigned_same bs cs (omega arith) (omega arith))
+unsigned_same (true ∷ bs) (false ∷ cs) l e =
     let k : length bs ≡ length cs = omega arith in
     let p : 2 ^ length bs ≡ 2 ^ length cs = ap (λ n. 2 ^ n) k in
-    absurd (omega (arith, unsigned_bound cs))
-bits_same (false ∷ bs) (true ∷ cs) l e =
+    absurd (omega (arith, unsigned-lt cs))
+unsigned_same (false ∷ bs) (true ∷ cs) l e =
     let k : length bs ≡ length cs = omega arith in
     let p : 2 ^ length bs ≡ 2 ^ length cs = ap (λ n. 2 ^ n) k in
-    absurd (omega (arith, unsigned_bound bs))
+    absurd (omega (arith, unsigned-lt bs))
 
 -- ---- the lowest bits of a number
 
 odd_bit : (x : ℕ) → bit_value (eqb (x % 2) 1) ≡ x % 2
 odd_bit x = grind (arith, nat_tests)
 
-pub unsigned-low_mod : (n x : ℕ) → unsigned_of (low_bits n x) ≡ x % 2 ^ n
+pub unsigned-low : (n x : ℕ) → unsigned_of (low_bits n x) ≡ x % 2 ^ n
 unfolding low_bits
-unsigned-low_mod zero x = omega arith
-unsigned-low_mod (suc n) x =
+unsigned-low zero x = omega arith
+unsigned-low (suc n) x =
     let l : 2 ^ length (low_bits n x) ≡ 2 ^ n = ap (λ m. 2 ^ m) (length-low n x) in
     let more : suc n ≡ 1 + n = omega arith in
     let split : x % 2 ^ suc n ≡ (x / 2 ^ n % 2) * 2 ^ n + x % 2 ^ n = rw more (mod-pow-add x 1 n) in
-    rw (l, odd_bit, unsigned-low_mod n x) (sym split)
+    rw (l, odd_bit, unsigned-low n x) (sym split)
 
 -- a number below 2^n is that of its n lowest bits
-pub unsigned-low : (n x : ℕ) → x < 2 ^ n → unsigned_of (low_bits n x) ≡ x
-unsigned-low n x h = unsigned-low_mod n x ∙ mod-eq_of_lt h
+pub unsigned_small : (n x : ℕ) → x < 2 ^ n → unsigned_of (low_bits n x) ≡ x
+unsigned_small n x h = unsigned-low n x ∙ mod-eq_of_lt h
 
 -- a list of bits is the lowest bits of its number
 pub low-unsigned : (bs : Bits) → low_bits (length bs) (unsigned_of bs) ≡ bs
-low-unsigned bs = bits_same (low_bits (length bs) (unsigned_of bs)) bs (length-low (length bs) (unsigned_of bs)) (unsigned-low (length bs) (unsigned_of bs) (unsigned_bound bs))
+low-unsigned bs = unsigned_same (low_bits (length bs) (unsigned_of bs)) bs (length-low (length bs) (unsigned_of bs)) (unsigned_small (length bs) (unsigned_of bs) (unsigned-lt bs))
 
 -- two numbers with the same remainder have the same lowest bits
 pub low_same : (n x y : ℕ) → x % 2 ^ n ≡ y % 2 ^ n → low_bits n x ≡ low_bits n y
-low_same n x y e = bits_same (low_bits n x) (low_bits n y) (length-low n x ∙ sym (length-low n y)) (unsigned-low_mod n x ∙ e ∙ sym (unsigned-low_mod n y))
+low_same n x y e = unsigned_same (low_bits n x) (low_bits n y) (length-low n x ∙ sym (length-low n y)) (unsigned-low n x ∙ e ∙ sym (unsigned-low n y))
 
 -- the lowest m + n bits are m bits of the number without its n lowest, and then these
-pub low-add : (m n x : ℕ) → low_bits (m + n) x ≡ low_bits m (x / 2 ^ n) ++ low_bits n x
-low-add m n x =
-    bits_same (low_bits (m + n) x) (low_bits m (x / 2 ^ n) ++ low_bits n x)
+pub low-append : (m n x : ℕ) → low_bits (m + n) x ≡ low_bits m (x / 2 ^ n) ++ low_bits n x
+low-append m n x =
+    unsigned_same (low_bits (m + n) x) (low_bits m (x / 2 ^ n) ++ low_bits n x)
     (omega (arith, length-append (low_bits m (x / 2 ^ n)) (low_bits n x), length-low (m + n) x, length-low m (x / 2 ^ n), length-low n x))
     (let l : 2 ^ length (low_bits n x) ≡ 2 ^ n = ap (λ k. 2 ^ k) (length-low n x) in
-    unsigned-low_mod (m + n) x ∙ mod-pow-add x m n ∙ rw (l, unsigned-low_mod m (x / 2 ^ n), unsigned-low_mod n x) refl ∙ sym (unsigned-append (low_bits m (x / 2 ^ n)) (low_bits n x)))
+    unsigned-low (m + n) x ∙ mod-pow-add x m n ∙ rw (l, unsigned-low m (x / 2 ^ n), unsigned-low n x) refl ∙ sym (unsigned-append (low_bits m (x / 2 ^ n)) (low_bits n x)))
 
 -- ---- a part of a list, by its number
 
 pub unsigned-middle : (front part end : Bits) → unsigned_of (front ++ (part ++ end)) / 2 ^ length end % 2 ^ length part ≡ unsigned_of part
 unsigned-middle front part end =
     let e : unsigned_of (front ++ (part ++ end)) ≡ unsigned_of (front ++ part) * 2 ^ length end + unsigned_of end = ap unsigned_of (sym (append_assoc front part end)) ∙ unsigned-append (front ++ part) end in
-    let below = unsigned_bound end in
+    let below = unsigned-lt end in
     let high = shr_high (unsigned_of (front ++ part)) (length end) (unsigned_of end) below in
-    ap (λ x. x / 2 ^ length end % 2 ^ length part) e ∙ ap (λ x. x % 2 ^ length part) (high ∙ unsigned-append front part) ∙ mod_low (unsigned_of front) (length part) (unsigned_of part) (unsigned_bound part)
+    ap (λ x. x / 2 ^ length end % 2 ^ length part) e ∙ ap (λ x. x % 2 ^ length part) (high ∙ unsigned-append front part) ∙ mod_low (unsigned_of front) (length part) (unsigned_of part) (unsigned-lt part)
 
 -- n bits after the first `skip`, where `pad` bits follow them
 pub unsigned-part : (skip n pad : ℕ) (bs : Bits) → length bs ≡ skip + n + pad → unsigned_of bs / 2 ^ pad % 2 ^ n ≡ unsigned_of (take n (drop skip bs))
@@ -142,7 +142,7 @@ drop-with_piece at piece bs h =
 pub unsigned-with_piece : (at n v : ℕ) (bs : Bits) → at ≤ length bs → v < 2 ^ n → unsigned_of (take n (drop at (with_piece at (low_bits n v) bs))) ≡ v
 unsigned-with_piece at n v bs h fits =
     ap (λ k. unsigned_of (take k (drop at (with_piece at (low_bits n v) bs)))) (sym (length-low n v))
-    ∙ ap unsigned_of (part-with_piece at (low_bits n v) bs h) ∙ unsigned-low n v fits
+    ∙ ap unsigned_of (part-with_piece at (low_bits n v) bs h) ∙ unsigned_small n v fits
 
 -- a piece between a front and an end
 pub with_piece-within : (at skip : ℕ) (front middle end piece : Bits) → at ≡ length front + skip → skip + length piece ≤ length middle → with_piece at piece (front ++ (middle ++ end)) ≡ front ++ (with_piece skip piece middle ++ end)
@@ -176,7 +176,7 @@ with_piece-middle at front middle end piece l m =
 
 pub low-parts : (skip n pad x : ℕ) → low_bits (skip + n + pad) x ≡ low_bits skip (x / 2 ^ pad / 2 ^ n) ++ (low_bits n (x / 2 ^ pad) ++ low_bits pad x)
 low-parts skip n pad x =
-    low-add (skip + n) pad x ∙ ap (λ r. r ++ low_bits pad x) (low-add skip n (x / 2 ^ pad))
+    low-append (skip + n) pad x ∙ ap (λ r. r ++ low_bits pad x) (low-append skip n (x / 2 ^ pad))
     ∙ append_assoc (low_bits skip (x / 2 ^ pad / 2 ^ n)) (low_bits n (x / 2 ^ pad)) (low_bits pad x)
 
 -- a number with some of its bits replaced: those before the last `pad`, n of them, by a number below 2^n

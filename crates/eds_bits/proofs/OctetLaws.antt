@@ -6,7 +6,7 @@ use Rattle.std.proofs.lemmas.List.Concat.{flat_map-append}
 use Rattle.std.proofs.lemmas.List.Elements.{All-head, All-tail, All-cons, All-nil}
 use Rattle.std.proofs.Math.Seq.{take-append-add, drop-append-add}
 use Rattle.eds_bits.specs.Bits.{Bits, low_bits, bits_of, unsigned_of, first_pieces, oct, filled, octets_of}
-use Rattle.eds_bits.proofs.BitLaws.{length-low, length-with_piece, unsigned-low, low-unsigned, unsigned-append, unsigned_bound}
+use Rattle.eds_bits.proofs.BitLaws.{length-low, length-with_piece, unsigned_small, low-unsigned, unsigned-append, unsigned-lt}
 
 pub length-bits_of : (octets : List ℕ) → length (bits_of octets) ≡ 8 * length octets
 length-bits_of [] = refl
@@ -35,7 +35,7 @@ drop-bits_of (suc k) (o ∷ os) =
 pub unsigned-bits_of_push : (os : List ℕ) (o : ℕ) → o < 256 → unsigned_of (bits_of (os ++ o ∷ [])) ≡ 256 * unsigned_of (bits_of os) + o
 unsigned-bits_of_push os o h =
     let l : 2 ^ length (low_bits 8 o ++ []) ≡ 256 = ap (λ r. 2 ^ length r) (append-nil (low_bits 8 o)) ∙ ap (λ n. 2 ^ n) (length-low 8 o) in
-    let u : unsigned_of (low_bits 8 o ++ []) ≡ o = ap unsigned_of (append-nil (low_bits 8 o)) ∙ unsigned-low 8 o h in
+    let u : unsigned_of (low_bits 8 o ++ []) ≡ o = ap unsigned_of (append-nil (low_bits 8 o)) ∙ unsigned_small 8 o h in
     let s = unsigned-append (bits_of os) (low_bits 8 o ++ []) in
     ap unsigned_of (bits_of-append os (o ∷ [])) ∙ s ∙ rw (l, u) (omega arith)
 
@@ -69,7 +69,7 @@ numbers_back (o ∷ os) h =
     let front : take 8 (low_bits 8 o ++ bits_of os) ≡ low_bits 8 o = take_at (low_bits 8 o) (bits_of os) 8 (length-low 8 o) in
     let rest : drop 8 (low_bits 8 o ++ bits_of os) ≡ bits_of os = drop_at (low_bits 8 o) (bits_of os) 8 (length-low 8 o) in
     let head : o < 256 = All-head (λ x. x < 256) o os h in
-    rw (front, rest, unsigned-low 8 o head, numbers_back os (All-tail (λ x. x < 256) o os h)) refl
+    rw (front, rest, unsigned_small 8 o head, numbers_back os (All-tail (λ x. x < 256) o os h)) refl
 
 -- octets have their own bits
 pub octets_of-bits_of : (os : List ℕ) → All (λ o. o < 256) os → octets_of (bits_of os) ≡ os
@@ -102,7 +102,7 @@ pub length-octets_of : (bs : Bits) → length (octets_of bs) ≡ oct bs
 length-octets_of bs = length-map (first_pieces ((length (filled bs) + 7) / 8) 8 (filled bs)) unsigned_of ∙ length-first_pieces ((length (filled bs) + 7) / 8) 8 (filled bs) ∙ pieces_filled bs
 
 octet_below : (bs : Bits) → length bs ≤ 8 → unsigned_of bs < 256
-octet_below bs l = let pos : 0 < 2 = omega arith in let p : 2 ^ length bs ≤ 2 ^ 8 = pow-le-pow_right pos l in omega (arith, unsigned_bound bs)
+octet_below bs l = let pos : 0 < 2 = omega arith in let p : 2 ^ length bs ≤ 2 ^ 8 = pow-le-pow_right pos l in omega (arith, unsigned-lt bs)
 
 octets_below : (k : ℕ) (bs : Bits) → All (λ o. o < 256) (map unsigned_of (first_pieces k 8 bs))
 unfolding first_pieces

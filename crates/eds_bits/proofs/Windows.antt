@@ -5,7 +5,7 @@ use Rattle.std.proofs.lemmas.Nat.{or_shifted, shr-shr, shr_split, shr_le, shl_wh
 use borrow.Rule.Slice.PartMut.{put_mid}
 use Rattle.std.proofs.Math.Nat.{pow-le-pow_right, mod-eq_of_lt}
 use Rattle.eds_bits.specs.Bits.{Bits, low_bits, bits_of, unsigned_of, with_piece}
-use Rattle.eds_bits.proofs.BitLaws.{length-low, unsigned_bound, unsigned-part, low-unsigned, low-add, low_same, low-replaced, with_piece-within}
+use Rattle.eds_bits.proofs.BitLaws.{length-low, unsigned-lt, unsigned-part, low-unsigned, low-append, low_same, low-replaced, with_piece-within}
 use Rattle.eds_bits.proofs.OctetLaws.{length-bits_of, bits_of-append, take-bits_of, drop-bits_of, unsigned-bits_of_push}
 
 -- the number of octets is below a power of 2
@@ -14,7 +14,7 @@ octets_bound os k h =
     let two : 0 < 2 = omega arith in
     let few : length (bits_of os) ≤ 8 * k = omega (arith, length-bits_of os) in
     let p : 2 ^ length (bits_of os) ≤ 2 ^ (8 * k) = pow-le-pow_right two few in
-    omega (arith, unsigned_bound (bits_of os))
+    omega (arith, unsigned-lt (bits_of os))
 
 -- one octet more of a few
 pub octet_step : (os : List ℕ) (i o : ℕ) → i < length os → length os ≤ 9 → o ≡ get_or os i 0 → o < 256 → bit_or (unsigned_of (bits_of (take i os)) * 2 ^ 8 % 2 ^ 128) o ≡ unsigned_of (bits_of (take (i + 1) os))
@@ -58,7 +58,7 @@ written_more os i r w y h e before =
     let front : low_bits (8 * i) (w / 2 ^ (8 * (r + 1))) ≡ low_bits (8 * i) (x / 2 ^ 8) = ap (λ k. low_bits (8 * i) (w / 2 ^ k)) next ∙ ap (low_bits (8 * i)) (sym (shr-shr w (8 * r) 8)) in
     let end : low_bits 8 y ≡ low_bits 8 x = low_same 8 y x (omega arith) in
     let size : 8 * (i + 1) ≡ 8 * i + 8 = omega arith in
-    ap bits_of (take_more_set os i y h) ∙ bits_of-append (take i os) (y ∷ []) ∙ ap (λ r. bits_of (take i os) ++ r) (append-nil (low_bits 8 y)) ∙ rw (before, front, end, size) (sym (low-add (8 * i) 8 x))
+    ap bits_of (take_more_set os i y h) ∙ bits_of-append (take i os) (y ∷ []) ∙ ap (λ r. bits_of (take i os) ++ r) (append-nil (low_bits 8 y)) ∙ rw (before, front, end, size) (sym (low-append (8 * i) 8 x))
 
 -- ---- bits put into octets
 
