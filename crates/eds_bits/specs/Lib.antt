@@ -1,3 +1,6 @@
 pub mod Bits
 pub mod Lists
 pub mod Reader
+pub mod Encodings
+pub mod Style
+pub mod IntForms

@@ -1,10 +1,12 @@
 //! Bits of octets, the most significant first: views, readers and writing, and the forms of numbers.
 #![tactic(auto)]
 
+mod forms;
 mod reader;
 mod window;
 mod writer;
 
+pub use forms::{BoolForm, ByteOrder, CheckKind, Encoding, IntForm, TextForm};
 pub use reader::{BitReader, BitView};
 pub use writer::put;
 
