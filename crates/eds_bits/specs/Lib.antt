@@ -4,3 +4,5 @@ pub mod Reader
 pub mod Encodings
 pub mod Style
 pub mod IntForms
+pub mod Scalars
+pub mod Vectors

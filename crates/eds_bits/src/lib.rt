@@ -2,6 +2,7 @@
 #![tactic(auto)]
 
 mod forms;
+pub mod law;
 mod reader;
 mod window;
 mod writer;
