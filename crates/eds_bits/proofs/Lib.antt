@@ -1,3 +1,5 @@
 pub mod BitLaws
 pub mod OctetLaws
 pub mod Windows
+pub mod NumberLaws
+pub mod Patterns
