@@ -3,3 +3,5 @@ pub mod OctetLaws
 pub mod Windows
 pub mod NumberLaws
 pub mod Patterns
+pub mod Groups
+pub mod Decimals
