@@ -1,17 +1,16 @@
 -- Groups of bits: the digits and the octets of a number.
-use Rattle.std.proofs.Common.{◌≡◌, ℕ, zero, suc, ◌+◌, ◌-◌, ◌*◌, ◌/◌, ◌%◌, ◌^◌, ◌<◌, ◌≤◌, List, [], ◌∷◌, ◌++◌, length, map, take, drop, reverse, refl, sym, ap, ◌∙◌, arith}
+use Rattle.std.proofs.Common.{◌≡◌, ℕ, zero, suc, ◌+◌, ◌-◌, ◌*◌, ◌/◌, ◌%◌, ◌^◌, ◌<◌, ◌≤◌, List, [], ◌∷◌, ◌++◌, length, map, take, drop, reverse, refl, sym, ap, ◌∙◌, subst, arith}
 use Rattle.std.specs.List.{flat_map}
 use Rattle.std.specs.Int.{w64, swap_bytes}
 use Rattle.std.proofs.lemmas.Nat.{shr-shr, div-mul-add, mod-mul-add}
-use Rattle.std.proofs.lemmas.List.{take_at, reverse-append, length-reverse, map-append}
+use Rattle.std.proofs.lemmas.List.{take_at, reverse-append, reverse-reverse, length-reverse, map-append}
 use Rattle.std.proofs.lemmas.List.Folds.{flat_map-map}
 use Rattle.std.proofs.Math.Seq.{drop-append_seam}
 use Rattle.std.proofs.Math.Nat.{mul-add-div, div-eq_of_lt, mod-mod, mod-eq_of_lt}
 use Rattle.eds_bits.specs.Bits.{Bits, low_bits, unsigned_of, first_pieces, pieces}
 use Rattle.eds_bits.specs.Encodings.{ordered}
 use Rattle.eds_bits.specs.declared.forms.ByteOrder.TheVariants.{Little}
-use Rattle.eds_bits.proofs.BitLaws.{length-low}
-use Rattle.eds_bits.proofs.NumberLaws.{unsigned-low, low_same, low-append}
+use Rattle.eds_bits.proofs.BitLaws.{length-low, unsigned-low_mod, low_same, low-add}
 
 -- the m lowest groups of k bits of a number, the highest first
 abbrev pub groups : ℕ → ℕ → ℕ → List ℕ
@@ -35,7 +34,7 @@ first_pieces-low k (suc m) x =
     let high = low_bits k (x / 2 ^ (k * m)) in
     let low = low_bits (k * m) x in
     let e : k * suc m ≡ k + k * m = omega arith in
-    let all : low_bits (k * suc m) x ≡ high ++ low = ap (λ n. low_bits n x) e ∙ low-append k (k * m) x in
+    let all : low_bits (k * suc m) x ≡ high ++ low = ap (λ n. low_bits n x) e ∙ low-add k (k * m) x in
     let front : take k (high ++ low) ≡ high = take_at high low k (length-low k (x / 2 ^ (k * m))) in
     let rest : drop k (high ++ low) ≡ low = drop_at high low k (length-low k (x / 2 ^ (k * m))) in
     rw (all, front, rest, low-mod k (x / 2 ^ (k * m)), first_pieces-low k m x) refl
@@ -49,7 +48,7 @@ pieces-low k m x h =
 unsigned_groups : (k m x : ℕ) → map unsigned_of (map (low_bits k) (groups k m x)) ≡ groups k m x
 unsigned_groups k zero x = refl
 unsigned_groups k (suc m) x =
-    rw (unsigned-low k (x / 2 ^ (k * m) % 2 ^ k), mod-mod (x / 2 ^ (k * m)) (2 ^ k), unsigned_groups k m x) refl
+    rw (unsigned-low_mod k (x / 2 ^ (k * m) % 2 ^ k), mod-mod (x / 2 ^ (k * m)) (2 ^ k), unsigned_groups k m x) refl
 
 -- the numbers of the pieces are the groups
 pub numbers_of_pieces : (k m x : ℕ) → 0 < k → map unsigned_of (pieces k (low_bits (k * m) x)) ≡ groups k m x
@@ -75,7 +74,7 @@ unfolding low_bits
 joined_groups k zero x = let e : k * 0 ≡ 0 = omega arith in rw e refl
 joined_groups k (suc m) x =
     let e : k * suc m ≡ k + k * m = omega arith in
-    rw (low-mod k (x / 2 ^ (k * m)), joined_groups k m x, e, low-append k (k * m) x) refl
+    rw (low-mod k (x / 2 ^ (k * m)), joined_groups k m x, e, low-add k (k * m) x) refl
 
 -- the groups above a place, and those below it
 groups-append : (k m j x : ℕ) → groups k m (x / 2 ^ (k * j)) ++ groups k j x ≡ groups k (m + j) x
@@ -127,9 +126,9 @@ append_same : (a b c d : List ℕ) → length a ≡ length c → a ++ b ≡ c ++
 append_same a b c d l e =
     sym (take_at a b (length a) refl) ∙ ap (take (length a)) e ∙ take_at c d (length a) (sym l)
 
--- the lower m octets in reverse are the upper m of all in reverse
-pub low-swapped : (m j x : ℕ) → m + j ≡ 8 → low_bits (8 * m) (swap_bytes w64 x / 2 ^ (8 * j)) ≡ ordered Little (low_bits (8 * m) x)
-low-swapped m j x e =
+-- the upper m octets of all in reverse are the lower m in reverse
+groups-swapped : (m j x : ℕ) → m + j ≡ 8 → groups 8 m (swap_bytes w64 x / 2 ^ (8 * j)) ≡ reverse (groups 8 m x)
+groups-swapped m j x e =
     let y = swap_bytes w64 x in
     let front = groups 8 m (y / 2 ^ (8 * j)) in
     let octets = groups 8 m x in
@@ -138,7 +137,40 @@ low-swapped m j x e =
     let turned : j + m ≡ 8 = omega arith in
     let split : groups 8 8 x ≡ others ++ octets = sym (groups-append 8 j m x ∙ ap (λ n. groups 8 n x) turned) in
     let right : reverse (groups 8 8 x) ≡ reverse octets ++ reverse others = ap reverse split ∙ reverse-append others octets in
-    let same : front ≡ reverse octets =
-        append_same front (groups 8 j y) (reverse octets) (reverse others) (length-groups 8 m (y / 2 ^ (8 * j)) ∙ sym (length-reverse octets ∙ length-groups 8 m x)) (left ∙ right) in
+    append_same front (groups 8 j y) (reverse octets) (reverse others) (length-groups 8 m (y / 2 ^ (8 * j)) ∙ sym (length-reverse octets ∙ length-groups 8 m x)) (left ∙ right)
+
+little-low : (m x : ℕ) → ordered Little (low_bits (8 * m) x) ≡ flat_map (low_bits 8) (reverse (groups 8 m x))
+little-low m x =
+    let octets = groups 8 m x in
     let pieced : reverse (pieces 8 (low_bits (8 * m) x)) ≡ map (low_bits 8) (reverse octets) = ap reverse (pieces-low 8 m x (omega arith)) ∙ sym (map-reverse (low_bits 8) octets) in
-    sym (joined_groups 8 m (y / 2 ^ (8 * j))) ∙ ap (flat_map (low_bits 8)) same ∙ sym (flat_map-map (λ o. o) (low_bits 8) (reverse octets)) ∙ sym (ap (flat_map (λ o. o)) pieced)
+    ap (flat_map (λ o. o)) pieced ∙ flat_map-map (λ o. o) (low_bits 8) (reverse octets)
+
+eight_parts : (n : ℕ) → n % 8 ≡ 0 → n ≤ 64 → (m : ℕ) × (j : ℕ) × (n ≡ 8 * m) × (64 - n ≡ 8 * j) × (m + j ≡ 8)
+eight_parts n h l = (n / 8, 8 - n / 8, omega arith, omega arith, omega arith)
+
+-- whole octets in reverse: those of the number with all its octets in reverse, from the highest on
+pub little-swapped : (n x : ℕ) → n % 8 ≡ 0 → n ≤ 64 → low_bits n (swap_bytes w64 x / 2 ^ (64 - n)) ≡ ordered Little (low_bits n x)
+little-swapped n x h l =
+    let p = eight_parts n h l in
+    let m = p.0 in
+    let j = p.1 in
+    let whole : low_bits (8 * m) (swap_bytes w64 x / 2 ^ (8 * j)) ≡ ordered Little (low_bits (8 * m) x) =
+        sym (joined_groups 8 m (swap_bytes w64 x / 2 ^ (8 * j))) ∙ ap (flat_map (low_bits 8)) (groups-swapped m j x p.4) ∙ sym (little-low m x) in
+    rw (p.3) (subst (λ k. low_bits k (swap_bytes w64 x / 2 ^ (8 * j)) ≡ ordered Little (low_bits k x)) (sym p.2) whole)
+
+-- twice in reverse
+pub little-little : (n x : ℕ) → n % 8 ≡ 0 → n ≤ 64 → ordered Little (ordered Little (low_bits n x)) ≡ low_bits n x
+little-little n x h l =
+    let p = eight_parts n h l in
+    let m = p.0 in
+    let y = swap_bytes w64 x / 2 ^ (8 * p.1) in
+    let once : ordered Little (low_bits (8 * m) x) ≡ low_bits (8 * m) y =
+        little-low m x ∙ ap (flat_map (low_bits 8)) (sym (groups-swapped m p.1 x p.4)) ∙ joined_groups 8 m y in
+    let back : reverse (groups 8 m y) ≡ groups 8 m x = ap reverse (groups-swapped m p.1 x p.4) ∙ reverse-reverse (groups 8 m x) in
+    let twice : ordered Little (ordered Little (low_bits (8 * m) x)) ≡ low_bits (8 * m) x =
+        ap (ordered Little) once ∙ little-low m y ∙ ap (flat_map (low_bits 8)) back ∙ joined_groups 8 m x in
+    subst (λ k. ordered Little (ordered Little (low_bits k x)) ≡ low_bits k x) (sym p.2) twice
+
+-- bits whose groups are the same
+pub low_from_groups : (k m x y : ℕ) → groups k m x ≡ groups k m y → low_bits (k * m) x ≡ low_bits (k * m) y
+low_from_groups k m x y e = sym (joined_groups k m x) ∙ ap (flat_map (low_bits k)) e ∙ joined_groups k m y

@@ -51,7 +51,8 @@ pub fn encode_int(form: IntForm, n: i128) -> Option<u64>
     if n < bounds.least || bounds.greatest < n {
         return None;
     }
-    Some(reordered(form, by_encoding!(form, encode(n))))
+    let raw = by_encoding!(form, encode(n));
+    Some(reordered(form, raw))
 }
 
 /// The number whose bits in a form are those of `raw`. None exactly where the form has no such pattern: it
