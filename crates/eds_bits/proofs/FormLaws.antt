@@ -1,5 +1,5 @@
 -- Integer forms: their patterns in either order.
-use Rattle.std.proofs.Common.{◌≡◌, ℕ, zero, suc, ◌+◌, ◌-◌, ◌*◌, ◌/◌, ◌%◌, ◌^◌, ◌<◌, ◌≤◌, ℤ, pos, Bool, true, false, not, List, [], ◌∷◌, length, map, Option, Some, None, refl, sym, ap, ◌∙◌, subst, arith, IsTrue, inl, inr}
+use Rattle.std.proofs.Common.{◌≡◌, ℕ, zero, suc, ◌+◌, ◌-◌, ◌*◌, ◌/◌, ◌%◌, ◌^◌, ◌<◌, ◌≤◌, ℤ, pos, negsuc, nat_abs, Bool, true, false, not, List, [], ◌∷◌, length, map, Option, Some, None, refl, sym, ap, ◌∙◌, subst, arith, IsTrue, inl, inr}
 use Rattle.std.specs.Prelude.{◌↔◌, ◌⊎◌, nat_le, ◌&&◌, IsNone}
 use Rattle.std.specs.Int.{w64, swap_bytes}
 use Rattle.std.proofs.lemmas.Nat.{pow_pos}
@@ -15,7 +15,7 @@ use Rattle.eds_bits.specs.IntForms.{least, greatest, HasNumber, number_of, digit
 use Rattle.eds_bits.specs.declared.forms.ByteOrder.{ByteOrder}
 use Rattle.eds_bits.specs.declared.forms.ByteOrder.TheVariants.{Big, Little}
 use Rattle.eds_bits.specs.declared.forms.IntForm.{IntForm}
-use Rattle.eds_bits.proofs.BitLaws.{length-low, unsigned_bound, low-unsigned}
+use Rattle.eds_bits.proofs.BitLaws.{length-low, unsigned-lt, low-unsigned}
 use Rattle.eds_bits.proofs.Groups.{little-swapped, little-little}
 use Rattle.eds_bits.proofs.PatternLaws.{NotZero, IsAmong, among, same_pattern, IsWritten, written, no_number}
 
@@ -59,7 +59,7 @@ pub turned : (form : IntForm) (bs : Bits) → length bs ≡ form.bits → Turned
 turned form bs l =
     let turn = ordered form.order bs in
     let whole : length turn ≡ form.bits = length-ordered form.order form.bits bs form.valid.whole_octets form.valid.few l in
-    record { raw = unsigned_of turn; small = subst (λ k. unsigned_of turn < 2 ^ k) whole (unsigned_bound turn); bits = low_of form.bits turn whole }
+    record { raw = unsigned_of turn; small = subst (λ k. unsigned_of turn < 2 ^ k) whole (unsigned-lt turn); bits = low_of form.bits turn whole }
 
 number_turned : (form : IntForm) (n : ℤ) (bs : Bits) (t : Turned form bs) → number_of form bs ≡ Some n → number_by form.encoding (low_bits form.bits t.raw) ≡ Some n
 number_turned form n bs t e = ap (number_by form.encoding) (sym t.bits) ∙ e
@@ -140,3 +140,33 @@ pub digits_written_by : (form : IntForm) (n m : ℤ) (e : Encoding) (w raw other
     → number_by e (low_bits (w * (form.bits / w)) other) ≡ Some m → (m ≡ pos 0 → other ≡ 0) → IsWritten form.encoding form.bits n raw
 digits_written_by form n m e w raw other en whole same_raw same small number plain =
     written_by form n m e raw other en same_raw same (subst (λ k. other < 2 ^ k) whole small) (subst (λ k. number_by e (low_bits k other) ≡ Some m) whole number) plain
+
+-- ---- canonical patterns
+
+-- each number of a form has one
+pub has_canonical : (form : IntForm) (n : ℤ) → HasNumber form n → (bs : Bits) × IsNumber canonical form n bs
+has_canonical form n h =
+    let w = written form.encoding form.bits n form.valid.some form.valid.whole_digits (record { from_least = h.from_least; to_greatest = h.to_greatest }) in
+    let bs = ordered form.order (low_bits form.bits w.0) in
+    (bs, canonical_pattern form n bs w.0 w.1 refl)
+
+-- bits that are all zero are those of 0
+zeros_same : (b c : Bits) → length b ≡ length c → is_zero b ≡ true → is_zero c ≡ true → b ≡ c
+zeros_same [] [] l z y = refl
+zeros_same [] (q ∷ c) l z y = absurd (omega arith)
+zeros_same (p ∷ b) [] l z y = absurd (omega arith)
+zeros_same (true ∷ b) c l z y = absurd cc
+zeros_same (false ∷ b) (true ∷ c) l z y = absurd cc
+zeros_same (false ∷ b) (false ∷ c) l z y = ap (λ t. false ∷ t) (zeros_same b c (omega arith) z y)
+
+-- and no number has two
+pub one_canonical : (form : IntForm) (n : ℤ) (b c : Bits) → IsNumber canonical form n b → IsNumber canonical form n c → b ≡ c
+one_canonical form (pos zero) b c i j = zeros_same b c (i.is.size ∙ sym j.is.size) (i.zero_plain refl) (j.zero_plain refl)
+one_canonical form (pos (suc u)) b c i j = one_pattern form (pos (suc u)) b c (λ z. absurd (omega (arith, ap nat_abs z))) i.is j.is
+one_canonical form (negsuc u) b c i j = one_pattern form (negsuc u) b c (λ z. absurd cc) i.is j.is
+
+some_same : (a b : ℤ) → ◌≡◌ {A = Option ℤ} (Some a) (Some b) → a ≡ b
+some_same a b e = cc
+
+pub one_number : (form : IntForm) (m n : ℤ) (bs : Bits) → IsInt form m bs → IsInt form n bs → m ≡ n
+one_number form m n bs i j = some_same m n (sym i.number ∙ j.number)

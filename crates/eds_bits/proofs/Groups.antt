@@ -10,7 +10,7 @@ use Rattle.std.proofs.Math.Nat.{mul-add-div, div-eq_of_lt, mod-mod, mod-eq_of_lt
 use Rattle.eds_bits.specs.Bits.{Bits, low_bits, unsigned_of, first_pieces, pieces}
 use Rattle.eds_bits.specs.Encodings.{ordered}
 use Rattle.eds_bits.specs.declared.forms.ByteOrder.TheVariants.{Little}
-use Rattle.eds_bits.proofs.BitLaws.{length-low, unsigned-low_mod, low_same, low-add}
+use Rattle.eds_bits.proofs.BitLaws.{length-low, unsigned-low, low_same, low-append}
 
 -- the m lowest groups of k bits of a number, the highest first
 abbrev pub groups : ℕ → ℕ → ℕ → List ℕ
@@ -34,7 +34,7 @@ first_pieces-low k (suc m) x =
     let high = low_bits k (x / 2 ^ (k * m)) in
     let low = low_bits (k * m) x in
     let e : k * suc m ≡ k + k * m = omega arith in
-    let all : low_bits (k * suc m) x ≡ high ++ low = ap (λ n. low_bits n x) e ∙ low-add k (k * m) x in
+    let all : low_bits (k * suc m) x ≡ high ++ low = ap (λ n. low_bits n x) e ∙ low-append k (k * m) x in
     let front : take k (high ++ low) ≡ high = take_at high low k (length-low k (x / 2 ^ (k * m))) in
     let rest : drop k (high ++ low) ≡ low = drop_at high low k (length-low k (x / 2 ^ (k * m))) in
     rw (all, front, rest, low-mod k (x / 2 ^ (k * m)), first_pieces-low k m x) refl
@@ -48,7 +48,7 @@ pieces-low k m x h =
 unsigned_groups : (k m x : ℕ) → map unsigned_of (map (low_bits k) (groups k m x)) ≡ groups k m x
 unsigned_groups k zero x = refl
 unsigned_groups k (suc m) x =
-    rw (unsigned-low_mod k (x / 2 ^ (k * m) % 2 ^ k), mod-mod (x / 2 ^ (k * m)) (2 ^ k), unsigned_groups k m x) refl
+    rw (unsigned-low k (x / 2 ^ (k * m) % 2 ^ k), mod-mod (x / 2 ^ (k * m)) (2 ^ k), unsigned_groups k m x) refl
 
 -- the numbers of the pieces are the groups
 pub numbers_of_pieces : (k m x : ℕ) → 0 < k → map unsigned_of (pieces k (low_bits (k * m) x)) ≡ groups k m x
@@ -74,7 +74,7 @@ unfolding low_bits
 joined_groups k zero x = let e : k * 0 ≡ 0 = omega arith in rw e refl
 joined_groups k (suc m) x =
     let e : k * suc m ≡ k + k * m = omega arith in
-    rw (low-mod k (x / 2 ^ (k * m)), joined_groups k m x, e, low-add k (k * m) x) refl
+    rw (low-mod k (x / 2 ^ (k * m)), joined_groups k m x, e, low-append k (k * m) x) refl
 
 -- the groups above a place, and those below it
 groups-append : (k m j x : ℕ) → groups k m (x / 2 ^ (k * j)) ++ groups k j x ≡ groups k (m + j) x

@@ -1,7 +1,8 @@
 -- Which numbers have a pattern in an encoding, and when two patterns of a number are one.
-use Rattle.std.proofs.Common.{◌≡◌, ℕ, zero, suc, ◌+◌, ◌-◌, ◌*◌, ◌/◌, ◌%◌, ◌^◌, ◌<◌, ◌≤◌, ℤ, pos, negsuc, ◌-ℤ◌, ◌≤ℤ◌, nat_abs, Bool, true, false, cond, List, [], ◌∷◌, length, map, Option, Some, None, refl, sym, ap, ◌∙◌, subst, arith, inl, inr, ◌⊎◌}
+use Rattle.std.proofs.Common.{◌≡◌, ℕ, zero, suc, ◌+◌, ◌-◌, ◌*◌, ◌/◌, ◌%◌, ◌^◌, ◌<◌, ◌≤◌, ℤ, pos, negsuc, neg_ℤ, ◌-ℤ◌, ◌≤ℤ◌, ◌<ℤ◌, nat_abs, Bool, true, false, cond, List, [], ◌∷◌, length, map, Option, Some, None, refl, sym, ap, ◌∙◌, subst, arith, inl, inr, ◌⊎◌}
 use Rattle.std.specs.Prelude.{nat_le, ◌&&◌, ◌↔◌, is_some, IsNone}
 use Rattle.std.proofs.Math.Bool.{and-false}
+use Rattle.std.proofs.Math.Nat.{pow-le-pow_right}
 use Rattle.eds_bits.specs.Lists.{HasOne}
 use Rattle.std.proofs.lemmas.Int.{ints}
 use Rattle.std.proofs.lemmas.Nat.{pow_pos, same_from_place}
@@ -12,7 +13,7 @@ use Rattle.eds_bits.specs.declared.forms.Encoding.{Encoding}
 use Rattle.eds_bits.specs.declared.forms.Encoding.TheVariants.{Unsigned, TwosComplement, SignMagnitude, OnesComplement, PackedBcd, Bcd}
 use Rattle.eds_bits.proofs.Patterns.{halves, unsigned_pattern, twos_positive, twos_negative, ones_positive, ones_negative, magnitude_positive, magnitude_negative}
 use Rattle.eds_bits.proofs.Groups.{groups, length-groups, numbers_of_pieces, low_from_groups}
-use Rattle.eds_bits.proofs.Decimals.{are_digits, sum_small, packed, packed-lt, packed_number, packed_zero, ten_pos}
+use Rattle.eds_bits.proofs.Decimals.{are_digits, sum_small, packed, packed-lt, packed_number, packed_zero, ten_pos, tens}
 
 some_same : (a b : ℤ) → ◌≡◌ {A = Option ℤ} (Some a) (Some b) → a ≡ b
 some_same a b e = cc
@@ -264,3 +265,35 @@ no_number SignMagnitude bs = (λ e. absurd cc, λ h. absurd h)
 no_number OnesComplement bs = (λ e. absurd cc, λ h. absurd h)
 no_number PackedBcd bs = no_decimal (digits_by PackedBcd bs)
 no_number Bcd bs = no_decimal (digits_by Bcd bs)
+
+-- ---- the size of the numbers
+
+-- the least and the greatest number are in order, from -2^63 to below 2^64
+pub record AreSmall (low high : ℤ) : Type 0 where
+  pub in_order : low ≤ℤ high
+  pub least : neg_ℤ (pos (2 ^ 63)) ≤ℤ low
+  pub greatest : high <ℤ pos (2 ^ 64)
+
+signed_small : (k : ℕ) → 1 ≤ k → k ≤ 64 → 2 ^ (k - 1) ≤ 2 ^ 63
+signed_small k l f = let below : k - 1 ≤ 63 = omega arith in pow-le-pow_right (omega arith) below
+
+decimal_small : (m : ℕ) → m ≤ 16 → AreSmall (pos 0) (pos (10 ^ m - 1))
+decimal_small m f =
+    let most = tens m f in
+    record { in_order = omega (arith, ints); least = omega (arith, ints); greatest = omega (arith, ints) }
+
+pub are_small : (e : Encoding) (k : ℕ) → 1 ≤ k → k ≤ 64 → AreSmall (least_by e k) (greatest_by e k)
+are_small Unsigned k l f =
+    let most : 2 ^ k ≤ 2 ^ 64 = pow-le-pow_right (omega arith) f in
+    record { in_order = omega (arith, ints); least = omega (arith, ints); greatest = omega (arith, ints, pow_pos k) }
+are_small TwosComplement k l f =
+    let most = signed_small k l f in
+    record { in_order = omega (arith, ints, pow_pos (k - 1)); least = omega (arith, ints); greatest = omega (arith, ints) }
+are_small SignMagnitude k l f =
+    let most = signed_small k l f in
+    record { in_order = omega (arith, ints); least = omega (arith, ints); greatest = omega (arith, ints) }
+are_small OnesComplement k l f =
+    let most = signed_small k l f in
+    record { in_order = omega (arith, ints); least = omega (arith, ints); greatest = omega (arith, ints) }
+are_small PackedBcd k l f = decimal_small (k / 4) (omega arith)
+are_small Bcd k l f = decimal_small (k / 8) (omega arith)

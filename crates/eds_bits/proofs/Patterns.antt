@@ -7,7 +7,7 @@ use Rattle.std.proofs.lemmas.Nat.{div-mul-add, mod-mul-add}
 use Rattle.eds_bits.specs.Bits.{Bits, low_bits, unsigned_of}
 use Rattle.eds_bits.specs.Encodings.{first_bit, less_where_first, signed_magnitude, number_by}
 use Rattle.eds_bits.specs.declared.forms.Encoding.TheVariants.{Unsigned, TwosComplement, SignMagnitude, OnesComplement}
-use Rattle.eds_bits.proofs.BitLaws.{length-low, unsigned-low_mod, unsigned-low}
+use Rattle.eds_bits.proofs.BitLaws.{length-low, unsigned-low, unsigned_small}
 
 pub halves : (n : ℕ) → 1 ≤ n → 2 ^ (n - 1) + 2 ^ (n - 1) ≡ 2 ^ n
 halves zero l = absurd (omega arith)
@@ -34,26 +34,26 @@ rest-low k x = refl
 
 less_small : (a k x : ℕ) → x < 2 ^ k → less_where_first a (low_bits (suc k) x) ≡ pos x
 less_small a k x h =
-    let u : unsigned_of (low_bits (suc k) x) ≡ x = unsigned-low (suc k) x (omega (arith, pow-suc 2 k)) in
+    let u : unsigned_of (low_bits (suc k) x) ≡ x = unsigned_small (suc k) x (omega (arith, pow-suc 2 k)) in
     rw (first_small k x h, u) (omega (arith, ints))
 
 less_large : (a k x : ℕ) → 2 ^ k ≤ x → x < 2 ^ suc k → less_where_first a (low_bits (suc k) x) ≡ pos x -ℤ pos a
-less_large a k x h g = rw (first_large k x h g, unsigned-low (suc k) x g) refl
+less_large a k x h g = rw (first_large k x h g, unsigned_small (suc k) x g) refl
 
 magnitude_small : (k x : ℕ) → x < 2 ^ k → signed_magnitude (low_bits (suc k) x) ≡ pos x
-magnitude_small k x h = rw (first_small k x h, rest-low k x, unsigned-low k x h) refl
+magnitude_small k x h = rw (first_small k x h, rest-low k x, unsigned_small k x h) refl
 
 magnitude_large : (k x : ℕ) → 2 ^ k ≤ x → x < 2 ^ suc k → signed_magnitude (low_bits (suc k) x) ≡ pos (2 ^ k) -ℤ pos x
 magnitude_large k x h g =
     let e : x ≡ 1 * 2 ^ k + (x - 2 ^ k) = omega arith in
     let r : x % 2 ^ k ≡ x - 2 ^ k = ap (λ y. y % 2 ^ k) e ∙ mod-mul-add 1 (2 ^ k) (x - 2 ^ k) (omega (arith, pow-suc 2 k)) in
-    let u : unsigned_of (low_bits k x) ≡ x - 2 ^ k = unsigned-low_mod k x ∙ r in
+    let u : unsigned_of (low_bits k x) ≡ x - 2 ^ k = unsigned-low k x ∙ r in
     rw (first_large k x h g, rest-low k x, u) (omega (arith, ints))
 
 -- ---- the same for any size: x stands for the number z
 
 pub unsigned_pattern : (n x : ℕ) (z : ℤ) → x < 2 ^ n → pos x ≡ z → number_by Unsigned (low_bits n x) ≡ Some z
-unsigned_pattern n x z h e = rw unsigned-low (ap Some e)
+unsigned_pattern n x z h e = rw unsigned_small (ap Some e)
 
 pub twos_positive : (n x : ℕ) (z : ℤ) → 1 ≤ n → x < 2 ^ (n - 1) → pos x ≡ z → number_by TwosComplement (low_bits n x) ≡ Some z
 twos_positive zero x z l h e = absurd (omega arith)
