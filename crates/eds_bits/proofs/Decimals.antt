@@ -1,5 +1,5 @@
 -- Groups of bits as decimal digits.
-use Rattle.std.proofs.Common.{◌≡◌, ℕ, zero, suc, ◌+◌, ◌-◌, ◌*◌, ◌/◌, ◌%◌, ◌^◌, ◌<◌, ◌≤◌, Bool, true, false, cond, List, [], ◌∷◌, length, map, Option, Some, None, ℤ, pos, refl, sym, ap, ◌∙◌, arith, inl, inr, add-one, ◌⊎◌, subst}
+use Rattle.std.proofs.Common.{◌≡◌, ℕ, zero, suc, ◌+◌, ◌*◌, ◌/◌, ◌%◌, ◌^◌, ◌<◌, ◌≤◌, Bool, true, false, cond, List, [], ◌∷◌, length, map, Some, None, pos, refl, sym, ap, ◌∙◌, arith, inl, inr, add-one, subst}
 use Rattle.std.specs.Prelude.{nat_le, ◌&&◌, bit_or}
 use Rattle.std.specs.List.{list_all}
 use Rattle.std.proofs.Math.Nat.{pow-suc, mod-eq_of_lt, pow-le-pow_right, mul-le-mul_right, mul-zero, one-le-pow, div-eq_of_lt, div-div-eq-div-mul}
@@ -82,9 +82,9 @@ bad_digit k zero i x l h = absurd (omega arith)
 bad_digit k (suc m) i x l h = elim (cases_lt i m) [
   | inl below ↦ ap (λ b. nat_le (x / 2 ^ (k * m) % 2 ^ k) 9 && b) (bad_digit k m i x below h) ∙ and-false (nat_le (x / 2 ^ (k * m) % 2 ^ k) 9)
   | inr from ↦
-    let e : i ≡ m = omega arith in
-    let big : 9 < x / 2 ^ (k * m) % 2 ^ k = subst (λ j. 9 < x / 2 ^ (k * j) % 2 ^ k) e h in
-    ap (λ b. b && are_digits (groups k m x)) (lt-leb (x / 2 ^ (k * m) % 2 ^ k) 9 big)
+      let e : i ≡ m = omega arith in
+      let big : 9 < x / 2 ^ (k * m) % 2 ^ k = subst (λ j. 9 < x / 2 ^ (k * j) % 2 ^ k) e h in
+      ap (λ b. b && are_digits (groups k m x)) (lt-leb (x / 2 ^ (k * m) % 2 ^ k) 9 big)
 ]
 
 -- at a group above 9

@@ -1,6 +1,6 @@
 -- Integer forms: their patterns in either order.
-use Rattle.std.proofs.Common.{◌≡◌, ℕ, zero, suc, ◌+◌, ◌-◌, ◌*◌, ◌/◌, ◌%◌, ◌^◌, ◌<◌, ◌≤◌, ℤ, pos, negsuc, nat_abs, Bool, true, false, not, List, [], ◌∷◌, length, map, Option, Some, None, refl, sym, ap, ◌∙◌, subst, arith, IsTrue, inl, inr}
-use Rattle.std.specs.Prelude.{◌↔◌, ◌⊎◌, nat_le, ◌&&◌, IsNone}
+use Rattle.std.proofs.Common.{◌≡◌, ℕ, zero, suc, ◌-◌, ◌*◌, ◌/◌, ◌%◌, ◌^◌, ◌<◌, ◌≤◌, ℤ, pos, negsuc, nat_abs, true, false, [], ◌∷◌, length, map, Option, Some, refl, sym, ap, ◌∙◌, subst, arith, inl, inr}
+use Rattle.std.specs.Prelude.{◌↔◌, ◌⊎◌, IsNone}
 use Rattle.std.specs.Int.{w64, swap_bytes}
 use Rattle.std.proofs.lemmas.Nat.{pow_pos}
 use Rattle.std.proofs.Math.Nat.{div-eq_of_lt, lt-div-mul-add, mul-le-mul_right}
@@ -11,13 +11,13 @@ use Rattle.eds_bits.specs.Lists.{HasOne}
 use Rattle.eds_bits.specs.Encodings.{number_by, decimal_of, digit_bits, order_bits, ordered}
 use Rattle.eds_bits.specs.declared.forms.Encoding.{Encoding}
 use Rattle.eds_bits.specs.declared.forms.Encoding.TheVariants.{PackedBcd, Bcd}
-use Rattle.eds_bits.specs.IntForms.{least, greatest, HasNumber, number_of, digits_of, IsInt, IsNumber}
+use Rattle.eds_bits.specs.IntForms.{HasNumber, number_of, digits_of, IsInt, IsNumber}
 use Rattle.eds_bits.specs.declared.forms.ByteOrder.{ByteOrder}
 use Rattle.eds_bits.specs.declared.forms.ByteOrder.TheVariants.{Big, Little}
 use Rattle.eds_bits.specs.declared.forms.IntForm.{IntForm}
 use Rattle.eds_bits.proofs.BitLaws.{length-low, unsigned-lt, low-unsigned}
 use Rattle.eds_bits.proofs.Groups.{little-swapped, little-little}
-use Rattle.eds_bits.proofs.PatternLaws.{NotZero, IsAmong, among, same_pattern, IsWritten, written, no_number}
+use Rattle.eds_bits.proofs.PatternLaws.{NotZero, among, same_pattern, IsWritten, written, no_number}
 
 -- ---- the order of octets
 
@@ -77,7 +77,7 @@ one_pattern form n b c ne i j =
     let s = turned form b i.size in
     let t = turned form c j.size in
     let same : ordered form.order b ≡ ordered form.order c =
-        s.bits ∙ same_pattern form.encoding form.bits s.raw t.raw n form.valid.some form.valid.whole_digits s.small t.small ne (number_turned form n b s i.number) (number_turned form n c t j.number) ∙ sym t.bits in
+    s.bits ∙ same_pattern form.encoding form.bits s.raw t.raw n form.valid.some form.valid.whole_digits s.small t.small ne (number_turned form n b s i.number) (number_turned form n c t j.number) ∙ sym t.bits in
     sym (ordered-ordered form.order form.bits b form.valid.whole_octets form.valid.few i.size) ∙ ap (ordered form.order) same ∙ ordered-ordered form.order form.bits c form.valid.whole_octets form.valid.few j.size
 
 -- what is written for a number, in the form's order, is its canonical pattern

@@ -64,7 +64,7 @@ pub groups_push : (k m a y : ℕ) → 0 < k → a < 2 ^ k → y < 2 ^ (k * m) �
 groups_push k m a y h ha hy =
     let head : (a * 2 ^ (k * m) + y) / 2 ^ (k * m) % 2 ^ k ≡ a = ap (λ q. q % 2 ^ k) (div-mul-add a (2 ^ (k * m)) y hy) ∙ mod-eq_of_lt ha in
     let tail : groups k m (a * 2 ^ (k * m) + y) ≡ groups k m y =
-        groups_same k m (a * 2 ^ (k * m) + y) y h (mod-mul-add a (2 ^ (k * m)) y hy ∙ sym (mod-eq_of_lt hy)) in
+    groups_same k m (a * 2 ^ (k * m) + y) y h (mod-mul-add a (2 ^ (k * m)) y hy ∙ sym (mod-eq_of_lt hy)) in
     rw (head, tail) refl
 
 -- ---- octets in reverse
@@ -155,7 +155,7 @@ little-swapped n x h l =
     let m = p.0 in
     let j = p.1 in
     let whole : low_bits (8 * m) (swap_bytes w64 x / 2 ^ (8 * j)) ≡ ordered Little (low_bits (8 * m) x) =
-        sym (joined_groups 8 m (swap_bytes w64 x / 2 ^ (8 * j))) ∙ ap (flat_map (low_bits 8)) (groups-swapped m j x p.4) ∙ sym (little-low m x) in
+    sym (joined_groups 8 m (swap_bytes w64 x / 2 ^ (8 * j))) ∙ ap (flat_map (low_bits 8)) (groups-swapped m j x p.4) ∙ sym (little-low m x) in
     rw (p.3) (subst (λ k. low_bits k (swap_bytes w64 x / 2 ^ (8 * j)) ≡ ordered Little (low_bits k x)) (sym p.2) whole)
 
 -- twice in reverse
@@ -165,10 +165,10 @@ little-little n x h l =
     let m = p.0 in
     let y = swap_bytes w64 x / 2 ^ (8 * p.1) in
     let once : ordered Little (low_bits (8 * m) x) ≡ low_bits (8 * m) y =
-        little-low m x ∙ ap (flat_map (low_bits 8)) (sym (groups-swapped m p.1 x p.4)) ∙ joined_groups 8 m y in
+    little-low m x ∙ ap (flat_map (low_bits 8)) (sym (groups-swapped m p.1 x p.4)) ∙ joined_groups 8 m y in
     let back : reverse (groups 8 m y) ≡ groups 8 m x = ap reverse (groups-swapped m p.1 x p.4) ∙ reverse-reverse (groups 8 m x) in
     let twice : ordered Little (ordered Little (low_bits (8 * m) x)) ≡ low_bits (8 * m) x =
-        ap (ordered Little) once ∙ little-low m y ∙ ap (flat_map (low_bits 8)) back ∙ joined_groups 8 m x in
+    ap (ordered Little) once ∙ little-low m y ∙ ap (flat_map (low_bits 8)) back ∙ joined_groups 8 m x in
     subst (λ k. ordered Little (ordered Little (low_bits k x)) ≡ low_bits k x) (sym p.2) twice
 
 -- bits whose groups are the same

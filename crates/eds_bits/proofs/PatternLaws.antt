@@ -1,5 +1,5 @@
 -- Which numbers have a pattern in an encoding, and when two patterns of a number are one.
-use Rattle.std.proofs.Common.{◌≡◌, ℕ, zero, suc, ◌+◌, ◌-◌, ◌*◌, ◌/◌, ◌%◌, ◌^◌, ◌<◌, ◌≤◌, ℤ, pos, negsuc, neg_ℤ, ◌-ℤ◌, ◌≤ℤ◌, ◌<ℤ◌, nat_abs, Bool, true, false, cond, List, [], ◌∷◌, length, map, Option, Some, None, refl, sym, ap, ◌∙◌, subst, arith, inl, inr, ◌⊎◌}
+use Rattle.std.proofs.Common.{◌≡◌, ℕ, suc, ◌+◌, ◌-◌, ◌*◌, ◌/◌, ◌%◌, ◌^◌, ◌<◌, ◌≤◌, ℤ, pos, negsuc, neg_ℤ, ◌-ℤ◌, ◌≤ℤ◌, ◌<ℤ◌, nat_abs, Bool, true, false, cond, List, [], ◌∷◌, length, map, Option, Some, None, refl, sym, ap, ◌∙◌, subst, arith, inl, inr, ◌⊎◌}
 use Rattle.std.specs.Prelude.{nat_le, ◌&&◌, ◌↔◌, is_some, IsNone}
 use Rattle.std.proofs.Math.Bool.{and-false}
 use Rattle.std.proofs.Math.Nat.{pow-le-pow_right}
@@ -73,20 +73,20 @@ among Unsigned k x n l d h e = let said = unsigned_says k x n h e in record { fr
 among TwosComplement k x n l d h e =
     let half = halves k l in
     elim (twos_says k x n l h e) [
-    | inl s ↦ record { from_least = omega (arith, ints, s.0, s.1); to_greatest = omega (arith, ints, s.0, s.1) }
-    | inr s ↦ record { from_least = omega (arith, ints, s.0, s.1); to_greatest = omega (arith, ints, s.0, s.1) }
+      | inl s ↦ record { from_least = omega (arith, ints, s.0, s.1); to_greatest = omega (arith, ints, s.0, s.1) }
+      | inr s ↦ record { from_least = omega (arith, ints, s.0, s.1); to_greatest = omega (arith, ints, s.0, s.1) }
     ]
 among SignMagnitude k x n l d h e =
     let half = halves k l in
     elim (magnitude_says k x n l h e) [
-    | inl s ↦ record { from_least = omega (arith, ints, s.0, s.1); to_greatest = omega (arith, ints, s.0, s.1) }
-    | inr s ↦ record { from_least = omega (arith, ints, s.0, s.1); to_greatest = omega (arith, ints, s.0, s.1) }
+      | inl s ↦ record { from_least = omega (arith, ints, s.0, s.1); to_greatest = omega (arith, ints, s.0, s.1) }
+      | inr s ↦ record { from_least = omega (arith, ints, s.0, s.1); to_greatest = omega (arith, ints, s.0, s.1) }
     ]
 among OnesComplement k x n l d h e =
     let half = halves k l in
     elim (ones_says k x n l h e) [
-    | inl s ↦ record { from_least = omega (arith, ints, s.0, s.1); to_greatest = omega (arith, ints, s.0, s.1) }
-    | inr s ↦ record { from_least = omega (arith, ints, s.0, s.1); to_greatest = omega (arith, ints, s.0, s.1) }
+      | inl s ↦ record { from_least = omega (arith, ints, s.0, s.1); to_greatest = omega (arith, ints, s.0, s.1) }
+      | inr s ↦ record { from_least = omega (arith, ints, s.0, s.1); to_greatest = omega (arith, ints, s.0, s.1) }
     ]
 among PackedBcd k x n l d h e =
     let whole : k ≡ 4 * (k / 4) = omega arith in
@@ -128,37 +128,37 @@ same_pattern Unsigned k x y n l d h g ne e f = ap (low_bits k) (ap nat_abs (unsi
 same_pattern TwosComplement k x y n l d h g ne e f =
     let half = halves k l in
     ap (low_bits k) (elim (twos_says k x n l h e) as (λ s. x ≡ y) [
-    | inl s ↦ elim (twos_says k y n l g f) as (λ t. x ≡ y) [
-      | inl t ↦ omega (arith, ints, s.0, s.1, t.0, t.1)
-      | inr t ↦ absurd (ne (omega (arith, ints, s.0, s.1, t.0, t.1)))
+      | inl s ↦ elim (twos_says k y n l g f) as (λ t. x ≡ y) [
+        | inl t ↦ omega (arith, ints, s.0, s.1, t.0, t.1)
+        | inr t ↦ absurd (ne (omega (arith, ints, s.0, s.1, t.0, t.1)))
       ]
-    | inr s ↦ elim (twos_says k y n l g f) as (λ t. x ≡ y) [
-      | inl t ↦ absurd (ne (omega (arith, ints, s.0, s.1, t.0, t.1)))
-      | inr t ↦ omega (arith, ints, s.0, s.1, t.0, t.1)
+      | inr s ↦ elim (twos_says k y n l g f) as (λ t. x ≡ y) [
+        | inl t ↦ absurd (ne (omega (arith, ints, s.0, s.1, t.0, t.1)))
+        | inr t ↦ omega (arith, ints, s.0, s.1, t.0, t.1)
       ]
     ])
 same_pattern SignMagnitude k x y n l d h g ne e f =
     let half = halves k l in
     ap (low_bits k) (elim (magnitude_says k x n l h e) as (λ s. x ≡ y) [
-    | inl s ↦ elim (magnitude_says k y n l g f) as (λ t. x ≡ y) [
-      | inl t ↦ omega (arith, ints, s.0, s.1, t.0, t.1)
-      | inr t ↦ absurd (ne (omega (arith, ints, s.0, s.1, t.0, t.1)))
+      | inl s ↦ elim (magnitude_says k y n l g f) as (λ t. x ≡ y) [
+        | inl t ↦ omega (arith, ints, s.0, s.1, t.0, t.1)
+        | inr t ↦ absurd (ne (omega (arith, ints, s.0, s.1, t.0, t.1)))
       ]
-    | inr s ↦ elim (magnitude_says k y n l g f) as (λ t. x ≡ y) [
-      | inl t ↦ absurd (ne (omega (arith, ints, s.0, s.1, t.0, t.1)))
-      | inr t ↦ omega (arith, ints, s.0, s.1, t.0, t.1)
+      | inr s ↦ elim (magnitude_says k y n l g f) as (λ t. x ≡ y) [
+        | inl t ↦ absurd (ne (omega (arith, ints, s.0, s.1, t.0, t.1)))
+        | inr t ↦ omega (arith, ints, s.0, s.1, t.0, t.1)
       ]
     ])
 same_pattern OnesComplement k x y n l d h g ne e f =
     let half = halves k l in
     ap (low_bits k) (elim (ones_says k x n l h e) as (λ s. x ≡ y) [
-    | inl s ↦ elim (ones_says k y n l g f) as (λ t. x ≡ y) [
-      | inl t ↦ omega (arith, ints, s.0, s.1, t.0, t.1)
-      | inr t ↦ absurd (ne (omega (arith, ints, s.0, s.1, t.0, t.1)))
+      | inl s ↦ elim (ones_says k y n l g f) as (λ t. x ≡ y) [
+        | inl t ↦ omega (arith, ints, s.0, s.1, t.0, t.1)
+        | inr t ↦ absurd (ne (omega (arith, ints, s.0, s.1, t.0, t.1)))
       ]
-    | inr s ↦ elim (ones_says k y n l g f) as (λ t. x ≡ y) [
-      | inl t ↦ absurd (ne (omega (arith, ints, s.0, s.1, t.0, t.1)))
-      | inr t ↦ omega (arith, ints, s.0, s.1, t.0, t.1)
+      | inr s ↦ elim (ones_says k y n l g f) as (λ t. x ≡ y) [
+        | inl t ↦ absurd (ne (omega (arith, ints, s.0, s.1, t.0, t.1)))
+        | inr t ↦ omega (arith, ints, s.0, s.1, t.0, t.1)
       ]
     ])
 same_pattern PackedBcd k x y n l d h g ne e f =
@@ -218,20 +218,24 @@ written OnesComplement k (negsuc u) l d a =
     (raw, record { small = small; number = ones_negative k raw (negsuc u) l (omega (arith, ints, pow_pos (k - 1), a.from_least)) small (omega (arith, ints, pow_pos (k - 1), a.from_least)); zero = λ z. absurd cc })
 written PackedBcd k n l d a =
     let whole : k ≡ 4 * (k / 4) = omega arith in
-    let raw = packed 4 (k / 4) (nat_abs n) in
-    (raw, record {
-      small = subst (λ j. raw < 2 ^ j) (sym whole) (packed-lt 4 (k / 4) (nat_abs n) (omega arith));
-      number = subst (λ j. number_by PackedBcd (low_bits j raw) ≡ Some n) (sym whole) (written_digits 4 (k / 4) n (omega arith) a.from_least a.to_greatest);
-      zero = λ z. ap (λ v. packed 4 (k / 4) (nat_abs v)) z ∙ packed_zero 4 (k / 4);
-    })
+    let raw = packed 4 (k / 4) (nat_abs n) in (
+      raw,
+      record {
+        small = subst (λ j. raw < 2 ^ j) (sym whole) (packed-lt 4 (k / 4) (nat_abs n) (omega arith));
+        number = subst (λ j. number_by PackedBcd (low_bits j raw) ≡ Some n) (sym whole) (written_digits 4 (k / 4) n (omega arith) a.from_least a.to_greatest);
+        zero = λ z. ap (λ v. packed 4 (k / 4) (nat_abs v)) z ∙ packed_zero 4 (k / 4);
+      },
+    )
 written Bcd k n l d a =
     let whole : k ≡ 8 * (k / 8) = omega arith in
-    let raw = packed 8 (k / 8) (nat_abs n) in
-    (raw, record {
-      small = subst (λ j. raw < 2 ^ j) (sym whole) (packed-lt 8 (k / 8) (nat_abs n) (omega arith));
-      number = subst (λ j. number_by Bcd (low_bits j raw) ≡ Some n) (sym whole) (written_digits 8 (k / 8) n (omega arith) a.from_least a.to_greatest);
-      zero = λ z. ap (λ v. packed 8 (k / 8) (nat_abs v)) z ∙ packed_zero 8 (k / 8);
-    })
+    let raw = packed 8 (k / 8) (nat_abs n) in (
+      raw,
+      record {
+        small = subst (λ j. raw < 2 ^ j) (sym whole) (packed-lt 8 (k / 8) (nat_abs n) (omega arith));
+        number = subst (λ j. number_by Bcd (low_bits j raw) ≡ Some n) (sym whole) (written_digits 8 (k / 8) n (omega arith) a.from_least a.to_greatest);
+        zero = λ z. ap (λ v. packed 8 (k / 8) (nat_abs v)) z ∙ packed_zero 8 (k / 8);
+      },
+    )
 
 -- ---- patterns of no number
 

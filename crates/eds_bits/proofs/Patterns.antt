@@ -1,10 +1,10 @@
 -- What the low bits of a number stand for in the binary encodings.
-use Rattle.std.proofs.Common.{◌≡◌, ℕ, zero, suc, ◌+◌, ◌-◌, ◌*◌, ◌/◌, ◌%◌, ◌^◌, ◌<◌, ◌≤◌, ℤ, pos, ◌-ℤ◌, neg_ℤ, Bool, true, false, cond, Some, refl, sym, ap, ◌∙◌, arith, drop, ◌==◌, length}
+use Rattle.std.proofs.Common.{◌≡◌, ℕ, zero, suc, ◌+◌, ◌-◌, ◌*◌, ◌/◌, ◌%◌, ◌^◌, ◌<◌, ◌≤◌, ℤ, pos, ◌-ℤ◌, true, false, Some, refl, ap, ◌∙◌, arith, drop, ◌==◌, length}
 use Rattle.std.proofs.lemmas.Int.{ints}
 use Rattle.std.proofs.Math.Numerals.{sub-one}
 use Rattle.std.proofs.Math.Nat.{pow-suc, div-eq_of_lt}
 use Rattle.std.proofs.lemmas.Nat.{div-mul-add, mod-mul-add}
-use Rattle.eds_bits.specs.Bits.{Bits, low_bits, unsigned_of}
+use Rattle.eds_bits.specs.Bits.{low_bits, unsigned_of}
 use Rattle.eds_bits.specs.Encodings.{first_bit, less_where_first, signed_magnitude, number_by}
 use Rattle.eds_bits.specs.declared.forms.Encoding.TheVariants.{Unsigned, TwosComplement, SignMagnitude, OnesComplement}
 use Rattle.eds_bits.proofs.BitLaws.{length-low, unsigned-low, unsigned_small}

@@ -1,8 +1,7 @@
-use Rattle.std.proofs.Common.{◌≡◌, ℕ, ◌+◌, ◌-◌, ◌*◌, ◌/◌, ◌%◌, ◌^◌, ◌<◌, refl, sym, ◌∙◌, ap, subst, arith, Some, to_z, of_z}
+use Rattle.std.proofs.Common.{◌≡◌, refl, arith, to_z, of_z}
 use Rattle.std.proofs.lemmas.Int.{ints, to_z-of_z}
 use mir.Syntax.{w128}
 use Rattle.eds_bits.specs.Bits.{low_bits}
-use Rattle.eds_bits.specs.Encodings.{digit_bits, number_by}
 use Rattle.eds_bits.specs.Style.{canonical}
 use Rattle.eds_bits.specs.IntForms.{HasNumber, IsNumber}
 use Rattle.eds_bits.specs.declared.forms.Encoding.TheVariants.{Unsigned, TwosComplement, SignMagnitude, OnesComplement, PackedBcd, Bcd}

@@ -1,4 +1,4 @@
-use Rattle.std.proofs.Common.{◌≡◌, ℕ, ◌+◌, ◌-◌, ◌*◌, ◌/◌, ◌%◌, ◌^◌, ◌<◌, sym, ◌∙◌, ap, subst, arith}
+use Rattle.std.proofs.Common.{◌≡◌, ◌+◌, ◌-◌, ◌%◌, sym, ◌∙◌, ap, arith}
 use Rattle.std.proofs.lemmas.Nat.{shr_below}
 use Rattle.eds_bits.specs.Bits.{low_bits}
 use Rattle.eds_bits.specs.Encodings.{order_bits, ordered}

@@ -1,4 +1,4 @@
-use Rattle.std.proofs.Common.{◌≡◌, ℕ, ◌*◌, ◌%◌, ◌^◌, ◌≤◌, ◌<◌, sym, ◌∙◌, ap, subst, arith, Some}
+use Rattle.std.proofs.Common.{◌≡◌, ℕ, ◌*◌, ◌%◌, ◌^◌, ◌≤◌, sym, ◌∙◌, ap, arith, Some}
 use Rattle.std.proofs.lemmas.Int.{ints}
 use Rattle.std.proofs.lemmas.Nat.{one_shl}
 use Rattle.eds_bits.proofs.Decimals.{FitsNext, read_more, read_fits, read_bad, read_all}
@@ -30,7 +30,7 @@ overflow_mul-worth c = omega (arith, (fits c).next)
 pub loop-preserved : goal.loop-preserved
 loop-preserved c =
     rw (patterns c.args.digit_bits c.requires.narrow)
-        (read_more c.args.digit_bits c.args.raw c.loop.counter c.loop.n c.loop.worth c.loop.left c.loop.invariant (digit c))
+    (read_more c.args.digit_bits c.args.raw c.loop.counter c.loop.n c.loop.worth c.loop.left c.loop.invariant (digit c))
 
 pub returns : goal.returns
 returns c =

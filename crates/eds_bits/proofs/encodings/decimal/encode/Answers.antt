@@ -1,4 +1,4 @@
-use Rattle.std.proofs.Common.{◌≡◌, ℕ, ◌+◌, ◌*◌, ◌^◌, ◌≤◌, ◌<◌, sym, ◌∙◌, ap, subst, arith, Some, pos, nat_abs}
+use Rattle.std.proofs.Common.{◌≡◌, ◌+◌, ◌*◌, ◌≤◌, ◌∙◌, ap, arith, Some, nat_abs}
 use Rattle.std.proofs.lemmas.Int.{ints, to_z-of_z}
 use Rattle.std.proofs.Math.Nat.{mul-le-mul_left}
 use Rattle.eds_bits.proofs.Decimals.{few_digits, tens, ten_pos, packed, wrote_more, packed-lt, packed_number, packed_zero}

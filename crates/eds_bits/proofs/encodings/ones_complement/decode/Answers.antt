@@ -1,4 +1,4 @@
-use Rattle.std.proofs.Common.{ℕ, ◌-◌, ◌^◌, ◌≤◌, sym, arith}
+use Rattle.std.proofs.Common.{◌-◌, ◌^◌, ◌≤◌, sym, arith}
 use Rattle.std.proofs.Math.Nat.{pow-le-pow_right}
 use Rattle.std.proofs.lemmas.Int.{ints}
 use Rattle.std.proofs.lemmas.Nat.{one_shl}
@@ -14,4 +14,4 @@ returns-else-raw-bits c =
     let most : 2 ^ c.args.bits ≤ 2 ^ 64 = pow-le-pow_right (omega arith) c.requires.few in
     let half = halves c.args.bits c.requires.some in
     sym (ones_negative c.args.bits c.args.raw _ c.requires.some (omega (arith, one_shl (c.args.bits - 1) 64 (omega arith))) c.requires.small
-        (omega (arith, ints, one_shl c.args.bits 128 (omega arith), one_shl (c.args.bits - 1) 128 (omega arith))))
+    (omega (arith, ints, one_shl c.args.bits 128 (omega arith), one_shl (c.args.bits - 1) 128 (omega arith))))
