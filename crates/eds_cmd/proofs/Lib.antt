@@ -1,0 +1,5 @@
+pub mod ItemsLemmas
+pub mod Fronts
+pub mod SizesLemmas
+pub mod NamesLemmas
+pub mod ReportsLemmas

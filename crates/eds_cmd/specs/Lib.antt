@@ -1,0 +1,4 @@
+pub mod Flat
+pub mod Sizes
+pub mod Status
+pub mod Reports
