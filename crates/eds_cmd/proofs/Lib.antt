@@ -3,3 +3,4 @@ pub mod Fronts
 pub mod SizesLemmas
 pub mod NamesLemmas
 pub mod ReportsLemmas
+pub mod ShownLemmas

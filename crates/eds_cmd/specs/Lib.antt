@@ -2,3 +2,9 @@ pub mod Flat
 pub mod Sizes
 pub mod Status
 pub mod Reports
+pub mod Values
+pub mod Reading
+pub mod Shown
+pub mod Hex
+pub mod Command
+pub mod Stops
