@@ -8,3 +8,5 @@ pub mod Shown
 pub mod Hex
 pub mod Command
 pub mod Stops
+pub mod Target
+pub mod Unpack

@@ -11,6 +11,8 @@ mod sheet;
 mod shown;
 mod status;
 mod stop;
+mod target;
+mod unpack;
 mod value;
 mod words;
 
