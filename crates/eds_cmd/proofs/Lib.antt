@@ -4,3 +4,4 @@ pub mod SizesLemmas
 pub mod NamesLemmas
 pub mod ReportsLemmas
 pub mod ShownLemmas
+pub mod SpellingLemmas

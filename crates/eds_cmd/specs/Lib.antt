@@ -10,3 +10,4 @@ pub mod Command
 pub mod Stops
 pub mod Target
 pub mod Unpack
+pub mod Laws

@@ -4,6 +4,7 @@
 mod command;
 mod flat;
 mod hex_text;
+mod law;
 mod limits;
 mod names;
 mod report;
@@ -16,5 +17,6 @@ mod unpack;
 mod value;
 mod words;
 
+pub use law::reading_is_exact;
 pub use status::{DataFault, Status, What};
 pub use words::Words;
