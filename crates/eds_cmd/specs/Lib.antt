@@ -11,3 +11,5 @@ pub mod Stops
 pub mod Target
 pub mod Unpack
 pub mod Laws
+pub mod Answer
+pub mod Halts

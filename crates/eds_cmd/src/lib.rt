@@ -3,10 +3,12 @@
 
 mod command;
 mod flat;
+mod halt;
 mod hex_text;
 mod law;
 mod limits;
 mod names;
+mod perform;
 mod report;
 mod sheet;
 mod shown;
