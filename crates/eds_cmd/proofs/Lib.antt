@@ -5,3 +5,4 @@ pub mod NamesLemmas
 pub mod ReportsLemmas
 pub mod ShownLemmas
 pub mod SpellingLemmas
+pub mod AnswerLemmas

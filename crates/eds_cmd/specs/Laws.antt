@@ -4,6 +4,9 @@ use Rattle.eds_base.specs.declared.fault.Step.{Step}
 use Rattle.eds_bits.specs.Bits.{Bits}
 use Rattle.eds_cmd.specs.declared.sheet.Row.{Row}
 use Rattle.eds_cmd.specs.declared.value.FlatValue.{FlatValue}
+use Rattle.eds_io.specs.Files.{Files}
+use Rattle.eds_cmd.specs.declared.status.Status.{Status}
+use Rattle.eds_cmd.specs.Answer.{Answer, answer_of}
 use Rattle.eds_cmd.specs.Reading.{read_value}
 use Rattle.eds_cmd.specs.Values.{Begins, IsShort}
 
@@ -22,3 +25,13 @@ ShortIsFound = (id : ℕ) (row : Row) (bits : Bits) (path : List Step) → IsSho
 -- where reading fails, the bits are too few for that part
 abbrev pub FoundIsShort : Type 0
 FoundIsShort = (id : ℕ) (row : Row) (bits : Bits) (path : List Step) → read_value id row bits ≡ Err path → IsShort id row bits path
+
+-- ---- the answer
+
+-- what the words come to over files is what the code computes
+abbrev pub AnswersAreComputed : Type 0
+AnswersAreComputed = (words : List (List ℕ)) (files : Files) (status : Status) (report : List ℕ) → Answer words files status report
+    → (status ≡ (answer_of words files).0) × (report ≡ (answer_of words files).1)
+
+abbrev pub ComputedAreAnswers : Type 0
+ComputedAreAnswers = (words : List (List ℕ)) (files : Files) → Answer words files (answer_of words files).0 (answer_of words files).1

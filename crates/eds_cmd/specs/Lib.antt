@@ -13,3 +13,4 @@ pub mod Unpack
 pub mod Laws
 pub mod Answer
 pub mod Halts
+pub mod Outcome

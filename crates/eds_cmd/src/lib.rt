@@ -15,10 +15,11 @@ mod shown;
 mod status;
 mod stop;
 mod target;
+mod top;
 mod unpack;
 mod value;
 mod words;
 
-pub use law::reading_is_exact;
+pub use law::{answer_is_one, reading_is_exact};
 pub use status::{DataFault, Status, What};
 pub use words::Words;
