@@ -1,5 +1,5 @@
 -- The answer of a command and what the code computes are one.
-use Rattle.std.proofs.Common.{◌≡◌, ℕ, ◌+◌, ◌-◌, ◌<◌, ◌≤◌, List, [], ◌++◌, length, Bool, true, false, nat_le, if◌then◌else◌, ◌⊎◌, inl, inr, Option, Some, None, Result, Ok, Err, refl, sym, ◌∙◌, ap, arith, length-append}
+use Rattle.std.proofs.Common.{◌≡◌, ℕ, ◌+◌, ◌-◌, ◌<◌, ◌≤◌, List, [], ◌++◌, length, subst, Bool, true, false, nat_le, if◌then◌else◌, ◌⊎◌, inl, inr, Option, Some, None, Result, Ok, Err, refl, sym, ◌∙◌, ap, arith, length-append}
 use Rattle.std.proofs.lemmas.Bool.{le-leb, lt-leb, leb-true, leb-false}
 use Rattle.eds_base.specs.Answering.{◌>>=◌}
 use Rattle.eds_base.specs.declared.fault.Step.{Step}
@@ -111,9 +111,19 @@ from_one : (verb : Verb) (job : Result (TypeIn × List ℕ) Stop) (status : Stat
 from_one verb (Ok job) status report w = work_one verb job.0 job.1 status report w
 from_one verb (Err stop) status report s = stopped stop status report s
 
+pub command_one : (files : Files) (c : CommandWords) (status : Status) (report : List ℕ) → AnswersCommand (Some c) files status report → IsResult (performed files c) status report
+command_one files c status report a = from_one c.verb (prepared files c) status report a
+
 answered_one : (c : Option CommandWords) (files : Files) (status : Status) (report : List ℕ) → AnswersCommand c files status report → (status ≡ (answered c files).0) × (report ≡ (answered c files).1)
 answered_one None files status report a = a
-answered_one (Some c) files status report a = from_one c.verb (prepared files c) status report a
+answered_one (Some c) files status report a = command_one files c status report a
 
 pub answer_one : (words : List (List ℕ)) (files : Files) (status : Status) (report : List ℕ) → Answer words files status report → (status ≡ (answer_of words files).0) × (report ≡ (answer_of words files).1)
 answer_one words files status report a = answered_one (command_of words) files status report a
+
+-- ---- by what the code computes
+
+pub answer_computed : (files : Files) (c : CommandWords) (r : Result (List ℕ) Stop) → performed files c ≡ r → AnswersCommand (Some c) files (status_from r) (report_from r)
+answer_computed files c r is =
+    let P : Result (List ℕ) Stop → Type 0 = λ x. AnswersCommand (Some c) files (status_from x) (report_from x) in
+    subst P is (computed_command files c)

@@ -6,3 +6,4 @@ pub mod ReportsLemmas
 pub mod ShownLemmas
 pub mod SpellingLemmas
 pub mod AnswerLemmas
+pub mod ValidLemmas

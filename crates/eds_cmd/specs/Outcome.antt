@@ -31,6 +31,17 @@ has_report Memory = false
 has_report (Limit what most) = true
 has_report (NoFile name) = true
 
+abbrev pub is_usage : Status → Bool
+is_usage Done = false
+is_usage (Sheet refusal) = false
+is_usage Usage = true
+is_usage (Data fault) = false
+is_usage (ReadFault name) = false
+is_usage WriteFault = false
+is_usage Memory = false
+is_usage (Limit what most) = false
+is_usage (NoFile name) = false
+
 -- a read of a file of the command failed: no case of the answer stands before that file, and the report is its line
 pub record IsUnread (Rises : List ℕ → Type 0) (files : Files) (c : CommandWords) (status : Status) (report : List ℕ) : Type 0 where
   pub name : List ℕ

@@ -22,4 +22,5 @@ mod words;
 
 pub use law::{answer_is_one, reading_is_exact};
 pub use status::{DataFault, Status, What};
+pub use top::eds;
 pub use words::Words;
