@@ -34,17 +34,21 @@ computed_read type bits value rest is =
     let spelled = value_spelled type.id type.row value rest bits is in
     by_test spelled.0 (nat_le 8 (length rest)) refl spelled.1
   where
-  text : List ℕ
-  text = value_text type.word type.row value
-  by_test : (front : Bits) (t : Bool) → nat_le 8 (length rest) ≡ t → Begins type.row value front rest bits
-      → let r : Result (List ℕ) Stop = if t then Err (frame_fault type.sheet Trailing []) else Ok (bits_report text (length bits - length rest)) in UnpacksBits type bits (status_from r) (report_from r)
-  by_test front true many b = inr (inl (record { value = value; front = front; rest = rest; begins = b; many = leb-true 8 (length rest) many; stop = record { status_is = refl; report_is = refl } }))
-  by_test front false few b = inl (record {
-    value = value; front = front; rest = rest; begins = b;
-    few = omega (arith, leb-false 8 (length rest) few);
-    status_is = refl;
-    report_is = ap (λ (n : ℕ). bits_report text n) (front_size front rest bits b.split);
-  })
+    text : List ℕ
+    text = value_text type.word type.row value
+
+    by_test : (front : Bits) (t : Bool) → nat_le 8 (length rest) ≡ t → Begins type.row value front rest bits
+        → let r : Result (List ℕ) Stop = if t then Err (frame_fault type.sheet Trailing []) else Ok (bits_report text (length bits - length rest)) in UnpacksBits type bits (status_from r) (report_from r)
+    by_test front true many b = inr (inl (record { value = value; front = front; rest = rest; begins = b; many = leb-true 8 (length rest) many; stop = record { status_is = refl; report_is = refl } }))
+    by_test front false few b = inl (record {
+      value = value;
+      front = front;
+      rest = rest;
+      begins = b;
+      few = omega (arith, leb-false 8 (length rest) few);
+      status_is = refl;
+      report_is = ap (λ (n : ℕ). bits_report text n) (front_size front rest bits b.split);
+    })
 
 computed_by : (type : TypeIn) (bits : Bits) (read : Result (FlatValue × Bits) (List Step)) → read_value type.id type.row bits ≡ read
     → let r = or_short type read >>= (λ read. closed type (value_text type.word type.row read.0) (length bits) (length read.1)) in UnpacksBits type bits (status_from r) (report_from r)

@@ -20,9 +20,9 @@ pub is_seen-put : (name : List ℕ) (m n : BTreeMap (Bor (List ℕ)) (Unit {0}))
     → (q : List ℕ) → is_seen n q ≡ (same name q || is_seen m q)
 is_seen-put name m n updates q = ap is_some (btree_map_updates_str name m n (Some tt) updates q) ∙ chosen (same name q) _
   where
-  chosen : (t : Bool) (o : Option (Unit {0})) → is_some (cond t (Some tt) o) ≡ (t || is_some o)
-  chosen true o = refl
-  chosen false o = refl
+    chosen : (t : Bool) (o : Option (Unit {0})) → is_some (cond t (Some tt) o) ≡ (t || is_some o)
+    chosen true o = refl
+    chosen false o = refl
 
 -- the tests of one name and of those behind it, in another order
 regrouped : (seen others among differ : Bool) → ((not seen && others) && (not among && differ)) ≡ (not seen && ((others && not among) && differ))
@@ -37,12 +37,12 @@ none_seen : (name : List ℕ) (m n : BTreeMap (Bor (List ℕ)) (Unit {0})) (name
 none_seen name m n [] put = refl
 none_seen name m n (q ∷ names) put = rw (put q, none_seen name m n names put) (joined (same name q) (is_seen m q) (list_all (λ q. not (is_seen m q)) names) (list_any (same name) names))
   where
-  joined : (a b c d : Bool) → (not (a || b) && (c && not d)) ≡ ((not b && c) && not (a || d))
-  joined true true c d = refl
-  joined true false true d = refl
-  joined true false false d = refl
-  joined false true c d = refl
-  joined false false c d = refl
+    joined : (a b c d : Bool) → (not (a || b) && (c && not d)) ≡ ((not b && c) && not (a || d))
+    joined true true c d = refl
+    joined true false true d = refl
+    joined true false false d = refl
+    joined false true c d = refl
+    joined false false c d = refl
 
 -- one more name that is not seen yet
 pub fresh-more : (name : List ℕ) (m n : BTreeMap (Bor (List ℕ)) (Unit {0})) (names : List (List ℕ)) → is_seen m name ≡ false → ((q : List ℕ) → is_seen n q ≡ (same name q || is_seen m q))
@@ -58,6 +58,6 @@ fresh-seen name m names seen = rw seen refl
 pub fresh-empty : (m : BTreeMap (Bor (List ℕ)) (Unit {0})) (names : List (List ℕ)) → m.entries ≡ [] → fresh m names ≡ all_differ names
 fresh-empty m names empty = rw (none names) refl
   where
-  none : (xs : List (List ℕ)) → list_all (λ q. not (is_seen m q)) xs ≡ true
-  none [] = refl
-  none (x ∷ xs) = rw (empty, none xs) refl
+    none : (xs : List (List ℕ)) → list_all (λ q. not (is_seen m q)) xs ≡ true
+    none [] = refl
+    none (x ∷ xs) = rw (empty, none xs) refl

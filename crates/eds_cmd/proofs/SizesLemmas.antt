@@ -46,9 +46,9 @@ pub sizes-more : (vs front : List Value) (v : Value) (name : List ℕ) (size : �
 sizes-more vs front v name size m n is some at reads updates sizes q =
     rw (last_of_front vs front v is some at, reads, sizes-put name size m n updates q) (chosen (same name q) (sizes q))
   where
-  chosen : {a b : Option ℕ} (t : Bool) → a ≡ b → cond t (Some size) a ≡ (if t then Some size else b)
-  chosen true e = refl
-  chosen false e = e
+    chosen : {a b : Option ℕ} (t : Bool) → a ≡ b → cond t (Some size) a ≡ (if t then Some size else b)
+    chosen true e = refl
+    chosen false e = e
 
 -- the last item is no integer type
 pub sizes-same : (vs front : List Value) (v : Value) (q : List ℕ)

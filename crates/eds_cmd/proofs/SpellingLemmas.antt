@@ -120,32 +120,38 @@ ShortFrom sizes at k bits = (i : ℕ) × (k ≡ at + i) × IsShortAt sizes bits 
 
 short_here : (size : ℕ) (sizes : List ℕ) (at k : ℕ) (bits : Bits) → nat_lt (length bits) size ≡ true → short at ≡ short k → ShortFrom (size ∷ sizes) at k bits
 short_here size sizes at k bits few e =
-    let same : at ≡ k = cc e in
-    (0, omega arith, record {
-      numbers = [];
-      front = [];
-      rest = bits;
-      split = refl;
-      before = record { pieces = []; joined = refl; sizes_are = refl; numbers_are = refl };
-      few = ltb-true (length bits) size few;
-    })
+    let same : at ≡ k = cc e in (
+      0,
+      omega arith,
+      record {
+        numbers = [];
+        front = [];
+        rest = bits;
+        split = refl;
+        before = record { pieces = []; joined = refl; sizes_are = refl; numbers_are = refl };
+        few = ltb-true (length bits) size few;
+      },
+    )
 
 short_behind : (size : ℕ) (sizes : List ℕ) (at k : ℕ) (bits : Bits) → nat_lt (length bits) size ≡ false → ShortFrom sizes (at + 1) k (drop size bits) → ShortFrom (size ∷ sizes) at k bits
 short_behind size sizes at k bits fits (i, is, later) =
-    let size_fits : size ≤ length bits = ltb-false (length bits) size fits in
-    (suc i, omega arith, record {
-      numbers = unsigned_of (take size bits) ∷ later.numbers;
-      front = take size bits ++ later.front;
-      rest = later.rest;
-      split = sym (take-append-drop size bits) ∙ ap (λ (l : Bits). take size bits ++ l) later.split ∙ sym (append_assoc (take size bits) later.front later.rest);
-      before = record {
-        pieces = take size bits ∷ later.before.pieces;
-        joined = ap (λ (l : Bits). take size bits ++ l) later.before.joined;
-        sizes_are = rw (length-take-le size bits size_fits, later.before.sizes_are) refl;
-        numbers_are = ap (λ (l : List ℕ). unsigned_of (take size bits) ∷ l) later.before.numbers_are;
-      };
-      few = later.few;
-    })
+    let size_fits : size ≤ length bits = ltb-false (length bits) size fits in (
+      suc i,
+      omega arith,
+      record {
+        numbers = unsigned_of (take size bits) ∷ later.numbers;
+        front = take size bits ++ later.front;
+        rest = later.rest;
+        split = sym (take-append-drop size bits) ∙ ap (λ (l : Bits). take size bits ++ l) later.split ∙ sym (append_assoc (take size bits) later.front later.rest);
+        before = record {
+          pieces = take size bits ∷ later.before.pieces;
+          joined = ap (λ (l : Bits). take size bits ++ l) later.before.joined;
+          sizes_are = rw (length-take-le size bits size_fits, later.before.sizes_are) refl;
+          numbers_are = ap (λ (l : List ℕ). unsigned_of (take size bits) ∷ l) later.before.numbers_are;
+        };
+        few = later.few;
+      },
+    )
 
 pub each_short : (sizes : List ℕ) (at k : ℕ) (bits : Bits) → read_each sizes at bits ≡ short k → ShortFrom sizes at k bits
 each_short [] at k bits h = absurd (cc h)
@@ -154,8 +160,8 @@ each_short (size ∷ sizes) at k bits h =
     let later : Result (List ℕ × Bits) ℕ = read_each sizes (at + 1) (drop size bits) in
     let Case : Bool → Type 0 = λ t. nat_lt (length bits) size ≡ t → (if t then short at else put_before (n ∷ []) later) ≡ short k → ShortFrom (size ∷ sizes) at k bits in
     (elim (nat_lt (length bits) size) as Case [
-      true ↦ λ few e. short_here size sizes at k bits few e
-    | false ↦ λ fits e. short_behind size sizes at k bits fits (each_short sizes (at + 1) k (drop size bits) (behind_err n k later e))
+      | true ↦ λ few e. short_here size sizes at k bits few e
+      | false ↦ λ fits e. short_behind size sizes at k bits fits (each_short sizes (at + 1) k (drop size bits) (behind_err n k later e))
     ]) refl h
 
 -- ---- values
@@ -181,11 +187,13 @@ number_spelled own value rest bits false fits h =
     let parts = found_same (Number (unsigned_of (take own.size bits))) value (drop own.size bits) rest h in
     let behind = parts.1 in
     let size_fits : own.size ≤ length bits = ltb-false (length bits) own.size fits in
-    let P : FlatValue → Type 0 = λ v. Spells (Int own) v (take own.size bits) in
-    (take own.size bits, record {
-      split = rw (← behind) (sym (take-append-drop own.size bits));
-      spelled = subst P parts.0 (record { size_is = length-take-le own.size bits size_fits; number_is = refl });
-    })
+    let P : FlatValue → Type 0 = λ v. Spells (Int own) v (take own.size bits) in (
+      take own.size bits,
+      record {
+        split = rw (← behind) (sym (take-append-drop own.size bits));
+        spelled = subst P parts.0 (record { size_is = length-take-le own.size bits size_fits; number_is = refl });
+      },
+    )
 
 fields_spelled : (id : ℕ) (name : List ℕ) (entries : List Unsigned) (value : FlatValue) (rest bits : Bits) (read : Result (List ℕ × Bits) ℕ)
     → read_each (entry_sizes entries) 0 bits ≡ read → fields_from id read ≡ found value rest → (front : Bits) × Begins (Con name entries) value front rest bits

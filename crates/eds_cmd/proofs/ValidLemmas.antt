@@ -30,9 +30,10 @@ valid_frame type text v = rw (v.hex, le-leb (length v.frame) FRAME_OCTETS v.with
 valid_bits : (type : TypeIn) (text : List ℕ) (v : IsValidFrame type text) → (report : List ℕ) × (unpacked_bits type (bits_of v.frame) ≡ done report)
 unfolding unpacked_bits
 valid_bits type text v =
-    let few : nat_le 8 (length v.rest) ≡ false = lt-leb 8 (length v.rest) (omega (arith, v.few)) in
-    (bits_report (value_text type.word type.row v.value) (length (bits_of v.frame) - length v.rest),
-    rw (value_read type.id type.row v.value v.front v.rest (bits_of v.frame) v.begins, few) refl)
+    let few : nat_le 8 (length v.rest) ≡ false = lt-leb 8 (length v.rest) (omega (arith, v.few)) in (
+      bits_report (value_text type.word type.row v.value) (length (bits_of v.frame) - length v.rest),
+      rw (value_read type.id type.row v.value v.front v.rest (bits_of v.frame) v.begins, few) refl,
+    )
 
 valid_work : (verb : Verb) (type : TypeIn) (input : List ℕ) → IsValidInput verb type input → (report : List ℕ) × (worked verb type input ≡ done report)
 valid_work Unpack type input v =

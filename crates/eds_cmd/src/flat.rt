@@ -268,11 +268,7 @@ fn row_of(alloc: Global, sizes: &Sizes<'_>, value: &Value) -> Result<Row, Fail<N
     }
 }
 
-fn rows_of(
-    alloc: Global,
-    sizes: &Sizes<'_>,
-    values: &[Value],
-) -> Result<Items<Row>, Fail<NotFlat>>
+fn rows_of(alloc: Global, sizes: &Sizes<'_>, values: &[Value]) -> Result<Items<Row>, Fail<NotFlat>>
     ensures { Gives (λ rs. rs) result (rows_from (size_at sizes.now) (items_view values.now)) }
 {
     let mut rows = Items::new(alloc);

@@ -10,12 +10,10 @@ pub fn reading_is_exact()
     ensures read { ReadingsAreSpelled }
     ensures short { ShortIsFound }
     ensures found { FoundIsShort }
-{
-}
+{}
 
 /// Words have exactly one answer over files, a status and a report.
 pub fn answer_is_one()
     ensures one { AnswersAreComputed }
     ensures some { ComputedAreAnswers }
-{
-}
+{}

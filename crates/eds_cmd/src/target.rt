@@ -61,7 +61,12 @@ fn find_type<'a>(
         let name = qualified(alloc, sheet.name.as_str(), row_name(row))?;
         if name.as_str() == word {
             let id = TypeId(i as u32);
-            return Ok(Some(Target { sheet, id, row, word }));
+            return Ok(Some(Target {
+                sheet,
+                id,
+                row,
+                word,
+            }));
         }
     }
     Ok(None)
