@@ -55,5 +55,4 @@ pub fn check_vectors()
 /// A check is a number of its bits: 16 for the longer cyclic redundancy check, and 8 for the others.
 pub fn sizes_of_checks(kind: CheckKind)
     ensures { (bits : Bits) → check_of kind bits < 2 ^ check_bits kind }
-{
-}
+{}
