@@ -1,0 +1,9 @@
+pub mod Plain
+pub mod Rows
+pub mod Fields
+pub mod Spelling
+pub mod Failing
+pub mod Packing
+pub mod Overlap
+pub mod Reading
+pub mod Tables
