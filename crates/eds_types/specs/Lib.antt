@@ -4,6 +4,8 @@ pub mod Fields
 pub mod Spelling
 pub mod Failing
 pub mod Packing
+pub mod LeastSize
 pub mod Overlap
 pub mod Reading
+pub mod Rules
 pub mod Tables

@@ -25,7 +25,7 @@ use Rattle.eds_types.specs.declared.row.Part.{Part}
 use Rattle.eds_types.specs.declared.row.Part.TheVariants as part
 use Rattle.eds_types.specs.declared.row.Constraint.{Constraint as Condition}
 use Rattle.eds_types.specs.Plain.{Plain, num, label, truth, text, bits, items, fields, Plains, none, more, plains_of, plain}
-use Rattle.eds_types.specs.Rows.{Table, id_of, chain, is_concrete, entries_of, constraints_of, Placed, placed_entries, placed_trailers}
+use Rattle.eds_types.specs.Rows.{Table, id_of, chain, list_has, is_concrete, entries_of, constraints_of, Placed, placed_entries, placed_trailers}
 use Rattle.eds_types.specs.Fields.{Field, values_of, number_on, listed, constraints_along}
 use Rattle.eds_types.specs.Spelling.{State, started, passed, took, told, count_at}
 use Rattle.eds_types.specs.Failing.{Where, behind, here, path_steps, length_step, course, whole}
@@ -107,10 +107,6 @@ is_coded false s = is_utf8 s
 
 abbrev pub coded : Bool → List ℕ → Result Plain Where
 coded ascii s = cond (is_coded ascii s) (Ok (text s)) (Err (here BadText))
-
-abbrev pub list_has : List ℕ → ℕ → Bool
-list_has [] x = false
-list_has (y ∷ ys) x = cond (y == x) true (list_has ys x)
 
 -- the text of the octets before the termination octet, which is there
 abbrev pub stopped : TextForm → Bits → Read Plain

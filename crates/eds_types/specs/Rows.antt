@@ -1,5 +1,5 @@
 -- What the rows of a table say: bases and parts, chains and sequences.
-use Rattle.std.specs.Prelude.{ℕ, zero, suc, ◌+◌, List, [], ◌∷◌, ◌++◌, length, reverse, map, Bool, false, not, Option, Some, None, slice_get}
+use Rattle.std.specs.Prelude.{ℕ, zero, suc, ◌+◌, List, [], ◌∷◌, ◌++◌, length, reverse, filter, Bool, true, false, not, cond, ◌==◌, Option, Some, None, slice_get}
 use Rattle.std.specs.List.{flat_map}
 use Rattle.eds_base.specs.declared.ids.TypeId.{TypeId}
 use Rattle.eds_types.specs.declared.row.TypeRow.{TypeRow}
@@ -92,6 +92,19 @@ chain_within (suc n) t id = chain_before (chain_within n t) (base_of t id) ++ id
 abbrev pub chain : Table → ℕ → List ℕ
 chain t id = chain_within 16 t id
 
+abbrev pub list_has : List ℕ → ℕ → Bool
+list_has [] x = false
+list_has (y ∷ ys) x = cond (y == x) true (list_has ys x)
+
+-- the numbers of the rows, where the first has the number i
+abbrev pub numbers_from : ℕ → Table → List ℕ
+numbers_from i [] = []
+numbers_from i (row ∷ rows) = i ∷ numbers_from (i + 1) rows
+
+-- the type and those that derive from it, in the order of their numbers
+abbrev pub derived : Table → ℕ → List ℕ
+derived t x = filter (λ k. list_has (chain t k) x) (numbers_from 0 t)
+
 -- ---- sequences
 
 -- a part, the container that has it, and its place among that container's entries and then its trailers
@@ -110,6 +123,10 @@ module _ (t : Table) where
 
   abbrev pub placed_trailers : ℕ → List Placed
   placed_trailers y = placed_from y (length (entries_of t y)) (trailers_of t y)
+
+  -- a container's own parts
+  abbrev pub own_parts : ℕ → List Placed
+  own_parts y = placed_entries y ++ placed_trailers y
 
   -- the parts of a container in the order of their bits: the entries of its chain from the root down, then the
   -- trailers from the container up to the root
