@@ -8,7 +8,8 @@ use Rattle.eds_types.specs.declared.row.Kind.TheVariants as kind
 use Rattle.eds_types.specs.declared.row.Part.{Part}
 use Rattle.eds_types.specs.declared.row.Part.TheVariants as part
 use Rattle.eds_types.specs.Rows.{Table, is_concrete, derived, Placed, sequence}
-use Rattle.eds_types.specs.Fields.{row_at, type_on}
+use Rattle.eds_types.specs.Fields.{row_at, type_by, part_at}
+use Rattle.eds_types.specs.Domains.{int_domain_in}
 
 -- more bits than a packed value may have: the size where there is no value, or only larger ones
 abbrev pub no_size : ℕ
@@ -22,27 +23,15 @@ abbrev pub least_of : List ℕ → ℕ
 least_of [] = no_size
 least_of (n ∷ ns) = min n (least_of ns)
 
-abbrev pub spans_by : Kind → List Span
-spans_by (kind.Int form spans) = spans
-spans_by (kind.Enum form listing) = []
-spans_by (kind.Bool form) = []
-spans_by (kind.Str form) = []
-spans_by (kind.Bin n) = []
-spans_by (kind.Arr item n) = []
-spans_by (kind.Con c) = []
+-- the least number of a domain whose intervals rise, and in which none is negative
+abbrev pub first_number : Option (List Span) → ℕ
+first_number None = 0
+first_number (Some []) = 0
+first_number (Some (s ∷ spans)) = nat_abs s.low
 
-abbrev pub spans_in : Option TypeRow → List Span
-spans_in None = []
-spans_in (Some row) = spans_by row.kind
-
--- the least number of rising spans, none of which is negative
-abbrev pub first_number : List Span → ℕ
-first_number [] = 0
-first_number (s ∷ spans) = nat_abs s.low
-
--- the least number of items that an entry can tell
+-- the least number of items that the entry at this place of a container can tell
 abbrev pub least_count : Table → TypeId → ℕ → ℕ
-least_count t y i = first_number (spans_in (row_at t (type_on t ((y, i) ∷ []))))
+least_count t y i = first_number (int_domain_in (row_at t (type_by (part_at t (y, i)))))
 
 -- where least says the least sizes of the types that are nested in this one
 module _ (t : Table) (least : ℕ → ℕ) where

@@ -1,6 +1,7 @@
 pub mod Plain
 pub mod Rows
 pub mod Fields
+pub mod Domains
 pub mod Spelling
 pub mod Failing
 pub mod Packing

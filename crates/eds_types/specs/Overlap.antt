@@ -1,5 +1,5 @@
 -- Containers whose values can't be told apart.
-use Rattle.std.specs.Prelude.{◌≡◌, ◌≢◌, ℕ, ℤ, pos, List, ◌∷◌, ◌++◌, Option, Some, None, slice_get, IsTrue, ◌⊎◌}
+use Rattle.std.specs.Prelude.{◌≡◌, ◌≢◌, ℕ, ℤ, List, ◌∷◌, ◌++◌, Some, slice_get, IsTrue}
 use Rattle.std.specs.List.{AllByRecursion}
 use Rattle.eds_base.specs.declared.ids.TypeId.{TypeId}
 use Rattle.eds_base.specs.Spans.{IsWithin}
@@ -9,31 +9,8 @@ use Rattle.eds_types.specs.declared.row.Kind.{Kind}
 use Rattle.eds_types.specs.declared.row.Kind.TheVariants as kind
 use Rattle.eds_types.specs.declared.row.Constraint.{Constraint}
 use Rattle.eds_types.specs.Rows.{Table, chain, is_concrete, sequence}
-use Rattle.eds_types.specs.Fields.{type_by, type_on, IsUnder, StartsAbove, constraints_along}
-
--- ---- domains
-
--- the numbers that a value of this kind can have; those of a container are the concrete containers at or under it
-abbrev pub InDomainOf : Table → ℕ → Kind → ℤ → Type 0
-InDomainOf t id (kind.Int form spans) n = IsWithin spans n
-InDomainOf t id (kind.Enum form listing) n = HasOne (λ e. e.1 ≡ n) listing
-InDomainOf t id (kind.Bool form) n = (n ≡ pos 0) ⊎ (n ≡ pos 1)
-InDomainOf t id (kind.Str form) n = ⊥
-InDomainOf t id (kind.Bin size) n = ⊥
-InDomainOf t id (kind.Arr item size) n = ⊥
-InDomainOf t id (kind.Con c) n = (k : ℕ) × (n ≡ pos k) × IsTrue (is_concrete t k) × IsUnder t id k
-
-abbrev pub InDomainOfRow : Table → ℕ → Option TypeRow → ℤ → Type 0
-InDomainOfRow t id None n = ⊥
-InDomainOfRow t id (Some row) n = InDomainOf t id row.kind n
-
-abbrev pub InDomainOfType : Table → Option ℕ → ℤ → Type 0
-InDomainOfType t None n = ⊥
-InDomainOfType t (Some id) n = InDomainOfRow t id (slice_get t id) n
-
--- the domain of a path is that of the type it leads to
-abbrev pub InDomain : Table → List (TypeId × ℕ) → ℤ → Type 0
-InDomain t path n = InDomainOfType t (type_on t path) n
+use Rattle.eds_types.specs.Fields.{type_by, IsUnder, StartsAbove, constraints_along}
+use Rattle.eds_types.specs.Domains.{InDomain}
 
 -- ---- solution sets
 

@@ -1,5 +1,5 @@
 -- What the rows of a table say: bases and parts, chains and sequences.
-use Rattle.std.specs.Prelude.{ℕ, zero, suc, ◌+◌, List, [], ◌∷◌, ◌++◌, length, reverse, filter, Bool, true, false, not, cond, ◌==◌, Option, Some, None, slice_get}
+use Rattle.std.specs.Prelude.{ℕ, zero, suc, ◌+◌, List, [], ◌∷◌, ◌++◌, length, reverse, map, filter, Bool, true, false, not, cond, ◌==◌, Option, Some, None, slice_get}
 use Rattle.std.specs.List.{flat_map}
 use Rattle.eds_base.specs.declared.ids.TypeId.{TypeId}
 use Rattle.eds_types.specs.declared.row.TypeRow.{TypeRow}
@@ -35,9 +35,12 @@ abbrev pub number_of_id : Option TypeId → Option ℕ
 number_of_id None = None
 number_of_id (Some id) = Some id.0
 
+abbrev pub base_id_in : Option TypeRow → Option TypeId
+base_id_in None = None
+base_id_in (Some row) = row.base
+
 abbrev pub base_in : Option TypeRow → Option ℕ
-base_in None = None
-base_in (Some row) = number_of_id row.base
+base_in row = number_of_id (base_id_in row)
 
 abbrev pub entries_in : Option Container → List Part
 entries_in None = []
@@ -136,3 +139,10 @@ module _ (t : Table) where
 -- where a part stands, as its container's id and its place there
 abbrev pub address : Placed → TypeId × ℕ
 address p = (id_of p.container, p.place)
+
+-- the places of a container's own parts
+abbrev pub entry_places : Table → TypeId → List (TypeId × ℕ)
+entry_places t id = map address (placed_entries t id.0)
+
+abbrev pub trailer_places : Table → TypeId → List (TypeId × ℕ)
+trailer_places t id = map address (placed_trailers t id.0)
