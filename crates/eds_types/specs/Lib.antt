@@ -9,4 +9,5 @@ pub mod LeastSize
 pub mod Overlap
 pub mod Reading
 pub mod Rules
+pub mod Stored
 pub mod Tables

@@ -1,6 +1,6 @@
 -- What the rows of a table say: bases and parts, chains and sequences.
 use Rattle.std.specs.Prelude.{ℕ, zero, suc, ◌+◌, List, [], ◌∷◌, ◌++◌, length, reverse, map, filter, Bool, true, false, not, cond, ◌==◌, Option, Some, None, slice_get}
-use Rattle.std.specs.List.{flat_map}
+use Rattle.std.specs.List.{flat_map, range_with_len}
 use Rattle.eds_base.specs.declared.ids.TypeId.{TypeId}
 use Rattle.eds_types.specs.declared.row.TypeRow.{TypeRow}
 use Rattle.eds_types.specs.declared.row.Kind.{Kind}
@@ -99,14 +99,13 @@ abbrev pub list_has : List ℕ → ℕ → Bool
 list_has [] x = false
 list_has (y ∷ ys) x = cond (y == x) true (list_has ys x)
 
--- the numbers of the rows, where the first has the number i
-abbrev pub numbers_from : ℕ → Table → List ℕ
-numbers_from i [] = []
-numbers_from i (row ∷ rows) = i ∷ numbers_from (i + 1) rows
+-- the numbers of all types, in order
+abbrev pub numbers : Table → List ℕ
+numbers t = range_with_len 0 (length t)
 
 -- the type and those that derive from it, in the order of their numbers
 abbrev pub derived : Table → ℕ → List ℕ
-derived t x = filter (λ k. list_has (chain t k) x) (numbers_from 0 t)
+derived t x = filter (λ k. list_has (chain t k) x) (numbers t)
 
 -- ---- sequences
 

@@ -6,6 +6,7 @@ mod look;
 mod reason;
 mod row;
 mod sequence;
+mod sizes;
 mod table;
 mod value;
 

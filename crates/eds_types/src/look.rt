@@ -2,6 +2,7 @@
 
 ghost use Rattle.std.specs.Prelude.{◌≡◌, map, slice_get};
 ghost use Rattle.std.specs.Option.{option_copied};
+ghost use Rattle.eds_types.specs.Fields.{part_at};
 ghost use Rattle.eds_types.specs.Domains.{int_domain_by, int_domain};
 ghost use Rattle.eds_types.specs.Rows.{base_id_in, container_by, container_of, entries_of, trailers_of, constraints_of, is_concrete, chain, id_of};
 
@@ -92,6 +93,19 @@ pub(crate) fn constraints_of(rows: &[TypeRow], id: TypeId) -> &[Constraint]
     match container_of(rows, id) {
         Some(container) => container.constraints.as_slice(),
         None => &[],
+    }
+}
+
+/// The part at a position among a container's entries and then its trailers, None exactly where there is none.
+pub(crate) fn part_at(rows: &[TypeRow], id: TypeId, place: u16) -> Option<&Part>
+    ensures { option_copied result ≡ part_at rows.now (id, place) }
+{
+    let entries = entries_of(rows, id);
+    let place = place as usize;
+    if place < entries.len() {
+        entries.get(place)
+    } else {
+        trailers_of(rows, id).get(place - entries.len())
     }
 }
 

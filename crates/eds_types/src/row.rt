@@ -47,6 +47,26 @@ pub enum Part {
     Check(Text, TypeId, CheckKind),
 }
 
+impl Part {
+    ghost use Rattle.std.specs.Prelude.{◌≡◌, Some, option_map};
+    ghost use Rattle.eds_base.specs.declared.ids.TypeId.{TypeId};
+    ghost use Rattle.eds_types.specs.Fields.{type_by};
+
+    /// The type of the part, or of its items; padding has none.
+    pub fn type_id(&self) -> Option<TypeId>
+        ensures { option_map (λ (id : TypeId). id.0) result ≡ type_by (Some self.now) }
+    {
+        match self {
+            Part::Plain(_, id) => Some(*id),
+            Part::Fixed(_, id, _) => Some(*id),
+            Part::Pad(_) => None,
+            Part::List(_, id, _, _) => Some(*id),
+            Part::Length(_, id, _, _) => Some(*id),
+            Part::Check(_, id, _) => Some(*id),
+        }
+    }
+}
+
 /// A container type: its parts before and after those of the containers that derive from it.
 #[derive(Drop)]
 pub struct Container {

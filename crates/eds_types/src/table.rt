@@ -5,11 +5,13 @@ ghost use Rattle.std.specs.List.{flat_map};
 ghost use Rattle.std.specs.Option.{option_copied};
 ghost use Rattle.eds_types.specs.Rows.{id_of, chain, address, entry_places, trailer_places, sequence, container_of, entries_of, trailers_of, constraints_of, is_concrete};
 ghost use Rattle.eds_types.specs.Domains.{int_domain};
+ghost use Rattle.eds_types.specs.LeastSize.{least_size};
 ghost use Rattle.eds_types.specs.Rules.{KeepsRules};
 
 use crate::sequence::push_places;
+use crate::sizes::{size_in, sizes_of};
 use crate::{Chain, Constraint, Container, Part, Sequence, TypeRow, TypeRows, look};
-use eds_base::{Memory, Spans, TypeId};
+use eds_base::{Items, Memory, Spans, TypeId};
 use std::alloc::Global;
 use std::marker::Model;
 
@@ -17,13 +19,15 @@ use std::marker::Model;
 #[derive(Drop)]
 pub struct TypeTable {
     rows: TypeRows,
+    // the least size of each type, in bits
+    sizes: Items<u32>,
 }
 
 impl Model for TypeTable {
     ghost use Rattle.std.specs.Prelude.{List};
     ghost use Rattle.eds_types.specs.declared.row.TypeRow.{TypeRow};
     ghost use Rattle.eds_types.specs.contracts.value.Value as value;
-    ghost use Rattle.eds_types.specs.Rules.{KeepsRules};
+    ghost use Rattle.eds_types.specs.Stored.{IsStored};
     ghost use Rattle.std.specs.Coded.{codes};
 
     ghost Value = { List TypeRow };
@@ -32,10 +36,19 @@ impl Model for TypeTable {
 
     ghost view = { λ t. t.rows };
 
-    ghost invariant = { λ t. KeepsRules t.rows };
+    ghost invariant = { λ t. IsStored t.rows t.sizes };
 }
 
 impl TypeTable {
+    /// The table of rows that keep the rules on types.
+    pub fn of(alloc: Global, rows: TypeRows) -> Result<TypeTable, Memory>
+        requires { KeepsRules rows }
+        ensures { IfOk result (λ t. t ≡ rows) }
+    {
+        let sizes = sizes_of(alloc, rows.as_slice())?;
+        Ok(TypeTable { rows, sizes })
+    }
+
     /// The rules that the types keep.
     pub fn keeps_rules(&self)
         ensures { KeepsRules self.now }
@@ -143,5 +156,13 @@ impl TypeTable {
         ensures { option_copied result ≡ int_domain self.now id.0 }
     {
         look::domain_of(self.rows.as_slice(), id)
+    }
+
+    /// The least size of a type, in bits: no value has a smaller one. It is 524,289 where there is no value, or only
+    /// larger ones.
+    pub fn min_bits(&self, id: TypeId) -> u32
+        ensures { result ≡ least_size self.now id.0 }
+    {
+        size_in(self.sizes.as_slice(), id)
     }
 }
