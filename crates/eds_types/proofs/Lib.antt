@@ -1,0 +1,3 @@
+pub mod ChainSteps
+pub mod Places
+pub mod LeastSizes
