@@ -51,7 +51,7 @@ pub All-flat : {A : Type 0} (P : A → Type 0) (Q : ℕ → Type 0) (f : ℕ →
 All-flat P Q f g [] h = tt
 All-flat P Q f g (y ∷ ys) h = All-both P (f y) (flat_map f ys) (g y h.0) (All-flat P Q f g ys h.1)
 
-one_of : {A : Type 0} (P : A → Type 0) (before : List A) (x : A) (after : List A) → P x → HasOne P (before ++ x ∷ after)
+pub one_of : {A : Type 0} (P : A → Type 0) (before : List A) (x : A) (after : List A) → P x → HasOne P (before ++ x ∷ after)
 one_of P [] x after h = inl h
 one_of P (y ∷ ys) x after h = inr (one_of P ys x after h)
 

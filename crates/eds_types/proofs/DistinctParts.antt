@@ -58,7 +58,7 @@ placed_apart : (y i : ℕ) (ps : List Part) → Pairwise Apart (placed_from y i 
 placed_apart y i [] = tt
 placed_apart y i (p ∷ ps) = (All-weaker (λ (q : Placed). i < q.place) (λ (q : Placed). (y ≡ q.container) × (i ≡ q.place) → ⊥) (λ q h e. let f = e.1 in omega arith) (placed_from y (i + 1) ps) (placed_after y i (i + 1) (omega arith) ps), placed_apart y (i + 1) ps)
 
-placed_in : (y i : ℕ) (ps : List Part) → AllByRecursion (λ (q : Placed). q.container ≡ y) (placed_from y i ps)
+pub placed_in : (y i : ℕ) (ps : List Part) → AllByRecursion (λ (q : Placed). q.container ≡ y) (placed_from y i ps)
 placed_in y i [] = tt
 placed_in y i (p ∷ ps) = (refl, placed_in y (i + 1) ps)
 

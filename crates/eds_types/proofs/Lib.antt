@@ -28,3 +28,4 @@ pub mod LengthChoices
 pub mod PackingRuns
 pub mod ContainerPacking
 pub mod PackingLaws
+pub mod RuleFacts
