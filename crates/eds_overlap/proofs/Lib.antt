@@ -1,0 +1,7 @@
+pub mod Course
+pub mod Taken
+pub mod CourseSpelling
+pub mod ContainerReading
+pub mod Choices
+pub mod ReadingLaws
+pub mod Theorems
