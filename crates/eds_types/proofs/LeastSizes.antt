@@ -9,10 +9,11 @@ use Rattle.std.proofs.lemmas.List.FromFn.{map-range_with_len_more, get_or-map-ra
 use Rattle.std.proofs.lemmas.Option.{slice_get_past}
 use Rattle.std.proofs.lemmas.Bool.{cases_lt}
 use Rattle.eds_base.specs.declared.ids.TypeId.{TypeId}
+use Rattle.eds_base.specs.declared.spans.Span.{Span}
 use Rattle.eds_types.specs.declared.row.TypeRow.{TypeRow}
 use Rattle.eds_types.specs.declared.row.Part.{Part}
 use Rattle.eds_types.specs.Rows.{Table, id_of, numbers, chain, list_has, derived, is_concrete, entries_of, trailers_of, Placed, placed_from, placed_entries, placed_trailers}
-use Rattle.eds_types.specs.LeastSize.{no_size, capped, least_of, size_in, size_by, least_part, least_own, least_sequence, least_family, least_row, least_within, least_size, chain_size, family_size, lowered, next_sizes}
+use Rattle.eds_types.specs.LeastSize.{no_size, capped, least_of, least_number, size_in, size_by, least_part, least_own, least_sequence, least_family, least_row, least_within, least_size, chain_size, family_size, lowered, next_sizes}
 
 -- ---- lists over the first numbers
 
@@ -29,6 +30,10 @@ range_put f n x xs ys e k h = k ∙ ap₂ (λ a b. a ++ b ∷ []) e h ∙ sym (m
 least_of-le : (ns : List ℕ) → least_of ns ≤ no_size
 least_of-le [] = omega arith
 least_of-le (n ∷ ns) = omega (arith, least_of-le ns)
+
+pub least_number-le : (spans : List Span) → least_number spans ≤ no_size
+least_number-le [] = omega arith
+least_number-le (s ∷ spans) = omega (arith, least_number-le spans)
 
 least_of-append : (ms : List ℕ) (n : ℕ) → n ≤ no_size → least_of (ms ++ n ∷ []) ≡ min (least_of ms) n
 least_of-append [] n h = omega arith

@@ -24,15 +24,18 @@ abbrev pub least_of : List ℕ → ℕ
 least_of [] = no_size
 least_of (n ∷ ns) = min n (least_of ns)
 
--- the least number of a domain whose intervals rise, and in which none is negative
-abbrev pub first_number : Option (List Span) → ℕ
-first_number None = 0
-first_number (Some []) = 0
-first_number (Some (s ∷ spans)) = nat_abs s.low
+-- the least number of a domain that has no negative ones, or the size above where it is larger
+abbrev pub least_number : List Span → ℕ
+least_number [] = no_size
+least_number (s ∷ spans) = min (nat_abs s.low) (least_number spans)
+
+abbrev pub least_number_in : Option (List Span) → ℕ
+least_number_in None = 0
+least_number_in (Some spans) = least_number spans
 
 -- the least number of items that the entry at this place of a container can tell
 abbrev pub least_count : Table → TypeId → ℕ → ℕ
-least_count t y i = first_number (int_domain_in (row_at t (type_by (part_at t (y, i)))))
+least_count t y i = least_number_in (int_domain_in (row_at t (type_by (part_at t (y, i)))))
 
 -- a size of a list of all types' sizes
 abbrev pub size_in : List ℕ → ℕ → ℕ

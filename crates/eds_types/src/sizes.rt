@@ -4,7 +4,7 @@ ghost use Rattle.std.specs.Prelude.{◌≡◌, ◌+◌, ◌*◌, ◌≤◌, ℕ,
 ghost use Rattle.eds_base.specs.declared.ids.TypeId.{TypeId};
 ghost use Rattle.eds_types.specs.Rows.{numbers};
 ghost use Rattle.eds_types.specs.Domains.{int_domain};
-ghost use Rattle.eds_types.specs.LeastSize.{capped, size_in, first_number, least_count, least_part, least_own, size_by, family_size, lowered, next_sizes, least_size};
+ghost use Rattle.eds_types.specs.LeastSize.{capped, size_in, least_number, least_number_in, least_count, least_part, least_own, size_by, family_size, lowered, next_sizes, least_size};
 
 use crate::look::{chain_of, domain_of, entries_of, is_concrete, part_at, trailers_of};
 use crate::{Kind, Part, TypeRow};
@@ -32,22 +32,25 @@ pub(crate) fn size_in(sizes: &[u32], id: TypeId) -> u32
     }
 }
 
-/// The least number of intervals that rise, none of which is negative, or `NO_SIZE` where it is larger.
-fn first_number(spans: &Spans) -> u32
-    ensures { result ≡ capped (first_number (Some spans.now)) }
+/// The least number of a domain that has no negative ones, or `NO_SIZE` where it is larger.
+fn least_number(spans: &Spans) -> u32
+    ensures { result ≡ least_number spans.now }
 {
-    match spans.get(0) {
-        Some(span) => span.low.unsigned_abs().min(NO_SIZE as u128) as u32,
-        None => 0,
+    let mut least = NO_SIZE;
+    let mut rest = spans.as_slice();
+    while let [span, after @ ..] = rest {
+        least = span.low.unsigned_abs().min(least as u128) as u32;
+        rest = after;
     }
+    least
 }
 
 /// The least number of an integer type or sub-range, or `NO_SIZE` where it is larger.
-fn least_number(rows: &[TypeRow], id: TypeId) -> u32
-    ensures { result ≡ capped (first_number (int_domain rows.now id.0)) }
+fn least_number_of(rows: &[TypeRow], id: TypeId) -> u32
+    ensures { result ≡ least_number_in (int_domain rows.now id.0) }
 {
     match domain_of(rows, id) {
-        Some(spans) => first_number(spans),
+        Some(spans) => least_number(spans),
         None => 0,
     }
 }
@@ -78,11 +81,11 @@ fn list_size(rows: &[TypeRow], container: TypeId, place: u16, item: u32) -> u32
 
 /// The least number that an entry can tell, or `NO_SIZE` where it is larger.
 fn least_count(rows: &[TypeRow], container: TypeId, place: u16) -> u32
-    ensures { result ≡ capped (least_count rows.now container place) }
+    ensures { result ≡ least_count rows.now container place }
 {
     match part_at(rows, container, place) {
         Some(part) => match part.type_id() {
-            Some(id) => least_number(rows, id),
+            Some(id) => least_number_of(rows, id),
             None => 0,
         },
         None => 0,
