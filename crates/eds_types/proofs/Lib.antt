@@ -25,6 +25,7 @@ pub mod DistinctParts
 pub mod DecidedPacking
 pub mod ScalarPacking
 pub mod LengthChoices
+pub mod ListCounts
 pub mod PackingRuns
 pub mod ContainerPacking
 pub mod PackingLaws

@@ -19,6 +19,7 @@ use Rattle.eds_types.proofs.DistinctParts.{Pairwise, Apart}
 use Rattle.eds_types.proofs.FieldKeys.{IsOther, value_stays}
 use Rattle.eds_types.proofs.FieldTypes.{Stands, IsPlaced, ValueFits, FieldFits, Fits, Found, found_by, part_keeps}
 use Rattle.eds_types.proofs.Grown.{only_grown}
+use Rattle.eds_types.proofs.ListCounts.{IsKnown, found_there, known_more, known_count, count_stands, value_counts}
 use Rattle.eds_types.proofs.LengthChoices.{Choice, tell, Choices, tell_all}
 use Rattle.eds_types.proofs.TableFacts.{IsCount, ListFits, ListsFit}
 use Rattle.eds_types.proofs.SameValues.{same-is, is-same}
@@ -35,17 +36,7 @@ use Rattle.eds_types.specs.Rows.{Table, Placed}
 use Rattle.eds_types.specs.Spelling.{State, passed, took, told, count_in, ItemsSpell, PartPasses, PartsPass, KindSpells, SpellsWithin}
 use Rattle.eds_types.proofs.AllOf.{All-weaker, All-both, All-pair}
 
--- ---- the field of a part
-
-at_by : Field → List Field → ℕ → ℕ → Bool → Option Plain
-at_by f fs y i b = cond b (Some f.2) (value_at fs y i)
-
-found_there : (l : List Field) (y i : ℕ) (v : Plain) (more : List Field) → AllByRecursion (IsOther y i) l → value_at (l ++ (y, i, v) ∷ more) y i ≡ Some v
-unfolding IsOther at_by
-found_there [] y i v more h = ap (at_by (y, i, v) more y i) (and_from (y == y) (i == i) (eq-eqb y y refl) (eq-eqb i i refl))
-found_there (f ∷ l) y i v more h =
-    let off : (f.0 == y && f.1 == i) ≡ false = false_from_ne_true (f.0 == y && f.1 == i) (λ e. let p = and_parts (f.0 == y) (f.1 == i) e in h.0 (eqb-true f.0 y p.0, eqb-true f.1 i p.1)) in
-    ap (at_by f (l ++ (y, i, v) ∷ more) y i) off ∙ found_there l y i v more h.1
+-- ---- values with their parts
 
 pair_by : Placed → List Placed → Plain → List Plain → Bool → List Field
 pair_by p ps v vs b = cond b ((p.container, p.place, v) ∷ paired ps vs) (paired ps (v ∷ vs))
@@ -67,9 +58,6 @@ pub count_by : (p : Placed) (ps : List Placed) (b : Bool) → has_value p.part �
 count_by p ps b e = ap (λ z. cond z 1 0 + valued ps) e
 
 module _ (fs : List Field) where
-  abbrev IsKnown : List Field → Placed → Type 0
-  IsKnown l q = has_value q.part ≡ true → (v : Plain) × (value_at l q.container q.place ≡ Some v)
-
   -- the fields l of the parts that are done, and the values f of those to come
   pub record At (done ps : List Placed) (l : List Field) (f : List Plain) : Type 0 where
     pub whole : fs ≡ l ++ paired ps f
@@ -90,9 +78,6 @@ module _ (fs : List Field) where
       All-weaker (λ (q : Placed). AllByRecursion (IsOther q.container q.place) l × Apart p q) (λ (q : Placed). AllByRecursion (IsOther q.container q.place) (l ++ (p.container, p.place, v) ∷ []))
       (λ q g. All-both (IsOther q.container q.place) l ((p.container, p.place, v) ∷ []) g.0 (g.1, tt)) ps
       (All-pair (λ (q : Placed). AllByRecursion (IsOther q.container q.place) l) (Apart p) ps h k)
-
-  known_more : (done : List Placed) (l more : List Field) → AllByRecursion (IsKnown l) done → AllByRecursion (IsKnown (l ++ more)) done
-  known_more done l more h = All-weaker (IsKnown l) (IsKnown (l ++ more)) (λ q g e. let k = g e in (k.0, value_stays l more q.container q.place k.0 k.1)) done h
 
   next_valued : (done : List Placed) (p : Placed) (ps : List Placed) (l : List Field) (f : List Plain) → At done (p ∷ ps) l f → has_value p.part ≡ true → Next done p ps l
   next_valued done p ps l [] a e = absurd (let c = a.count in let d = count_by p ps true e in omega arith)
@@ -216,53 +201,9 @@ module _ (t : Table) (n : ℕ) (fs : List Field) where
 
   -- ---- the number of a list
 
-  known_count : (y i : ℕ) (l : List Field) (done : List Placed) → HasOne (λ (q : Placed). (q.container ≡ y) × (q.place ≡ i) × IsCount t q.part) done → AllByRecursion (IsKnown fs l) done → (w : Plain) × (value_at l y i ≡ Some w)
-  known_count y i l [] h k = absurd h
-  known_count y i l (q ∷ done) (inl h) k = let w = k.0 (valued_count q.part h.2) in (w.0, ap (λ z. value_at l z i) (sym h.0) ∙ ap (λ z. value_at l q.container z) (sym h.1) ∙ w.1)
-    where
-      valued_count : (q : Part) → IsCount t q → has_value q ≡ true
-      valued_count (part.Plain name id) c = refl
-      valued_count (part.Fixed name id v) c = absurd c
-      valued_count (part.Pad m) c = absurd c
-      valued_count (part.List name id y i) c = absurd c
-      valued_count (part.Length name id c0 c1) c = absurd c
-      valued_count (part.Check name id kd) c = absurd c
-  known_count y i l (q ∷ done) (inr h) k = known_count y i l done h k.1
-
   -- what stands so far, stands in the whole
   known_whole : (done ps : List Placed) (l : List Field) (f : List Plain) (y i : ℕ) (w : Plain) → At fs done ps l f → value_at l y i ≡ Some w → value_at fs y i ≡ Some w
   known_whole done ps l f y i w a e = ap (λ x. value_at x y i) a.whole ∙ value_stays l (paired ps f) y i w e
-
-  count_stands : (y i : ℕ) (done : List Placed) → HasOne (λ (q : Placed). (q.container ≡ y) × (q.place ≡ i) × IsCount t q.part) done → AllByRecursion (IsPlaced t) done → (q : Part) × Stands t y i q × IsCount t q
-  count_stands y i [] h k = absurd h
-  count_stands y i (q ∷ done) (inl h) k = (q.part, subst (λ z. Stands t y z q.part) h.1 (subst (λ z. Stands t z q.place q.part) h.0 k.0), h.2)
-  count_stands y i (q ∷ done) (inr h) k = count_stands y i done h k.1
-
-  -- a value that counts is a number from 0 on
-  abbrev Counts : IntForm → List Span → Type 0
-  Counts form spans = (n : ℤ) → IsWithin spans n → (m : ℕ) × (n ≡ pos m)
-
-  spelt_counts : (m x : ℕ) (w : Plain) (b : Bits) → IsInt t x Counts → SpellsWithin m any t x w b → (r : ℕ) × (w ≡ num (pos r))
-  unfolding SpellsWithin
-  spelt_counts zero x w b c s = absurd s
-  spelt_counts (suc m) x w b c s = by_kind (s.0).kind (subst (λ (r : TypeRow). IsIntBy Counts r.kind) (same_row t x c.0 s.0 c.1 s.1) c.2) s.2
-    where
-      by_kind : (k : Kind) → IsIntBy Counts k → KindSpells any t (SpellsWithin m any t) x k w b → (r : ℕ) × (w ≡ num (pos r))
-      by_kind (kind.Int form spans) c s = let r = c s.0 s.2 in (r.0, s.1 ∙ ap num r.1)
-      by_kind (kind.Enum form listing) c s = absurd c
-      by_kind (kind.Bool form) c s = absurd c
-      by_kind (kind.Str form) c s = absurd c
-      by_kind (kind.Bin size) c s = absurd c
-      by_kind (kind.Arr item size) c s = absurd c
-      by_kind (kind.Con con) c s = absurd c
-
-  value_counts : (q : Part) (w : Plain) → IsCount t q → ValueFits t n q w → (m : ℕ) × (w ≡ num (pos m))
-  value_counts (part.Plain name id) w c h = spelt_counts n id.0 w h.0 c h.1
-  value_counts (part.Fixed name id v) w c h = absurd c
-  value_counts (part.Pad m) w c h = absurd c
-  value_counts (part.List name id y i) w c h = absurd c
-  value_counts (part.Length name id c0 c1) w c h = absurd c
-  value_counts (part.Check name id kd) w c h = absurd c
 
   -- ---- values that don't fail have a canonical run
 
@@ -312,7 +253,7 @@ module _ (t : Table) (n : ℕ) (fs : List Field) where
       fine_items g h = fine g (subst (λ o. ListFails t F fs id.0 y.0 i o g) (sym there) h)
 
       known : (w : Plain) × (value_at s.fields y.0 i ≡ Some w)
-      known = known_count y.0 i s.fields done li at.known
+      known = known_count t y.0 i s.fields done li at.known
 
       go : (value_at fs y.0 i ≡ Some (num (pos (length (list_of vs))))) ⊎ (value_at fs y.0 i ≡ Some (num (pos (length (list_of vs)))) → ⊥) → Decided (ItemsSpell (C id.0) (list_of vs)) (ItemFails (F id.0) 0 (list_of vs)) → Step done p ps s (part.List name id y i) s.octets
       go (inr ne) r = absurd (fine_items (here reason.CountWrong) (inl (ne, refl)))
@@ -387,13 +328,13 @@ module _ (t : Table) (n : ℕ) (fs : List Field) where
       v = same_value done p ps s u (items h.0) gs next uf w
 
       known : (x : Plain) × (value_at s.fields y.0 i ≡ Some x)
-      known = known_count y.0 i s.fields done li at.known
+      known = known_count t y.0 i s.fields done li at.known
 
       counted : (m : ℕ) × (known.0 ≡ num (pos m))
       counted =
           let found = found_by t n s.fields y.0 i known.0 fit known.1 in
-          let stands = count_stands y.0 i done li pl in
-          value_counts stands.0 known.0 stands.2 (subst (λ q. ValueFits t n q known.0) (same_part found.part stands.0 found.stands stands.1) found.fits)
+          let stands = count_stands t y.0 i done li pl in
+          value_counts t n stands.0 known.0 stands.2 (subst (λ q. ValueFits t n q known.0) (same_part found.part stands.0 found.stands stands.1) found.fits)
         where
           same_part : (q r : Part) → Stands t y.0 i q → Stands t y.0 i r → q ≡ r
           same_part q r a c = let z : ◌≡◌ {A = Option Part} (Some q) (Some r) = sym a ∙ c in cc
