@@ -13,7 +13,7 @@ use Rattle.eds_types.proofs.AllOf.{All-both, All-each}
 
 module _ (style : Style) (t : Table) (Each : ℕ → Plain → Bits → Type 0) where
   -- the fields that a part adds are its own
-  part_grown : (Q : ℕ → ℕ → Type 0) (s : State) (p : Placed) (q : Part) (u : State) (b : Bits) → Q p.container p.place → PartPasses style t Each s p q u b → (gs : List Field) × (u.fields ≡ s.fields ++ gs) × AllByRecursion (λ f. Q f.0 f.1) gs
+  pub part_grown : (Q : ℕ → ℕ → Type 0) (s : State) (p : Placed) (q : Part) (u : State) (b : Bits) → Q p.container p.place → PartPasses style t Each s p q u b → (gs : List Field) × (u.fields ≡ s.fields ++ gs) × AllByRecursion (λ f. Q f.0 f.1) gs
   part_grown Q s p (part.Plain name id) u b h k = ((p.container, p.place, k.0) ∷ [], ap (λ (z : State). z.fields) k.2, (h, tt))
   part_grown Q s p (part.Fixed name id v) u b h k = ([], ap (λ (z : State). z.fields) k.1 ∙ sym (append-nil s.fields), tt)
   part_grown Q s p (part.Pad n) u b h k = ([], ap (λ (z : State). z.fields) k.2 ∙ sym (append-nil s.fields), tt)

@@ -29,4 +29,5 @@ pub mod ListCounts
 pub mod PackingRuns
 pub mod ContainerPacking
 pub mod PackingLaws
+pub mod LeastBound
 pub mod RuleFacts
