@@ -15,12 +15,13 @@ use Rattle.eds_types.proofs.CanonicalSpelling.{canon_within}
 use Rattle.eds_types.proofs.DecidedPacking.{Decided}
 use Rattle.eds_types.proofs.ExactReading.{Is, Exact, err_is, ok_err, same_ok}
 use Rattle.eds_types.proofs.FaultsStay.{stays_within}
+use Rattle.eds_types.proofs.LeastBound.{least_bound}
 use Rattle.eds_types.proofs.OneCanonical.{unique_within}
 use Rattle.eds_types.proofs.PackingLaws.{packs_within}
 use Rattle.eds_types.proofs.RuleFacts.{table_of, facts_of}
 use Rattle.eds_types.proofs.SpellingSizes.{canon_spells, same_size}
 use Rattle.eds_overlap.proofs.ReadingLaws.{exact}
-use Rattle.eds_overlap.specs.Laws.{IsThere, IsReadable, read_type, IsRead, ReadingIsExact, OneOutcome, OneReading, FaultsStay, OneSize, HasCanonical, OneCanonical, SameValue, PackingIsDecided}
+use Rattle.eds_overlap.specs.Laws.{IsThere, IsReadable, read_type, IsRead, ReadingIsExact, OneOutcome, OneReading, FaultsStay, OneSize, HasCanonical, OneCanonical, SameValue, LeastIsLeast, PackingIsDecided}
 
 all_of : (t : Table) (id : ℕ) → IsReadable t id → Exact (read_within 32 t id) (SpellsWithin 32 any t id) (FailsWithin 32 t id)
 all_of t id h = exact t (table_of t h.rules) 32 id (record { rank = (table_of t h.rules).nested id; there = h.there; clear = h.clear })
@@ -90,6 +91,9 @@ same_value t id h v w b c x y s k p q = (
   (λ e. unique_within t (facts_of t h.rules) 32 id w x y (subst (λ z. Canon t id z x) e p) q),
   (λ e. (one_reading t id h v w x y [] (canon_spells t 32 id v x p) (canon_spells t 32 id w y q) (sym e ∙ sym (append-nil x))).1)
 )
+
+pub least_is_least : LeastIsLeast
+least_is_least t id h v b s = least_bound t (facts_of t h.rules) 32 id v b s
 
 -- ---- packing
 

@@ -3,6 +3,7 @@ use Rattle.std.specs.Prelude.{◌≡◌, ◌↔◌, ℕ, ◌<◌, ◌≤◌, ◌
 use Rattle.eds_base.specs.declared.fault.Reason.TheVariants.{Short}
 use Rattle.eds_bits.specs.Bits.{Bits}
 use Rattle.eds_types.specs.Failing.{Where, FailsAt}
+use Rattle.eds_types.specs.LeastSize.{least_size}
 use Rattle.eds_types.specs.Overlap.{IsClear}
 use Rattle.eds_types.specs.Packing.{Where as PackWhere, most_bits, PackFailsAt}
 use Rattle.eds_types.specs.Plain.{Plain}
@@ -73,6 +74,12 @@ OneCanonical = (t : Table) (id : ℕ) → IsThere t id → (v : Plain) (b c : Bi
 -- values that are read are the same exactly where their canonical spellings are
 abbrev pub SameValue : Type 0
 SameValue = (t : Table) (id : ℕ) → IsReadable t id → (v w : Plain) (b c x y : Bits) → Spells t id v b → Spells t id w c → Canon t id v x → Canon t id w y → (v ≡ w) ↔ (x ≡ y)
+
+-- ---- sizes
+
+-- no spelling has fewer bits than the least size of the type
+abbrev pub LeastIsLeast : Type 0
+LeastIsLeast = (t : Table) (id : ℕ) → IsThere t id → (v : Plain) (b : Bits) → Spells t id v b → least_size t id ≤ length b
 
 -- ---- packing
 

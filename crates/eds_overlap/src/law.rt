@@ -1,6 +1,6 @@
 //! The laws of values and bits: functions with no body, whose contracts are what was proved.
 
-ghost use Rattle.eds_overlap.specs.Laws.{ReadingIsExact, OneOutcome, OneReading, FaultsStay, OneSize, HasCanonical, OneCanonical, SameValue, PackingIsDecided};
+ghost use Rattle.eds_overlap.specs.Laws.{ReadingIsExact, OneOutcome, OneReading, FaultsStay, OneSize, HasCanonical, OneCanonical, SameValue, LeastIsLeast, PackingIsDecided};
 
 /// What the left-to-right reading function gives is a value with its spelling in front of the rest, or a fault that is
 /// there; and each such value and each such fault is what it gives.
@@ -34,6 +34,11 @@ pub fn canonical_spelling()
 /// Two lists of bits that are read have the same value exactly where the canonical spellings of their values are equal.
 pub fn same_value()
     ensures { SameValue }
+{}
+
+/// No spelling of a value has fewer bits than the least size of its type.
+pub fn least_size()
+    ensures { LeastIsLeast }
 {}
 
 /// A value has a canonical spelling that isn't too long, or packing it fails at exactly one path for exactly one reason;
