@@ -5,3 +5,4 @@ pub mod ContainerReading
 pub mod Choices
 pub mod ReadingLaws
 pub mod Theorems
+pub mod ExampleReading
