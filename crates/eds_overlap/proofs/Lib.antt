@@ -5,4 +5,6 @@ pub mod ContainerReading
 pub mod Choices
 pub mod ReadingLaws
 pub mod Theorems
+pub mod Concrete
+pub mod ExampleRules
 pub mod ExampleReading

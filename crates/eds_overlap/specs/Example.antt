@@ -1,6 +1,7 @@
 -- A table of types with everything that the laws speak of, and what some bits say by it.
-use Rattle.std.specs.Prelude.{ℕ, ◌-◌, ◌^◌, ◌≤◌, pos, List, [], ◌∷◌, ◌++◌, Bool, true, false, Option, Some, None, codes}
-use Rattle.std.proofs.Common.{arith}
+use Rattle.std.specs.Prelude.{ℕ, ◌-◌, ◌^◌, ◌≤◌, nat_le, ℤ, pos, List, [], ◌∷◌, ◌++◌, Bool, true, false, Option, Some, None, codes}
+use Rattle.std.proofs.Common.{◌≡◌, refl, arith}
+use Rattle.std.proofs.lemmas.Bool.{leb-true}
 use Rattle.eds_base.specs.declared.ids.TypeId.{TypeId}
 use Rattle.eds_base.specs.declared.fault.Step.TheVariants as step
 use Rattle.eds_base.specs.declared.fault.Reason.TheVariants.{Short, NoDerived, LengthDiffers, CheckDiffers}
@@ -10,6 +11,7 @@ use Rattle.eds_bits.specs.declared.forms.Encoding.TheVariants.{Unsigned}
 use Rattle.eds_bits.specs.declared.forms.ByteOrder.TheVariants.{Big}
 use Rattle.eds_bits.specs.declared.forms.IntForm.{IntForm}
 use Rattle.eds_bits.specs.Bits.{bits_of}
+use Rattle.eds_bits.specs.Encodings.{IsForm}
 use Rattle.eds_types.specs.declared.row.Constraint.{Constraint}
 use Rattle.eds_types.specs.declared.row.Kind.{Kind}
 use Rattle.eds_types.specs.declared.row.Kind.TheVariants as kind
@@ -23,14 +25,23 @@ use Rattle.eds_types.specs.Spelling.{Spells}
 
 -- ---- rows
 
+-- a comparison of numerals
+pub at_most : (a b : ℕ) → nat_le a b ≡ true → a ≤ b
+at_most a b e = leb-true a b e
+
+-- such a size has a form
+pub is_form : (n : ℕ) → nat_le 1 n ≡ true → nat_le n 64 ≡ true → IsForm n Unsigned Big
+is_form n some few = record { some = leb-true 1 n some; few = leb-true n 64 few; whole_digits = omega arith; whole_octets = omega arith }
+
 -- an unsigned number of so many bits
-abbrev unsigned_form : (n : ℕ) → 1 ≤ n → n ≤ 64 → IntForm
-unsigned_form n some few = record { bits = n; encoding = Unsigned; order = Big; valid = record { some = some; few = few; whole_digits = omega arith; whole_octets = omega arith } }
+abbrev pub unsigned_form : (n : ℕ) → nat_le 1 n ≡ true → nat_le n 64 ≡ true → IntForm
+unsigned_form n some few = record { bits = n; encoding = Unsigned; order = Big; valid = is_form n some few }
 
 abbrev span : ℕ → ℕ → Span
 span low high = record { low = pos low; high = pos high }
 
-abbrev any_number : (n : ℕ) → 1 ≤ n → n ≤ 64 → Kind
+-- any number of so many bits
+abbrev pub any_number : (n : ℕ) → nat_le 1 n ≡ true → nat_le n 64 ≡ true → Kind
 any_number n some few = kind.Int (unsigned_form n some few) (span 0 (2 ^ n - 1) ∷ [])
 
 abbrev scalar : List ℕ → Kind → TypeRow
@@ -48,15 +59,18 @@ where_entry y i s = record { path = (id_of y, i) ∷ []; set = s ∷ []; on_kind
 
 -- ---- the table
 
+abbrev pub flags : List (List ℕ × ℤ)
+flags = (codes "CONT", pos 0) ∷ (codes "FIRST", pos 1) ∷ (codes "LAST", pos 2) ∷ (codes "UNSEG", pos 3) ∷ []
+
 -- telemetry packets: an abstract packet with a length entry, and the one that its application number tells
 abbrev packets : List TypeRow
 packets =
-    scalar (codes "Demo/U3") (any_number 3 (omega arith) (omega arith))
-    ∷ scalar (codes "Demo/Bit") (kind.Bool (record { bits = 1; zero_is_false = true; some = omega arith; few = omega arith }))
-    ∷ scalar (codes "Demo/U11") (any_number 11 (omega arith) (omega arith))
-    ∷ scalar (codes "Demo/U14") (any_number 14 (omega arith) (omega arith))
-    ∷ scalar (codes "Demo/U16") (any_number 16 (omega arith) (omega arith))
-    ∷ scalar (codes "Demo/Flags") (kind.Enum (unsigned_form 2 (omega arith) (omega arith)) ((codes "CONT", pos 0) ∷ (codes "FIRST", pos 1) ∷ (codes "LAST", pos 2) ∷ (codes "UNSEG", pos 3) ∷ []))
+    scalar (codes "Demo/U3") (any_number 3 refl refl)
+    ∷ scalar (codes "Demo/Bit") (kind.Bool (record { bits = 1; zero_is_false = true; some = at_most 1 1 refl; few = at_most 1 64 refl }))
+    ∷ scalar (codes "Demo/U11") (any_number 11 refl refl)
+    ∷ scalar (codes "Demo/U14") (any_number 14 refl refl)
+    ∷ scalar (codes "Demo/U16") (any_number 16 refl refl)
+    ∷ scalar (codes "Demo/Flags") (kind.Enum (unsigned_form 2 refl refl) flags)
     ∷ container (codes "Demo/Packet") None true [] (
       entry (codes "Version") 0 ∷ entry (codes "Type") 1 ∷ entry (codes "SecHdr") 1 ∷ entry (codes "Apid") 2 ∷ entry (codes "SeqFlags") 5 ∷ entry (codes "SeqCount") 3
       ∷ part.Length (codes "Length") (id_of 4) (pos 7) (pos 1) ∷ []
@@ -67,8 +81,8 @@ packets =
 -- a text with its check; entries and trailers of a base and of what derives from it
 abbrev checks : List TypeRow
 checks =
-    scalar (codes "Ck/U8") (any_number 8 (omega arith) (omega arith))
-    ∷ scalar (codes "Ck/S9") (kind.Str (record { length = 9; fixed = true; ascii = true; stop = 0; some = omega arith; few = omega arith; plain = omega arith }))
+    scalar (codes "Ck/U8") (any_number 8 refl refl)
+    ∷ scalar (codes "Ck/S9") (kind.Str (record { length = 9; fixed = true; ascii = true; stop = 0; some = at_most 1 9 refl; few = at_most 9 65536 refl; plain = at_most 0 127 refl }))
     ∷ container (codes "Ck/Check") None false [] (entry (codes "T") 9 ∷ []) (part.Check (codes "Crc") (id_of 4) Crc16Ccitt ∷ [])
     ∷ container (codes "Ck/Base") None true [] (entry (codes "A") 8 ∷ []) (entry (codes "Z") 8 ∷ [])
     ∷ container (codes "Ck/Der") (Some (id_of 11)) false [] (entry (codes "B") 8 ∷ []) (entry (codes "Y") 8 ∷ [])
@@ -77,7 +91,7 @@ checks =
 -- a list, whose number of items an entry tells; and two containers that one entry tells apart
 abbrev lists : List TypeRow
 lists =
-    scalar (codes "Li/U4") (any_number 4 (omega arith) (omega arith))
+    scalar (codes "Li/U4") (any_number 4 refl refl)
     ∷ container (codes "Li/L") None false [] (entry (codes "Count") 8 ∷ part.List (codes "Items") (id_of 13) (id_of 14) 0 ∷ []) []
     ∷ container (codes "Ov/Base") None true [] (entry (codes "K") 8 ∷ []) []
     ∷ container (codes "Ov/Low") (Some (id_of 15)) false (where_entry 15 0 (span 0 10) ∷ []) [] []

@@ -152,7 +152,7 @@ text_bound m true ascii stop size s b h = let e = h.size in omega arith
 text_bound m false ascii stop size s b h = let e = h.size in omega arith
 
 -- a concrete container is one of the table's
-there : (t : Table) (k : ℕ) → IsTrue (is_concrete t k) → k < length t
+pub there : (t : Table) (k : ℕ) → IsTrue (is_concrete t k) → k < length t
 there t k h = elim (cases_lt k (length t)) [
   | inl lt ↦ lt
   | inr le ↦ absurd (both_ways (is_concrete t k) (ap (λ o. concrete_in (container_in o)) (slice_get_past t k le)) h)
