@@ -8,3 +8,4 @@ pub mod Theorems
 pub mod Concrete
 pub mod ExampleRules
 pub mod ExampleReading
+pub mod ExampleFrames

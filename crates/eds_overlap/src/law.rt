@@ -1,5 +1,9 @@
 //! The laws of values and bits: functions with no body, whose contracts are what was proved.
 
+ghost use Rattle.std.specs.Prelude.{ℕ};
+ghost use Rattle.eds_types.specs.Overlap.{IsClear};
+ghost use Rattle.eds_types.specs.Rules.{KeepsRules};
+ghost use Rattle.eds_overlap.specs.Example.{example, WorkedFrames};
 ghost use Rattle.eds_overlap.specs.Laws.{ReadingIsExact, OneOutcome, OneReading, FaultsStay, OneSize, HasCanonical, OneCanonical, SameValue, LeastIsLeast, PackingIsDecided};
 
 /// What the left-to-right reading function gives is a value with its spelling in front of the rest, or a fault that is
@@ -45,4 +49,15 @@ pub fn least_size()
 /// and not both.
 pub fn packing_is_decided()
     ensures { PackingIsDecided }
+{}
+
+/// The table of the examples keeps the rules, and no two of its containers overlap: so each law speaks of some values.
+pub fn example_keeps_the_rules()
+    ensures rules { KeepsRules example }
+    ensures clear { (id : ℕ) → IsClear example id }
+{}
+
+/// What some frames say by the table of the examples.
+pub fn worked_frames()
+    ensures { WorkedFrames }
 {}
