@@ -8,19 +8,19 @@ use Rattle.std.proofs.Math.Bool.{and-false}
 use Rattle.std.proofs.lemmas.Bool.{leb-true, le-leb, lt-leb, cases_lt, and_parts, and_from}
 use Rattle.std.proofs.lemmas.Nat.{mul-add-lt, pow-add, shr-shr, shl_whole, or_comm, or_shifted}
 use Rattle.eds_bits.specs.Bits.{low_bits, unsigned_of, pieces}
-use Rattle.eds_bits.specs.Encodings.{sum_of_digits, decimal_of}
+use Rattle.eds_bits.specs.Encodings.{decimal_value, decimal_of}
 use Rattle.eds_bits.proofs.Groups.{groups, length-groups, numbers_of_pieces, groups_push}
 
 -- every one is a decimal digit
 abbrev pub are_digits : List ℕ → Bool
 are_digits ds = list_all (λ d. nat_le d 9) ds
 
-pub sum_small : (ds : List ℕ) → are_digits ds ≡ true → sum_of_digits ds < 10 ^ length ds
+pub sum_small : (ds : List ℕ) → are_digits ds ≡ true → decimal_value ds < 10 ^ length ds
 sum_small [] h = omega arith
 sum_small (d ∷ ds) h =
     let parts = and_parts (nat_le d 9) (are_digits ds) h in
     let digit : d < 10 = omega (arith, leb-true d 9 parts.0) in
-    let sum : d * 10 ^ length ds + sum_of_digits ds < 10 ^ length ds * 10 = mul-add-lt d (10 ^ length ds) (sum_of_digits ds) 10 digit (sum_small ds parts.1) in
+    let sum : d * 10 ^ length ds + decimal_value ds < 10 ^ length ds * 10 = mul-add-lt d (10 ^ length ds) (decimal_value ds) 10 digit (sum_small ds parts.1) in
     rw pow-suc sum
 
 -- no more than 16 digits of at least four bits stand in 64 bits
@@ -40,7 +40,7 @@ pub record ReadDigits (k x i n worth left : ℕ) : Type 0 where
   pub left_is : left ≡ x / 2 ^ (k * i)
   pub worth_is : worth ≡ 10 ^ i
   pub digits : are_digits (groups k i x) ≡ true
-  pub number : n ≡ sum_of_digits (groups k i x)
+  pub number : n ≡ decimal_value (groups k i x)
 
 pub read_none : (k x : ℕ) → ReadDigits k x 0 0 1 x
 read_none k x = record { left_is = rw mul-zero (omega arith); worth_is = refl; digits = refl; number = refl }
@@ -74,7 +74,7 @@ read_fits k x m i n worth left wide few l r h =
 -- after the last digit
 pub read_all : (k x m n worth left : ℕ) → 4 ≤ k → ReadDigits k x m n worth left → decimal_of (map unsigned_of (pieces k (low_bits (k * m) x))) ≡ Some (pos n)
 read_all k x m n worth left h r =
-    ap decimal_of (numbers_of_pieces k m x (omega arith)) ∙ ap (λ b. cond b (Some (pos (sum_of_digits (groups k m x)))) None) r.digits ∙ ap (λ s. Some (pos s)) (sym r.number)
+    ap decimal_of (numbers_of_pieces k m x (omega arith)) ∙ ap (λ b. cond b (Some (pos (decimal_value (groups k m x)))) None) r.digits ∙ ap (λ s. Some (pos s)) (sym r.number)
 
 -- a group above 9 among the groups
 pub bad_digit : (k m i x : ℕ) → i < m → 9 < x / 2 ^ (k * i) % 2 ^ k → are_digits (groups k m x) ≡ false
@@ -91,7 +91,7 @@ bad_digit k (suc m) i x l h = elim (cases_lt i m) [
 pub read_bad : (k x m i n worth left : ℕ) → 4 ≤ k → i < m → ReadDigits k x i n worth left → 9 < left % 2 ^ k → decimal_of (map unsigned_of (pieces k (low_bits (k * m) x))) ≡ None
 read_bad k x m i n worth left h l r g =
     let big : 9 < x / 2 ^ (k * i) % 2 ^ k = subst (λ y. 9 < y % 2 ^ k) r.left_is g in
-    ap decimal_of (numbers_of_pieces k m x (omega arith)) ∙ ap (λ b. cond b (Some (pos (sum_of_digits (groups k m x)))) None) (bad_digit k m i x l big)
+    ap decimal_of (numbers_of_pieces k m x (omega arith)) ∙ ap (λ b. cond b (Some (pos (decimal_value (groups k m x)))) None) (bad_digit k m i x l big)
 
 -- ---- writing
 
@@ -127,7 +127,7 @@ length-decimals : (m n : ℕ) → length (decimals m n) ≡ m
 length-decimals zero n = refl
 length-decimals (suc m) n = ap suc (length-decimals m n)
 
-sum-decimals : (m n : ℕ) → sum_of_digits (decimals m n) ≡ n % 10 ^ m
+sum-decimals : (m n : ℕ) → decimal_value (decimals m n) ≡ n % 10 ^ m
 sum-decimals zero n = omega arith
 sum-decimals (suc m) n =
     let e : 10 ^ suc m ≡ 10 * 10 ^ m = pow-suc 10 m ∙ omega arith in
@@ -165,4 +165,4 @@ packed_zero k (suc i) =
 pub packed_number : (k m n : ℕ) → 4 ≤ k → n < 10 ^ m → decimal_of (map unsigned_of (pieces k (low_bits (k * m) (packed k m n)))) ≡ Some (pos n)
 packed_number k m n h small =
     ap decimal_of (numbers_of_pieces k m (packed k m n) (omega arith) ∙ groups-packed k m n h)
-    ∙ ap (λ b. cond b (Some (pos (sum_of_digits (decimals m n)))) None) (are_decimals m n) ∙ ap (λ s. Some (pos s)) (sum-decimals m n ∙ mod-eq_of_lt small)
+    ∙ ap (λ b. cond b (Some (pos (decimal_value (decimals m n)))) None) (are_decimals m n) ∙ ap (λ s. Some (pos s)) (sum-decimals m n ∙ mod-eq_of_lt small)

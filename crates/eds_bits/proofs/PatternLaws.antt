@@ -8,7 +8,7 @@ use Rattle.std.proofs.lemmas.Int.{ints}
 use Rattle.std.proofs.lemmas.Nat.{pow_pos, same_from_place}
 use Rattle.std.proofs.lemmas.Bool.{cases_lt, and_parts, leb-false, lt-leb}
 use Rattle.eds_bits.specs.Bits.{Bits, low_bits, unsigned_of, pieces}
-use Rattle.eds_bits.specs.Encodings.{number_by, digits_by, least_by, greatest_by, digit_bits, sum_of_digits, decimal_of}
+use Rattle.eds_bits.specs.Encodings.{number_by, digits_by, least_by, greatest_by, digit_bits, decimal_value, decimal_of}
 use Rattle.eds_bits.specs.declared.forms.Encoding.{Encoding}
 use Rattle.eds_bits.specs.declared.forms.Encoding.TheVariants.{Unsigned, TwosComplement, SignMagnitude, OnesComplement, PackedBcd, Bcd}
 use Rattle.eds_bits.proofs.Patterns.{halves, unsigned_pattern, twos_positive, twos_negative, ones_positive, ones_negative, magnitude_positive, magnitude_negative}
@@ -45,14 +45,14 @@ magnitude_says k x n l h e = elim (cases_lt x (2 ^ (k - 1))) [
   | inr from ↦ inr (from, some_same (pos (2 ^ (k - 1)) -ℤ pos x) n (sym (magnitude_negative k x (pos (2 ^ (k - 1)) -ℤ pos x) l from h refl) ∙ e))
 ]
 
-decimal_says : (ds : List ℕ) (n : ℤ) → decimal_of ds ≡ Some n → (are_digits ds ≡ true) × (pos (sum_of_digits ds) ≡ n)
+decimal_says : (ds : List ℕ) (n : ℤ) → decimal_of ds ≡ Some n → (are_digits ds ≡ true) × (pos (decimal_value ds) ≡ n)
 decimal_says ds n e = go (are_digits ds) refl e
   where
-    go : (b : Bool) → are_digits ds ≡ b → cond b (Some (pos (sum_of_digits ds))) None ≡ Some n → (are_digits ds ≡ true) × (pos (sum_of_digits ds) ≡ n)
-    go true d e = (d, some_same (pos (sum_of_digits ds)) n e)
+    go : (b : Bool) → are_digits ds ≡ b → cond b (Some (pos (decimal_value ds))) None ≡ Some n → (are_digits ds ≡ true) × (pos (decimal_value ds) ≡ n)
+    go true d e = (d, some_same (pos (decimal_value ds)) n e)
     go false d e = absurd cc
 
-groups_say : (w m x : ℕ) (n : ℤ) → 0 < w → decimal_of (map unsigned_of (pieces w (low_bits (w * m) x))) ≡ Some n → (are_digits (groups w m x) ≡ true) × (pos (sum_of_digits (groups w m x)) ≡ n)
+groups_say : (w m x : ℕ) (n : ℤ) → 0 < w → decimal_of (map unsigned_of (pieces w (low_bits (w * m) x))) ≡ Some n → (are_digits (groups w m x) ≡ true) × (pos (decimal_value (groups w m x)) ≡ n)
 groups_say w m x n h e = decimal_says (groups w m x) n (ap decimal_of (sym (numbers_of_pieces w m x h)) ∙ e)
 
 -- ---- a pattern's number is one of the encoding's
@@ -65,7 +65,7 @@ pub record IsAmong (e : Encoding) (k : ℕ) (n : ℤ) : Type 0 where
 digits_bound : (w m x : ℕ) (n : ℤ) → 0 < w → decimal_of (map unsigned_of (pieces w (low_bits (w * m) x))) ≡ Some n → (pos 0 ≤ℤ n) × (n ≤ℤ pos (10 ^ m - 1))
 digits_bound w m x n h e =
     let said = groups_say w m x n h e in
-    let small : sum_of_digits (groups w m x) < 10 ^ m = rw length-groups at (sum_small (groups w m x) said.0) in
+    let small : decimal_value (groups w m x) < 10 ^ m = rw length-groups at (sum_small (groups w m x) said.0) in
     (omega (arith, ints, said.1), omega (arith, ints, said.1))
 
 pub among : (e : Encoding) (k x : ℕ) (n : ℤ) → 1 ≤ k → k % digit_bits e ≡ 0 → x < 2 ^ k → number_by e (low_bits k x) ≡ Some n → IsAmong e k n
@@ -103,7 +103,7 @@ abbrev pub NotZero : ℤ → Type 0
 NotZero n = n ≡ pos 0 → ⊥
 
 -- digits with one length and one sum are the same
-digits_same : (ds es : List ℕ) → are_digits ds ≡ true → are_digits es ≡ true → length ds ≡ length es → sum_of_digits ds ≡ sum_of_digits es → ds ≡ es
+digits_same : (ds es : List ℕ) → are_digits ds ≡ true → are_digits es ≡ true → length ds ≡ length es → decimal_value ds ≡ decimal_value es → ds ≡ es
 digits_same [] [] h g l e = refl
 digits_same [] (y ∷ es) h g l e = absurd (omega arith)
 digits_same (x ∷ ds) [] h g l e = absurd (omega arith)
@@ -112,9 +112,9 @@ digits_same (x ∷ ds) (y ∷ es) h g l e =
     let ge = and_parts (nat_le y 9) (are_digits es) g in
     let tails : length ds ≡ length es = omega arith in
     let worth : 10 ^ length es ≡ 10 ^ length ds = ap (λ i. 10 ^ i) (sym tails) in
-    let small : sum_of_digits es < 10 ^ length ds = subst (λ w. sum_of_digits es < w) worth (sum_small es ge.1) in
-    let sums : x * 10 ^ length ds + sum_of_digits ds ≡ y * 10 ^ length ds + sum_of_digits es = e ∙ ap (λ w. y * w + sum_of_digits es) worth in
-    let places = same_from_place x (sum_of_digits ds) y (sum_of_digits es) (10 ^ length ds) (sum_small ds hd.1) small sums in
+    let small : decimal_value es < 10 ^ length ds = subst (λ w. decimal_value es < w) worth (sum_small es ge.1) in
+    let sums : x * 10 ^ length ds + decimal_value ds ≡ y * 10 ^ length ds + decimal_value es = e ∙ ap (λ w. y * w + decimal_value es) worth in
+    let places = same_from_place x (decimal_value ds) y (decimal_value es) (10 ^ length ds) (sum_small ds hd.1) small sums in
     rw (places.0, digits_same ds es hd.1 ge.1 tails places.1) refl
 
 same_digits : (w m x y : ℕ) (n : ℤ) → 0 < w → decimal_of (map unsigned_of (pieces w (low_bits (w * m) x))) ≡ Some n → decimal_of (map unsigned_of (pieces w (low_bits (w * m) y))) ≡ Some n → low_bits (w * m) x ≡ low_bits (w * m) y
@@ -255,9 +255,9 @@ bad_to (d ∷ ds) h = elim h as (λ s. (nat_le d 9 && are_digits ds) ≡ false) 
 ]
 
 no_decimal : (ds : List ℕ) → IsNone (decimal_of ds) ↔ HasOne (λ d. 9 < d) ds
-no_decimal ds = (λ n. bad_from ds (from (are_digits ds) n), λ h. ap (λ b. is_some (cond b (Some (pos (sum_of_digits ds))) None)) (bad_to ds h))
+no_decimal ds = (λ n. bad_from ds (from (are_digits ds) n), λ h. ap (λ b. is_some (cond b (Some (pos (decimal_value ds))) None)) (bad_to ds h))
   where
-    from : (b : Bool) → is_some (cond b (Some (pos (sum_of_digits ds))) None) ≡ false → b ≡ false
+    from : (b : Bool) → is_some (cond b (Some (pos (decimal_value ds))) None) ≡ false → b ≡ false
     from true e = absurd cc
     from false e = refl
 

@@ -70,14 +70,14 @@ digits_by OnesComplement bs = []
 digits_by PackedBcd bs = map unsigned_of (pieces 4 bs)
 digits_by Bcd bs = map unsigned_of (pieces 8 bs)
 
--- the sum of the digits times their powers of ten
-abbrev pub sum_of_digits : List ℕ → ℕ
-sum_of_digits [] = 0
-sum_of_digits (d ∷ ds) = d * 10 ^ length ds + sum_of_digits ds
+-- the value of decimal digits: their sum, each times its power of ten
+abbrev pub decimal_value : List ℕ → ℕ
+decimal_value [] = 0
+decimal_value (d ∷ ds) = d * 10 ^ length ds + decimal_value ds
 
--- that sum, where no digit is above 9
+-- that value, where no digit is above 9
 abbrev pub decimal_of : List ℕ → Option ℤ
-decimal_of ds = if list_all (λ d. nat_le d 9) ds then Some (pos (sum_of_digits ds)) else None
+decimal_of ds = if list_all (λ d. nat_le d 9) ds then Some (pos (decimal_value ds)) else None
 
 -- the number of a pattern that begins with the octet that counts most
 abbrev pub number_by : Encoding → Bits → Option ℤ

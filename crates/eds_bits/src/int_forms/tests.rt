@@ -133,8 +133,8 @@ fn small_forms_are_as_by_hand(rt: HostRuntime) {
             }
         }
     }
-    // Four binary encodings of nine sizes and packed digits of three, digits of one, and each but the last
-    // of these encodings with its eight bits in the other order too.
+    // Four binary encodings of nine sizes, packed digits of three and others of one; and each of the six once
+    // more with its octets, of which there is one, in the other order.
     assert_eq!(rt; forms, 36 + 3 + 1 + 6);
 }
 
