@@ -1,16 +1,16 @@
 -- A table of types with everything that the laws speak of, and what some bits say by it.
-use Rattle.std.specs.Prelude.{ℕ, ◌-◌, ◌^◌, ◌≤◌, nat_le, ℤ, pos, List, [], ◌∷◌, ◌++◌, Bool, true, false, Option, Some, None, codes}
+use Rattle.std.specs.Prelude.{ℕ, ◌-◌, ◌^◌, ◌≤◌, nat_le, ℤ, pos, List, [], ◌∷◌, ◌++◌, length, take, Bool, true, false, Option, Some, None, codes}
 use Rattle.std.proofs.Common.{◌≡◌, refl, arith}
 use Rattle.std.proofs.lemmas.Bool.{leb-true}
 use Rattle.eds_base.specs.declared.ids.TypeId.{TypeId}
 use Rattle.eds_base.specs.declared.fault.Step.TheVariants as step
-use Rattle.eds_base.specs.declared.fault.Reason.TheVariants.{Short, NoDerived, LengthDiffers, CheckDiffers}
+use Rattle.eds_base.specs.declared.fault.Reason.TheVariants.{Short, NoDerived, LengthDiffers, CheckDiffers, Constraint as ConstraintFails}
 use Rattle.eds_base.specs.declared.spans.Span.{Span}
 use Rattle.eds_bits.specs.declared.forms.CheckKind.TheVariants.{Crc16Ccitt}
 use Rattle.eds_bits.specs.declared.forms.Encoding.TheVariants.{Unsigned}
 use Rattle.eds_bits.specs.declared.forms.ByteOrder.TheVariants.{Big}
 use Rattle.eds_bits.specs.declared.forms.IntForm.{IntForm}
-use Rattle.eds_bits.specs.Bits.{bits_of}
+use Rattle.eds_bits.specs.Bits.{Bits, bits_of}
 use Rattle.eds_bits.specs.Encodings.{IsForm}
 use Rattle.eds_types.specs.declared.row.Constraint.{Constraint}
 use Rattle.eds_types.specs.declared.row.Kind.{Kind}
@@ -107,16 +107,24 @@ example = packets ++ (checks ++ lists)
 abbrev pub housekeeping : Plain
 housekeeping = fields 7 (plains_of (num (pos 0) ∷ truth false ∷ truth false ∷ num (pos 291) ∷ label (codes "UNSEG") ∷ num (pos 5) ∷ num (pos 48879) ∷ []))
 
+-- the first n of the bits spell the value
+abbrev pub Reads : Table → ℕ → Plain → Bits → ℕ → Type 0
+Reads t id v b n = (n ≤ length b) × Spells t id v (take n b)
+
 pub record WorkedFrames : Type 0 where
   pub packet : Spells example 6 housekeeping (bits_of (0x01 ∷ 0x23 ∷ 0xC0 ∷ 0x05 ∷ 0x00 ∷ 0x01 ∷ 0xBE ∷ 0xEF ∷ []))
   -- the length entry tells one octet more than there are
   pub longer : FailsAt example 6 (bits_of (0x01 ∷ 0x23 ∷ 0xC0 ∷ 0x05 ∷ 0x00 ∷ 0x02 ∷ 0xBE ∷ 0xEF ∷ [])) (LengthDiffers, step.Part (id_of 6) 6 ∷ [])
   -- no packet has the application number 292
   pub other : FailsAt example 6 (bits_of (0x01 ∷ 0x24 ∷ 0xC0 ∷ 0x05 ∷ 0x00 ∷ 0x01 ∷ 0xBE ∷ 0xEF ∷ [])) (NoDerived, step.Choice (id_of 6) ∷ [])
+  -- read as the container of the application 291, the number doesn't meet its constraint
+  pub asked : FailsAt example 7 (bits_of (0x01 ∷ 0x24 ∷ 0xC0 ∷ 0x05 ∷ 0x00 ∷ 0x01 ∷ 0xBE ∷ 0xEF ∷ [])) (ConstraintFails, step.Part (id_of 6) 3 ∷ [])
   pub empty : FailsAt example 6 [] (Short, step.Part (id_of 6) 0 ∷ [])
   -- the trailers of the derived container come before those of its base
   pub trailers : Spells example 11 (fields 12 (plains_of (num (pos 1) ∷ num (pos 2) ∷ num (pos 3) ∷ num (pos 4) ∷ []))) (bits_of (1 ∷ 2 ∷ 3 ∷ 4 ∷ []))
   -- the text 123456789 and its check
   pub checked : Spells example 10 (fields 10 (plains_of (text (codes "123456789") ∷ []))) (bits_of (codes "123456789" ++ 0x29 ∷ 0xB1 ∷ []))
   pub unchecked : FailsAt example 10 (bits_of (codes "123456789" ++ 0x29 ∷ 0xB2 ∷ [])) (CheckDiffers, step.Part (id_of 10) 1 ∷ [])
-  pub list : Spells example 14 (fields 14 (plains_of (num (pos 2) ∷ items (plains_of (num (pos 10) ∷ num (pos 11) ∷ [])) ∷ []))) (bits_of (2 ∷ 0xAB ∷ []))
+  -- a list of three items of four bits, and four bits that are left
+  pub list : Reads example 14 (fields 14 (plains_of (num (pos 3) ∷ items (plains_of (num (pos 10) ∷ num (pos 11) ∷ num (pos 12) ∷ [])) ∷ []))) (bits_of (3 ∷ 0xAB ∷ 0xC0 ∷ [])) 20
+  pub short_list : FailsAt example 14 (bits_of (0xFF ∷ 0x12 ∷ 0x34 ∷ [])) (Short, step.Part (id_of 14) 1 ∷ step.Item 4 ∷ [])
