@@ -1,17 +1,15 @@
 -- The rules of a table that is written out, by tests that compute.
-use Rattle.std.proofs.Common.{◌≡◌, ℕ, zero, suc, ◌+◌, ◌<◌, ◌≤◌, ℤ, Bool, true, false, cond, List, [], ◌∷◌, ◌++◌, length, filter, reverse, Option, Some, None, refl, sym, ap, subst, ◌∙◌, arith, ◌⊎◌, inl, inr, int_eq}
-use Rattle.std.specs.Prelude.{slice_get, slice_index, nat_lt, not, ◌&&◌, ◌==◌, IsTrue}
+use Rattle.std.proofs.Common.{◌≡◌, ℕ, zero, suc, ◌+◌, ◌<◌, ◌≤◌, ℤ, Bool, true, false, cond, List, [], ◌∷◌, ◌++◌, length, filter, reverse, Option, Some, None, refl, sym, ap, subst, ◌∙◌, arith, inl, inr, int_eq}
+use Rattle.std.specs.Prelude.{slice_get, slice_index, nat_lt, not, ◌&&◌}
 use Rattle.std.specs.List.{AllByRecursion, flat_map, filter_map, range_with_len}
-use Rattle.std.proofs.lemmas.Bool.{and_parts, both_ways, cases_Bool, cases_lt, eqb-true, eq-eqb, ltb-true, leb-true, not-true}
+use Rattle.std.proofs.lemmas.Bool.{and_parts, both_ways, cases_lt, ltb-true, leb-true, not-true}
 use Rattle.std.specs.Prelude.{nat_le}
 use Rattle.std.proofs.lemmas.Bool.Decides.{Decides-int_eq}
 use Rattle.std.proofs.lemmas.Option.{slice_get_past}
 use Rattle.eds_base.specs.Reading.{same as same_text}
-use Rattle.eds_bits.specs.Lists.{Has}
 use Rattle.eds_types.specs.declared.row.TypeRow.{TypeRow}
-use Rattle.eds_types.specs.declared.row.Part.{Part}
-use Rattle.eds_types.specs.Fields.{type_by, IsUnder}
-use Rattle.eds_types.specs.Rows.{Table, numbers, base_of, base_in, container_in, container_of, entries_in, trailers_in, entries_of, trailers_of, constraints_in, constraints_of, chain, chain_before, chain_within, list_has, derived, is_concrete, Placed, placed_from, placed_entries, placed_trailers, own_parts, sequence}
+use Rattle.eds_types.specs.Fields.{type_by}
+use Rattle.eds_types.specs.Rows.{Table, numbers, base_of, base_in, container_in, entries_in, trailers_in, entries_of, trailers_of, chain, chain_before, chain_within, list_has, derived, is_concrete, Placed, placed_from, placed_entries, placed_trailers, own_parts, sequence}
 use Rattle.eds_types.specs.Rules.{AreDistinct, IsHollow, IsNested, name_of, is_length, SequenceKeeps}
 use Rattle.eds_types.proofs.LeastBound.{there}
 use Rattle.eds_types.proofs.SameValues.{text_same}

@@ -5,8 +5,6 @@ use Rattle.std.specs.List.{AllByRecursion, flat_map}
 use Rattle.std.proofs.lemmas.Grind.{flat_map-append}
 use Rattle.std.proofs.Math.Seq.{drop-append_seam}
 use Rattle.eds_types.specs.declared.row.Constraint.{Constraint as Condition}
-use Rattle.eds_types.specs.declared.row.Part.{Part}
-use Rattle.eds_types.specs.declared.row.Part.TheVariants as part
 use Rattle.eds_bits.specs.Bits.{Bits}
 use Rattle.eds_bits.specs.Style.{any}
 use Rattle.eds_overlap.proofs.Course.{tail, same_tail}
@@ -15,9 +13,9 @@ use Rattle.eds_types.proofs.FieldKeys.{Holds-more, Holds-before, NotAbove, Field
 use Rattle.eds_types.proofs.Grown.{grown}
 use Rattle.eds_types.specs.Failing.{Station, condition, entry, choice, end, later, own, course, GoesOn, NoneUnder, Where, Passes}
 use Rattle.eds_types.specs.Fields.{Field, values_of, Holds, IsUnder, IsCandidate, StartsAbove, constraints_along}
-use Rattle.eds_types.specs.Plain.{Plain, items}
+use Rattle.eds_types.specs.Plain.{Plain}
 use Rattle.eds_types.specs.Rows.{Table, chain, is_concrete, constraints_of, Placed, placed_entries, placed_trailers, sequence}
-use Rattle.eds_types.specs.Spelling.{State, started, PartPasses, PartsPass, SizeFits, ContainerSpells}
+use Rattle.eds_types.specs.Spelling.{State, started, PartsPass, SizeFits, ContainerSpells}
 use Rattle.eds_types.specs.Tables.{IsTable}
 use Rattle.eds_types.proofs.AllOf.{All-weaker, All-both, All-front, All-back, All-apply}
 

@@ -5,7 +5,7 @@ use Rattle.eds_base.specs.declared.fault.Step.TheVariants as step
 use Rattle.eds_base.specs.declared.fault.Reason.TheVariants.{Short, NoDerived, LengthDiffers, CheckDiffers, Constraint as ConstraintFails}
 use Rattle.eds_bits.specs.Bits.{bits_of, low_bits, first_pieces}
 use Rattle.eds_bits.specs.Scalars.{remainder}
-use Rattle.eds_types.specs.Plain.{num, truth, label, text, items, fields, plains_of}
+use Rattle.eds_types.specs.Plain.{num, text, items, fields, plains_of}
 use Rattle.eds_types.specs.Reading.{read_within, read_under, read_chain, read_parts, read_items, check_all, first_from, same}
 use Rattle.eds_types.specs.Rows.{id_of, chain_within}
 use Rattle.eds_overlap.specs.Laws.{read_type}

@@ -1,19 +1,16 @@
 -- The table of the examples keeps the rules, and no two of its containers overlap.
-use Rattle.std.proofs.Common.{◌≡◌, ℕ, zero, suc, ◌+◌, ◌-◌, ◌^◌, ◌<◌, ◌≤◌, ℤ, pos, Bool, true, false, List, [], ◌∷◌, ◌++◌, length, map, Option, Some, None, refl, sym, ap, subst, ◌∙◌, arith, ◌⊎◌, inl, inr}
-use Rattle.std.specs.Prelude.{nat_le, nat_lt, ◌≤ℤ◌, ◌&&◌, ◌||◌, ◌==◌, not, codes, slice_get, slice_index, IsTrue, IsSome}
+use Rattle.std.proofs.Common.{◌≡◌, ℕ, suc, ◌-◌, ◌^◌, ◌<◌, ◌≤◌, ℤ, pos, Bool, true, false, List, [], ◌∷◌, ◌++◌, length, map, Option, Some, None, refl, sym, ap, subst, ◌∙◌, arith, ◌⊎◌, inl, inr}
+use Rattle.std.specs.Prelude.{nat_le, nat_lt, ◌≤ℤ◌, ◌&&◌, ◌||◌, ◌==◌, not, codes, slice_get, slice_index}
 use Rattle.std.specs.List.{AllByRecursion}
 use Rattle.std.proofs.lemmas.Bool.{and_parts, cases_Bool, cases_lt, eqb-true, eq-eqb, ne_eqb}
 use Rattle.std.proofs.lemmas.Option.{slice_get_past}
 use Rattle.std.proofs.lemmas.Int.{ints}
 use Rattle.std.proofs.lemmas.Nat.{pow_pos}
-use Rattle.eds_base.specs.declared.spans.Span.{Span}
 use Rattle.eds_base.specs.Spans.{IsWithin}
-use Rattle.eds_bits.specs.declared.forms.IntForm.{IntForm}
 use Rattle.eds_bits.specs.IntForms.{HasNumber}
-use Rattle.eds_bits.specs.Lists.{Has, HasOne}
+use Rattle.eds_bits.specs.Lists.{Has}
 use Rattle.eds_types.specs.declared.row.Constraint.{Constraint}
 use Rattle.eds_types.specs.declared.row.TypeRow.{TypeRow}
-use Rattle.eds_types.specs.declared.row.Kind.{Kind}
 use Rattle.eds_types.specs.declared.row.Kind.TheVariants as kind
 use Rattle.eds_types.specs.declared.row.Part.TheVariants as part
 use Rattle.eds_bits.specs.declared.forms.CheckKind.TheVariants.{Crc16Ccitt}
@@ -23,8 +20,8 @@ use Rattle.eds_types.specs.Tables.{IsTable}
 use Rattle.eds_types.proofs.ChainLaws.{child_is}
 use Rattle.eds_types.proofs.LeastBound.{there}
 use Rattle.eds_base.specs.declared.ids.TypeId.{TypeId}
-use Rattle.eds_types.specs.Rows.{Table, id_of, base_in, base_of, container_in, constraints_in, constraints_of, chain, chain_within, list_has, derived, own_parts, sequence, Placed}
-use Rattle.eds_types.specs.Rules.{IsHollow, IsBefore, IsCounted, IsScale, HoldsCheck, KindKeeps, HasKind, DerivesFrom, IsContainer, ItemsNest, PartKeeps, ConstraintKeeps, KeepsRules}
+use Rattle.eds_types.specs.Rows.{id_of, base_in, base_of, container_in, constraints_in, constraints_of, chain, chain_within, list_has, derived, own_parts, sequence, Placed}
+use Rattle.eds_types.specs.Rules.{IsHollow, IsCounted, HoldsCheck, KindKeeps, HasKind, DerivesFrom, ItemsNest, PartKeeps, ConstraintKeeps, KeepsRules}
 use Rattle.eds_types.proofs.RuleFacts.{table_of}
 use Rattle.eds_types.proofs.Tests.{has_in}
 use Rattle.eds_overlap.specs.Example.{example, flags, unsigned_form, any_number}
@@ -60,24 +57,58 @@ few_parts a b h k = (omega arith, omega arith)
 kinds : EachRow (λ id row. KindKeeps row.kind) 0 example
 kinds = (
   any_domain 3 refl refl,
-  (tt,
-  (any_domain 11 refl refl,
-  (any_domain 14 refl refl,
-  (any_domain 16 refl refl,
-  (flags_listing,
-  (few_parts 7 0 (omega arith) (omega arith),
-  (few_parts 1 0 (omega arith) (omega arith),
-  (any_domain 8 refl refl,
-  (tt,
-  (few_parts 1 1 (omega arith) (omega arith),
-  (few_parts 1 1 (omega arith) (omega arith),
-  (few_parts 1 1 (omega arith) (omega arith),
-  (any_domain 4 refl refl,
-  (few_parts 2 0 (omega arith) (omega arith),
-  (few_parts 1 0 (omega arith) (omega arith),
-  (few_parts 0 0 (omega arith) (omega arith),
-  (few_parts 0 0 (omega arith) (omega arith),
-  tt)))))))))))))))))
+  (
+    tt,
+    (
+      any_domain 11 refl refl,
+      (
+        any_domain 14 refl refl,
+        (
+          any_domain 16 refl refl,
+          (
+            flags_listing,
+            (
+              few_parts 7 0 (omega arith) (omega arith),
+              (
+                few_parts 1 0 (omega arith) (omega arith),
+                (
+                  any_domain 8 refl refl,
+                  (
+                    tt,
+                    (
+                      few_parts 1 1 (omega arith) (omega arith),
+                      (
+                        few_parts 1 1 (omega arith) (omega arith),
+                        (
+                          few_parts 1 1 (omega arith) (omega arith),
+                          (
+                            any_domain 4 refl refl,
+                            (
+                              few_parts 2 0 (omega arith) (omega arith),
+                              (
+                                few_parts 1 0 (omega arith) (omega arith),
+                                (
+                                  few_parts 0 0 (omega arith) (omega arith),
+                                  (
+                                    few_parts 0 0 (omega arith) (omega arith),
+                                    tt,
+                                  ),
+                                ),
+                              ),
+                            ),
+                          ),
+                        ),
+                      ),
+                    ),
+                  ),
+                ),
+              ),
+            ),
+          ),
+        ),
+      ),
+    ),
+  ),
 )
 
 -- ---- bases
@@ -122,24 +153,58 @@ some_base P a b e h = let q : a ≡ b = cc in subst P q h
 bases : EachRow HasBase 0 example
 bases = (
   (λ b e. none_base _ b e),
-  ((λ b e. none_base _ b e),
-  ((λ b e. none_base _ b e),
-  ((λ b e. none_base _ b e),
-  ((λ b e. none_base _ b e),
-  ((λ b e. none_base _ b e),
-  ((λ b e. none_base _ b e),
-  ((λ b e. some_base (λ b. HasKind example b (DerivesFrom (row 7).kind)) 6 b e (row 6, refl, tt)),
-  ((λ b e. none_base _ b e),
-  ((λ b e. none_base _ b e),
-  ((λ b e. none_base _ b e),
-  ((λ b e. none_base _ b e),
-  ((λ b e. some_base (λ b. HasKind example b (DerivesFrom (row 12).kind)) 11 b e (row 11, refl, tt)),
-  ((λ b e. none_base _ b e),
-  ((λ b e. none_base _ b e),
-  ((λ b e. none_base _ b e),
-  ((λ b e. some_base (λ b. HasKind example b (DerivesFrom (row 16).kind)) 15 b e (row 15, refl, tt)),
-  ((λ b e. some_base (λ b. HasKind example b (DerivesFrom (row 17).kind)) 15 b e (row 15, refl, tt)),
-  tt)))))))))))))))))
+  (
+    (λ b e. none_base _ b e),
+    (
+      (λ b e. none_base _ b e),
+      (
+        (λ b e. none_base _ b e),
+        (
+          (λ b e. none_base _ b e),
+          (
+            (λ b e. none_base _ b e),
+            (
+              (λ b e. none_base _ b e),
+              (
+                (λ b e. some_base (λ b. HasKind example b (DerivesFrom (row 7).kind)) 6 b e (row 6, refl, tt)),
+                (
+                  (λ b e. none_base _ b e),
+                  (
+                    (λ b e. none_base _ b e),
+                    (
+                      (λ b e. none_base _ b e),
+                      (
+                        (λ b e. none_base _ b e),
+                        (
+                          (λ b e. some_base (λ b. HasKind example b (DerivesFrom (row 12).kind)) 11 b e (row 11, refl, tt)),
+                          (
+                            (λ b e. none_base _ b e),
+                            (
+                              (λ b e. none_base _ b e),
+                              (
+                                (λ b e. none_base _ b e),
+                                (
+                                  (λ b e. some_base (λ b. HasKind example b (DerivesFrom (row 16).kind)) 15 b e (row 15, refl, tt)),
+                                  (
+                                    (λ b e. some_base (λ b. HasKind example b (DerivesFrom (row 17).kind)) 15 b e (row 15, refl, tt)),
+                                    tt,
+                                  ),
+                                ),
+                              ),
+                            ),
+                          ),
+                        ),
+                      ),
+                    ),
+                  ),
+                ),
+              ),
+            ),
+          ),
+        ),
+      ),
+    ),
+  ),
 )
 
 no_base : (k base : ℕ) → slice_get example k ≡ None → base_of example k ≡ Some base → ⊥
@@ -199,24 +264,58 @@ keep y = each_number (λ y. AllByRecursion Keep (own_parts example y)) example r
     rows : EachRow (λ y r. AllByRecursion Keep (own_parts example y)) 0 example
     rows = (
       tt,
-      (tt,
-      (tt,
-      (tt,
-      (tt,
-      (tt,
-      ((solid_at 0 (omega arith) refl, (solid_at 1 (omega arith) refl, (solid_at 1 (omega arith) refl, (solid_at 2 (omega arith) refl, (solid_at 5 (omega arith) refl, (solid_at 3 (omega arith) refl, (length_keeps, tt))))))),
-      ((solid_at 4 (omega arith) refl, tt),
-      (tt,
-      (tt,
-      ((solid_at 9 (omega arith) refl, (((row 4, refl, holds_check), refl), tt)),
-      ((solid_at 8 (omega arith) refl, (solid_at 8 (omega arith) refl, tt)),
-      ((solid_at 8 (omega arith) refl, (solid_at 8 (omega arith) refl, tt)),
-      (tt,
-      ((solid_at 8 (omega arith) refl, ((solid_at 13 (omega arith) refl, counted), tt)),
-      ((solid_at 8 (omega arith) refl, tt),
-      (tt,
-      (tt,
-      tt)))))))))))))))))
+      (
+        tt,
+        (
+          tt,
+          (
+            tt,
+            (
+              tt,
+              (
+                tt,
+                (
+                  (solid_at 0 (omega arith) refl, (solid_at 1 (omega arith) refl, (solid_at 1 (omega arith) refl, (solid_at 2 (omega arith) refl, (solid_at 5 (omega arith) refl, (solid_at 3 (omega arith) refl, (length_keeps, tt))))))),
+                  (
+                    (solid_at 4 (omega arith) refl, tt),
+                    (
+                      tt,
+                      (
+                        tt,
+                        (
+                          (solid_at 9 (omega arith) refl, (((row 4, refl, holds_check), refl), tt)),
+                          (
+                            (solid_at 8 (omega arith) refl, (solid_at 8 (omega arith) refl, tt)),
+                            (
+                              (solid_at 8 (omega arith) refl, (solid_at 8 (omega arith) refl, tt)),
+                              (
+                                tt,
+                                (
+                                  (solid_at 8 (omega arith) refl, ((solid_at 13 (omega arith) refl, counted), tt)),
+                                  (
+                                    (solid_at 8 (omega arith) refl, tt),
+                                    (
+                                      tt,
+                                      (
+                                        tt,
+                                        tt,
+                                      ),
+                                    ),
+                                  ),
+                                ),
+                              ),
+                            ),
+                          ),
+                        ),
+                      ),
+                    ),
+                  ),
+                ),
+              ),
+            ),
+          ),
+        ),
+      ),
     )
 
 -- ---- sequences and constraints
@@ -277,24 +376,58 @@ Constrained k r = (base : ℕ) → base_of example k ≡ Some base → AllByRecu
 constrained : EachRow Constrained 0 example
 constrained = (
   (λ b e. tt),
-  ((λ b e. tt),
-  ((λ b e. tt),
-  ((λ b e. tt),
-  ((λ b e. tt),
-  ((λ b e. tt),
-  ((λ b e. tt),
-  ((λ b e. some_base (λ b. AllByRecursion (ConstraintKeeps example b 7) (constraints_of example 7)) 6 b e (of_hk, tt)),
-  ((λ b e. tt),
-  ((λ b e. tt),
-  ((λ b e. tt),
-  ((λ b e. tt),
-  ((λ b e. tt),
-  ((λ b e. tt),
-  ((λ b e. tt),
-  ((λ b e. tt),
-  ((λ b e. some_base (λ b. AllByRecursion (ConstraintKeeps example b 16) (constraints_of example 16)) 15 b e (of_low, tt)),
-  ((λ b e. some_base (λ b. AllByRecursion (ConstraintKeeps example b 17) (constraints_of example 17)) 15 b e (of_high, tt)),
-  tt)))))))))))))))))
+  (
+    (λ b e. tt),
+    (
+      (λ b e. tt),
+      (
+        (λ b e. tt),
+        (
+          (λ b e. tt),
+          (
+            (λ b e. tt),
+            (
+              (λ b e. tt),
+              (
+                (λ b e. some_base (λ b. AllByRecursion (ConstraintKeeps example b 7) (constraints_of example 7)) 6 b e (of_hk, tt)),
+                (
+                  (λ b e. tt),
+                  (
+                    (λ b e. tt),
+                    (
+                      (λ b e. tt),
+                      (
+                        (λ b e. tt),
+                        (
+                          (λ b e. tt),
+                          (
+                            (λ b e. tt),
+                            (
+                              (λ b e. tt),
+                              (
+                                (λ b e. tt),
+                                (
+                                  (λ b e. some_base (λ b. AllByRecursion (ConstraintKeeps example b 16) (constraints_of example 16)) 15 b e (of_low, tt)),
+                                  (
+                                    (λ b e. some_base (λ b. AllByRecursion (ConstraintKeeps example b 17) (constraints_of example 17)) 15 b e (of_high, tt)),
+                                    tt,
+                                  ),
+                                ),
+                              ),
+                            ),
+                          ),
+                        ),
+                      ),
+                    ),
+                  ),
+                ),
+              ),
+            ),
+          ),
+        ),
+      ),
+    ),
+  ),
 )
 
 constraints_keep : (k base : ℕ) → base_of example k ≡ Some base → AllByRecursion (ConstraintKeeps example base k) (constraints_of example k)

@@ -1,13 +1,11 @@
 -- Reading is exact, for each type that is there, nested less than n deep and clear.
-use Rattle.std.proofs.Common.{◌≡◌, ℕ, zero, suc, ◌+◌, ◌<◌, List, [], ◌∷◌, ◌++◌, length, reverse, Option, Some, None, refl, sym, subst, ◌∙◌, append_assoc, arith, inl, inr}
-use mathlib.Core.List.{reverse_aux}
+use Rattle.std.proofs.Common.{◌≡◌, ℕ, zero, suc, ◌<◌, List, [], length, reverse, Option, Some, refl, sym, subst, ◌∙◌, arith}
 use Rattle.std.specs.Prelude.{slice_get, ℤ}
 use Rattle.std.specs.List.{AllByRecursion, flat_map}
 use Rattle.eds_types.specs.declared.row.TypeRow.{TypeRow}
 use Rattle.eds_types.specs.declared.row.Kind.{Kind}
 use Rattle.eds_types.specs.declared.row.Kind.TheVariants as kind
 use Rattle.eds_types.specs.declared.row.Container.{Container}
-use Rattle.eds_types.specs.declared.row.Part.{Part}
 use Rattle.eds_bits.specs.Bits.{Bits}
 use Rattle.eds_bits.specs.Lists.{Has, HasOne}
 use Rattle.eds_bits.specs.Style.{any}
@@ -26,10 +24,10 @@ use Rattle.eds_types.specs.Overlap.{Reaches, ReachesByKind, IsClear}
 use Rattle.eds_types.specs.Overlap.Reaches.{step}
 use Rattle.eds_types.specs.Plain.{Plain, num}
 use Rattle.eds_types.specs.Reading.{read_kind, read_row, read_within}
-use Rattle.eds_types.specs.Rows.{Table, base_of, chain, chain_within, chain_before, entries_of, trailers_of, Placed, placed_from, placed_entries, placed_trailers, sequence}
+use Rattle.eds_types.specs.Rows.{Table, chain, Placed, placed_entries, placed_trailers, sequence}
 use Rattle.eds_types.specs.Spelling.{KindSpells, SpellsWithin}
-use Rattle.eds_types.specs.Tables.{IsTable, IsPartType, IsItemType, IsIntRow, IsIntKind, IsOneLabel}
-use Rattle.eds_types.proofs.AllOf.{All-weaker, All-both, All-front, All-back, All-pair, All-has, All-at, All-unflat, All-flat, All-reverse, one_of}
+use Rattle.eds_types.specs.Tables.{IsTable, IsItemType, IsIntRow, IsIntKind, IsOneLabel}
+use Rattle.eds_types.proofs.AllOf.{All-weaker, All-front, All-back, All-pair, All-has, All-unflat, one_of}
 
 module _ (t : Table) (is : IsTable t) where
   -- what is clear, is clear further down

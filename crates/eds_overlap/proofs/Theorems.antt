@@ -1,5 +1,5 @@
 -- The laws, from exact reading, the canonical spellings and decided packing.
-use Rattle.std.proofs.Common.{◌≡◌, ℕ, ◌+◌, ◌<◌, ◌≤◌, suc, [], ◌∷◌, ◌++◌, length, Ok, Err, refl, sym, ap, subst, ◌∙◌, ◌⊎◌, inl, inr, arith, append-nil}
+use Rattle.std.proofs.Common.{◌≡◌, ℕ, ◌+◌, ◌≤◌, suc, [], ◌∷◌, ◌++◌, length, Ok, Err, refl, sym, ap, subst, ◌∙◌, ◌⊎◌, inl, inr, arith, append-nil}
 use Rattle.std.proofs.lemmas.Bool.{cases_lt}
 use Rattle.std.proofs.lemmas.List.{length-append}
 use Rattle.eds_bits.specs.Bits.{Bits}
@@ -21,7 +21,7 @@ use Rattle.eds_types.proofs.PackingLaws.{packs_within}
 use Rattle.eds_types.proofs.RuleFacts.{table_of, facts_of}
 use Rattle.eds_types.proofs.SpellingSizes.{canon_spells, same_size}
 use Rattle.eds_overlap.proofs.ReadingLaws.{exact}
-use Rattle.eds_overlap.specs.Laws.{IsThere, IsReadable, read_type, IsRead, ReadingIsExact, OneOutcome, OneReading, FaultsStay, OneSize, HasCanonical, OneCanonical, SameValue, LeastIsLeast, PackingIsDecided}
+use Rattle.eds_overlap.specs.Laws.{IsReadable, read_type, IsRead, ReadingIsExact, OneOutcome, OneReading, FaultsStay, OneSize, HasCanonical, OneCanonical, SameValue, LeastIsLeast, PackingIsDecided}
 
 all_of : (t : Table) (id : ℕ) → IsReadable t id → Exact (read_within 32 t id) (SpellsWithin 32 any t id) (FailsWithin 32 t id)
 all_of t id h = exact t (table_of t h.rules) 32 id (record { rank = (table_of t h.rules).nested id; there = h.there; clear = h.clear })
@@ -89,7 +89,7 @@ one_canonical t id h v b c s k = unique_within t (facts_of t h.rules) 32 id v b 
 pub same_value : SameValue
 same_value t id h v w b c x y s k p q = (
   (λ e. unique_within t (facts_of t h.rules) 32 id w x y (subst (λ z. Canon t id z x) e p) q),
-  (λ e. (one_reading t id h v w x y [] (canon_spells t 32 id v x p) (canon_spells t 32 id w y q) (sym e ∙ sym (append-nil x))).1)
+  (λ e. (one_reading t id h v w x y [] (canon_spells t 32 id v x p) (canon_spells t 32 id w y q) (sym e ∙ sym (append-nil x))).1),
 )
 
 pub least_is_least : LeastIsLeast

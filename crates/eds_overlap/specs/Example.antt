@@ -72,8 +72,8 @@ packets =
     ∷ scalar (codes "Demo/U16") (any_number 16 refl refl)
     ∷ scalar (codes "Demo/Flags") (kind.Enum (unsigned_form 2 refl refl) flags)
     ∷ container (codes "Demo/Packet") None true [] (
-      entry (codes "Version") 0 ∷ entry (codes "Type") 1 ∷ entry (codes "SecHdr") 1 ∷ entry (codes "Apid") 2 ∷ entry (codes "SeqFlags") 5 ∷ entry (codes "SeqCount") 3
-      ∷ part.Length (codes "Length") (id_of 4) (pos 7) (pos 1) ∷ []
+    entry (codes "Version") 0 ∷ entry (codes "Type") 1 ∷ entry (codes "SecHdr") 1 ∷ entry (codes "Apid") 2 ∷ entry (codes "SeqFlags") 5 ∷ entry (codes "SeqCount") 3
+    ∷ part.Length (codes "Length") (id_of 4) (pos 7) (pos 1) ∷ []
     ) []
     ∷ container (codes "Demo/Hk") (Some (id_of 6)) false (where_entry 6 3 (span 291 291) ∷ []) (entry (codes "Temp") 4 ∷ []) []
     ∷ []

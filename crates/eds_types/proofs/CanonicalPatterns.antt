@@ -1,22 +1,19 @@
 -- Canonical patterns of scalars, texts and binaries: there is one, and only one.
-use Rattle.std.proofs.Common.{◌≡◌, ℕ, zero, suc, ◌+◌, ◌*◌, ◌-◌, ◌/◌, ◌%◌, ◌<◌, ◌≤◌, ◌^◌, ℤ, pos, Bool, true, false, cond, not, List, [], ◌∷◌, ◌++◌, length, take, drop, replicate, refl, sym, ap, subst, ◌∙◌, arith, ◌⊎◌, inl, inr, IsAscii, int_eq}
-use Rattle.std.specs.Prelude.{◌==◌, nat_lt, All}
+use Rattle.std.proofs.Common.{◌≡◌, ℕ, zero, suc, ◌+◌, ◌*◌, ◌-◌, ◌/◌, ◌%◌, ◌<◌, ◌≤◌, ◌^◌, Bool, true, false, cond, not, List, [], ◌∷◌, ◌++◌, length, take, replicate, refl, sym, ap, subst, ◌∙◌, arith, ◌⊎◌, inl, inr, IsAscii}
+use Rattle.std.specs.Prelude.{◌==◌, nat_lt}
 use lib.Utf8.{encode, encodes, scalar, scalars, scalar_cases}
 use Rattle.std.specs.List.{AllByRecursion}
 use Rattle.std.proofs.lemmas.Bool.{and_parts, and_from, cases_Bool, cases_lt, not-true, both_ways, ltb-true, eqb-true, eqb-false}
-use Rattle.std.proofs.lemmas.Bool.Decides.{Decides-int_eq}
 use Rattle.std.proofs.lemmas.List.{length-append, length-take}
-use Rattle.std.proofs.lemmas.List.Elements.{recursion_from_All, All-from_recursion}
-use Rattle.eds_bits.specs.declared.forms.IntForm.{IntForm}
+use Rattle.std.proofs.lemmas.List.Elements.{All-from_recursion}
 use Rattle.eds_bits.specs.declared.forms.BoolForm.{BoolForm}
 use Rattle.eds_bits.specs.Lists.{Has}
 use Rattle.eds_bits.specs.Bits.{Bits, bits_of, octets_of, oct, filled, unsigned_of, bit_value}
-use Rattle.eds_bits.specs.IntForms.{IsInt}
 use Rattle.eds_bits.specs.Scalars.{IsBool, IsText, IsCoded, before_stop}
 use Rattle.eds_bits.specs.Style.{any, canonical, is_zero}
 use Rattle.eds_bits.proofs.BitLaws.{unsigned_same}
-use Rattle.eds_bits.proofs.OctetLaws.{length-bits_of, octets_of-bits_of, bits_of-octets_of, octets_of_below}
-use Rattle.eds_types.specs.Packing.{TextFits, IsFilled}
+use Rattle.eds_bits.proofs.OctetLaws.{length-bits_of, octets_of-bits_of, bits_of-octets_of}
+use Rattle.eds_types.specs.Packing.{TextFits}
 use Rattle.eds_types.proofs.AllOf.{All-both}
 use Rattle.eds_types.proofs.ScalarReading.{IsTextSize, text_form}
 use Rattle.eds_types.proofs.TextReading.{before_found, before_on, none_has, more_has, later_has, octets_octs, length_octs}

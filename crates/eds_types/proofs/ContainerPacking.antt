@@ -1,48 +1,35 @@
 -- The values of a container pack, or fail at the first station that they don't pass.
-use Rattle.std.proofs.Common.{◌≡◌, ◌≢◌, ℕ, zero, suc, ◌+◌, ◌<◌, ◌≤◌, ℤ, pos, Bool, true, false, cond, List, [], ◌∷◌, ◌++◌, length, map, drop, reverse, Option, Some, None, refl, sym, ap, subst, ◌∙◌, append_assoc, append-nil, arith, ◌⊎◌, inl, inr}
-use Rattle.std.specs.Prelude.{slice_get, IfSome, IsSome, is_some, IsTrue}
+use Rattle.std.proofs.Common.{◌≡◌, ℕ, ◌+◌, ℤ, pos, Bool, true, false, cond, List, [], ◌∷◌, ◌++◌, length, map, drop, reverse, Option, Some, None, refl, sym, ap, subst, ◌∙◌, append_assoc, arith, ◌⊎◌, inl, inr}
+use Rattle.std.specs.Prelude.{IfSome, IsSome, is_some, IsTrue}
 use Rattle.std.specs.List.{AllByRecursion, flat_map}
 use Rattle.std.proofs.lemmas.Bool.{cases_Bool, cases_eq, both_ways}
 use Rattle.eds_base.specs.declared.fault.Step.TheVariants as step
 use Rattle.eds_types.specs.declared.reason.PackReason.TheVariants as reason
-use Rattle.eds_base.specs.declared.ids.TypeId.{TypeId}
-use Rattle.eds_bits.specs.declared.forms.CheckKind.{CheckKind}
-use Rattle.eds_types.specs.declared.row.TypeRow.{TypeRow}
-use Rattle.eds_types.specs.declared.row.Kind.{Kind}
-use Rattle.eds_types.specs.declared.row.Kind.TheVariants as kind
 use Rattle.eds_types.specs.declared.row.Container.{Container}
 use Rattle.eds_types.specs.declared.row.Part.{Part}
 use Rattle.eds_types.specs.declared.row.Part.TheVariants as part
 use Rattle.eds_types.specs.declared.row.Constraint.{Constraint as Condition}
-use Rattle.eds_bits.proofs.FormLaws.{has_canonical}
 use Rattle.eds_bits.specs.Bits.{Bits, octets_for}
-use Rattle.eds_bits.specs.Scalars.{check_of}
 use Rattle.eds_bits.specs.Style.{any, canonical}
-use Rattle.eds_types.proofs.CanonicalSpelling.{parts_before, listed_number, check_spelt}
-use Rattle.eds_types.proofs.DecidedPacking.{Decided, decided_as, refused, of_kind, of_other_kind, items_decided}
+use Rattle.eds_types.proofs.CanonicalSpelling.{parts_before}
+use Rattle.eds_types.proofs.DecidedPacking.{Decided, decided_as, refused}
 use Rattle.eds_types.proofs.DistinctParts.{sequence_apart}
 use Rattle.eds_types.proofs.FieldKeys.{IsOther}
 use Rattle.eds_types.proofs.FieldTypes.{sequence_placed}
-use Rattle.eds_types.proofs.LengthChoices.{Choice, Choices, tell_all, NumbersDecided, Told, choices_decide, run_chosen}
-use Rattle.eds_types.proofs.TableFacts.{Facts, IsNumbered, CheckFits, FixedFits, ListsFit}
+use Rattle.eds_types.proofs.LengthChoices.{Choices, tell_all, NumbersDecided, Told, choices_decide, run_chosen}
+use Rattle.eds_types.proofs.TableFacts.{Facts, ListsFit}
 use Rattle.eds_types.proofs.PackingRuns.{count_by, paired_on, paired_past, At, TypesDecided, Supplies, IsFine, part_decides, part_one, Built, build, run_fine}
-use Rattle.eds_types.proofs.Ranks.{sequence_lower, row_there}
-use Rattle.eds_types.proofs.SameValues.{list_of-plains_of}
-use Rattle.eds_types.proofs.ScalarPacking.{int_decided, enum_decided, bool_decided, text_decided, bin_decided}
-use Rattle.eds_types.proofs.CanonicalPatterns.{bool_exists, text_exists}
-use Rattle.eds_types.proofs.ScalarReading.{size_of}
-use Rattle.eds_types.specs.Rules.{KindKeeps, IsValueOf, HasKind}
-use Rattle.eds_types.proofs.SpellingSizes.{canon_spells, same_size, parts_any, parts_size, all_sized, fields_by, same_row}
+use Rattle.eds_types.proofs.SpellingSizes.{canon_spells, same_size, parts_any, parts_size, all_sized, fields_by}
 use Rattle.eds_types.proofs.Tests.{cases_has, holds_from, holds_in, found_is, none_is}
-use Rattle.eds_types.specs.Failing.{Station, condition, entry, choice, end, later, chain_under, own, course, length_step, path_steps}
-use Rattle.eds_types.specs.Fields.{Field, values_of, has_value, paired, listed, type_by, Holds, IsUnder, constraints_along, IsCandidate}
-use Rattle.eds_types.specs.Packing.{Where, behind, here, valued, ItemFails, shape, kind_shape, StationFails, FirstFails, HasFields, NoSizeFits, ContainerPackFails, OfKindFails, KindPackFails, PackFailsWithin}
-use Rattle.eds_types.specs.Plain.{Plain, num, label, truth, text, bits, items, fields, Plains, list_of, plain}
+use Rattle.eds_types.specs.Failing.{Station, condition, entry, choice, end, later, own, course, length_step, path_steps}
+use Rattle.eds_types.specs.Fields.{Field, values_of, has_value, paired, type_by, Holds, IsUnder, constraints_along, IsCandidate}
+use Rattle.eds_types.specs.Packing.{Where, behind, here, valued, StationFails, FirstFails, HasFields, NoSizeFits, ContainerPackFails, PackFailsWithin}
+use Rattle.eds_types.specs.Plain.{Plain, items}
 use Rattle.eds_types.specs.Reading.{holds, candidate_under}
 use Rattle.eds_types.specs.Rows.{Table, chain, container_of, concrete_in, is_concrete, constraints_of, Placed, placed_entries, placed_trailers, sequence, id_of}
-use Rattle.eds_types.specs.Spelling.{State, started, PartPasses, PartsPass, SizeFits, ContainerSpells, ItemsSpell, KindSpells, SpellsWithin}
-use Rattle.eds_types.specs.Tables.{IsTable, IsPartType, IsItemType, IsIntRow, IsIntKind}
-use Rattle.eds_types.proofs.AllOf.{All-weaker, All-both, All-front, All-back, All-pair, All-each}
+use Rattle.eds_types.specs.Spelling.{State, started, PartPasses, PartsPass, SizeFits, ContainerSpells, SpellsWithin}
+use Rattle.eds_types.specs.Tables.{IsTable}
+use Rattle.eds_types.proofs.AllOf.{All-weaker, All-both, All-front, All-back, All-each}
 
 -- ---- what is there
 
@@ -324,9 +311,9 @@ module _ (t : Table) (is : IsTable t) (can : Facts t) (n : ℕ) where
     sound_of h b sp =
         All-both Sound (front t k) (end ∷ [])
         (front_all t Sound k
-            (All-weaker (Holds t (sp.end).fields) (λ (c : Condition). (y : ℕ) → Sound (condition y c)) (λ c q y g x. x.0 (subst (λ l. Holds t l c) same q)) (constraints_along t k) sp.constraints)
-            (All-weaker (λ (p : Placed). IsFine t n fs p p.part) (λ (p : Placed). Sound (entry p)) (λ p q g x. q x.0 x.1) (sequence t k) (run_fine t n fs (sequence t k) [] started sp.end f b (at_start h) known.types known.lists tt (sequence_placed t k) tt same sp.parts))
-            (λ g x. sp.most_derived x.0 x.1 x.2 (subst (λ l. IsCandidate t k x.0 l) (sym same) x.3)))
+        (All-weaker (Holds t (sp.end).fields) (λ (c : Condition). (y : ℕ) → Sound (condition y c)) (λ c q y g x. x.0 (subst (λ l. Holds t l c) same q)) (constraints_along t k) sp.constraints)
+        (All-weaker (λ (p : Placed). IsFine t n fs p p.part) (λ (p : Placed). Sound (entry p)) (λ p q g x. q x.0 x.1) (sequence t k) (run_fine t n fs (sequence t k) [] started sp.end f b (at_start h) known.types known.lists tt (sequence_placed t k) tt same sp.parts))
+        (λ g x. sp.most_derived x.0 x.1 x.2 (subst (λ l. IsCandidate t k x.0 l) (sym same) x.3)))
         ((λ g x. x.0 sp.end b sp.parts same sp.size), tt)
       where
         same : (sp.end).fields ≡ fs
@@ -335,9 +322,9 @@ module _ (t : Table) (is : IsTable t) (can : Facts t) (n : ℕ) where
     one_fault : AllByRecursion (λ s. (g w : Where) → Stops s g → Stops s w → g ≡ w) (front t k ++ end ∷ [])
     one_fault = All-both (λ s. (g w : Where) → Stops s g → Stops s w → g ≡ w) (front t k) (end ∷ [])
         (front_all t (λ s. (g w : Where) → Stops s g → Stops s w → g ≡ w) k
-            (All-each (λ (c : Condition). (y : ℕ) (g w : Where) → Stops (condition y c) g → Stops (condition y c) w → g ≡ w) (λ c y g w a b. a.1 ∙ sym b.1) (constraints_along t k))
-            (All-weaker (λ (p : Placed). TypesDecided t n fs p.part) (λ (p : Placed). (g w : Where) → Stops (entry p) g → Stops (entry p) w → g ≡ w) (λ p d g w a b. a.2 ∙ ap (behind (step.Part (id_of p.container) p.place)) (part_one t n fs p p.part d a.0 b.0 a.1 b.1) ∙ sym b.2) (sequence t k) known.types)
-            (λ g w a b. a.4 ∙ sym b.4))
+        (All-each (λ (c : Condition). (y : ℕ) (g w : Where) → Stops (condition y c) g → Stops (condition y c) w → g ≡ w) (λ c y g w a b. a.1 ∙ sym b.1) (constraints_along t k))
+        (All-weaker (λ (p : Placed). TypesDecided t n fs p.part) (λ (p : Placed). (g w : Where) → Stops (entry p) g → Stops (entry p) w → g ≡ w) (λ p d g w a b. a.2 ∙ ap (behind (step.Part (id_of p.container) p.place)) (part_one t n fs p p.part d a.0 b.0 a.1 b.1) ∙ sym b.2) (sequence t k) known.types)
+        (λ g w a b. a.4 ∙ sym b.4))
         ((λ g w a b. a.1 ∙ sym b.1), tt)
 
     -- a concrete container under the type, with as many fields

@@ -2,7 +2,7 @@
 use Rattle.std.proofs.Common.{◌≡◌, ℕ, zero, suc, ◌+◌, ℤ, pos, Bool, true, false, cond, List, [], ◌∷◌, ◌++◌, length, reverse, Option, Some, None, refl, sym, ap, subst, ◌∙◌, append_assoc, append-nil, ◌⊎◌, inl, inr}
 use Rattle.std.specs.Prelude.{slice_get, ◌==◌, ◌&&◌}
 use Rattle.std.specs.List.{AllByRecursion, flat_map}
-use Rattle.std.proofs.lemmas.Bool.{cases_eq, and_parts, eqb-true}
+use Rattle.std.proofs.lemmas.Bool.{and_parts, eqb-true}
 use Rattle.std.proofs.lemmas.List.{length-append}
 use Rattle.eds_base.specs.declared.ids.TypeId.{TypeId}
 use Rattle.eds_types.specs.declared.row.TypeRow.{TypeRow}
@@ -10,7 +10,6 @@ use Rattle.eds_types.specs.declared.row.Kind.{Kind}
 use Rattle.eds_types.specs.declared.row.Kind.TheVariants as kind
 use Rattle.eds_types.specs.declared.row.Part.{Part}
 use Rattle.eds_types.specs.declared.row.Part.TheVariants as part
-use Rattle.eds_types.specs.declared.row.Constraint.{Constraint as Condition}
 use Rattle.eds_base.specs.Reading.{same as same_text}
 use Rattle.eds_base.specs.Spans.{IsWithin}
 use Rattle.eds_bits.specs.Bits.{Bits}
@@ -18,13 +17,11 @@ use Rattle.eds_bits.specs.Lists.{HasOne}
 use Rattle.eds_bits.specs.Style.{any}
 use Rattle.eds_types.proofs.FieldKeys.{on_nothing, no_value}
 use Rattle.eds_types.specs.Domains.{InDomainOf, InDomainOfRow, InDomainOfType, InDomain}
-use Rattle.eds_types.specs.Fields.{Field, value_at, values_of, has_value, paired, fields_in, value_on, type_by, type_on, listed, labelled_by, row_at, number_by, number_on, Holds, IsUnder, StartsAbove, constraints_along, IsCandidate}
-use Rattle.eds_types.specs.Overlap.{IsClear}
-use Rattle.eds_types.specs.Overlap.Reaches.{itself}
+use Rattle.eds_types.specs.Fields.{Field, value_at, values_of, has_value, paired, fields_in, value_on, type_by, type_on, listed, labelled_by, row_at, number_by, number_on}
 use Rattle.eds_types.specs.Plain.{Plain, items, Plains}
 use Rattle.eds_types.specs.Rows.{Table, chain, entries_of, trailers_of, Placed, placed_from, placed_entries, placed_trailers, sequence}
 use Rattle.eds_types.specs.Spelling.{State, started, PartPasses, PartsPass, KindSpells, SpellsWithin}
-use Rattle.eds_types.proofs.AllOf.{All-weaker, All-both}
+use Rattle.eds_types.proofs.AllOf.{All-both}
 
 module _ (t : Table) where
   -- the part stands at that place of the container

@@ -1,8 +1,8 @@
 -- No value has a spelling of fewer bits than the least size of its type.
-use Rattle.std.proofs.Common.{◌≡◌, ℕ, zero, suc, ◌+◌, ◌*◌, ◌<◌, ◌≤◌, min, ℤ, pos, nat_abs, Bool, true, false, cond, List, [], ◌∷◌, ◌++◌, length, map, filter, sum_by, Option, Some, None, refl, sym, ap, subst, ◌∙◌, arith, ◌⊎◌, inl, inr}
+use Rattle.std.proofs.Common.{◌≡◌, ℕ, zero, suc, ◌+◌, ◌*◌, ◌<◌, ◌≤◌, min, ℤ, pos, nat_abs, Bool, true, false, cond, List, [], ◌∷◌, ◌++◌, length, map, filter, sum_by, Option, Some, refl, sym, ap, subst, ◌∙◌, arith, ◌⊎◌, inl, inr}
 use Rattle.std.specs.Prelude.{◌≤ℤ◌, ◌&&◌, ◌==◌, slice_get, IsTrue}
 use Rattle.std.specs.List.{AllByRecursion, range_with_len}
-use Rattle.std.proofs.lemmas.Bool.{cases_Bool, cases_eq, cases_lt, both_ways}
+use Rattle.std.proofs.lemmas.Bool.{cases_eq, cases_lt, both_ways}
 use Rattle.std.proofs.lemmas.Int.{ints}
 use Rattle.std.proofs.lemmas.List.{length-append}
 use Rattle.std.proofs.Math.Nat.{mul-le-mul_right}
@@ -14,16 +14,15 @@ use Rattle.eds_base.specs.declared.ids.TypeId.{TypeId}
 use Rattle.eds_bits.specs.Bits.{Bits}
 use Rattle.eds_bits.specs.Scalars.{IsText}
 use Rattle.eds_bits.specs.Style.{any}
-use Rattle.eds_types.specs.declared.row.TypeRow.{TypeRow}
 use Rattle.eds_types.specs.declared.row.Kind.{Kind}
 use Rattle.eds_types.specs.declared.row.Kind.TheVariants as kind
 use Rattle.eds_types.specs.declared.row.Part.{Part}
 use Rattle.eds_types.specs.declared.row.Part.TheVariants as part
 use Rattle.eds_types.specs.Domains.{int_domain_in}
-use Rattle.eds_types.specs.Fields.{Field, value_at, has_value, row_at, type_by, part_at, IsUnder}
-use Rattle.eds_types.specs.LeastSize.{no_size, least_of, least_number, least_number_in, least_count, size_by, least_part, least_sequence, least_family, least_row, least_within}
+use Rattle.eds_types.specs.Fields.{Field, value_at, has_value, row_at, type_by, part_at}
+use Rattle.eds_types.specs.LeastSize.{least_of, least_number, least_number_in, least_count, size_by, least_part, least_sequence, least_family, least_row, least_within}
 use Rattle.eds_types.specs.Plain.{Plain, items, list_of}
-use Rattle.eds_types.specs.Rows.{Table, chain, list_has, derived, container_in, concrete_in, is_concrete, Placed, sequence}
+use Rattle.eds_types.specs.Rows.{Table, chain, list_has, container_in, concrete_in, is_concrete, Placed, sequence}
 use Rattle.eds_types.specs.Spelling.{State, started, count_in, ItemsSpell, PartPasses, PartsPass, KindSpells, SpellsWithin}
 use Rattle.eds_types.proofs.AllOf.{All-both}
 use Rattle.eds_types.proofs.FieldTypes.{IsPlaced, Fits, found_by, ValueFits, part_keeps, sequence_placed}

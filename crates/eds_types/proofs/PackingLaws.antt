@@ -1,48 +1,36 @@
 -- Each value of a type that is there has a canonical spelling or fails to pack at one place for one reason, and not both.
-use Rattle.std.proofs.Common.{◌≡◌, ◌≢◌, ℕ, zero, suc, ◌+◌, ◌<◌, ◌≤◌, ℤ, pos, Bool, true, false, cond, List, [], ◌∷◌, ◌++◌, length, map, drop, reverse, Option, Some, None, refl, sym, ap, subst, ◌∙◌, append_assoc, append-nil, arith, ◌⊎◌, inl, inr}
-use Rattle.std.specs.Prelude.{slice_get, IfSome, IsSome, IsTrue}
-use Rattle.std.specs.List.{AllByRecursion, flat_map}
-use Rattle.std.proofs.lemmas.Bool.{cases_Bool, cases_eq, both_ways}
-use Rattle.eds_base.specs.declared.fault.Step.TheVariants as step
+use Rattle.std.proofs.Common.{◌≡◌, ℕ, zero, suc, ◌<◌, ℤ, true, false, List, length, Option, Some, None, refl, sym, ap, subst, ◌∙◌, arith, ◌⊎◌, inl, inr}
+use Rattle.std.specs.Prelude.{slice_get, IsSome}
+use Rattle.std.proofs.lemmas.Bool.{cases_eq}
 use Rattle.eds_types.specs.declared.reason.PackReason.TheVariants as reason
 use Rattle.eds_base.specs.declared.ids.TypeId.{TypeId}
-use Rattle.eds_bits.specs.declared.forms.CheckKind.{CheckKind}
 use Rattle.eds_types.specs.declared.row.TypeRow.{TypeRow}
 use Rattle.eds_types.specs.declared.row.Kind.{Kind}
 use Rattle.eds_types.specs.declared.row.Kind.TheVariants as kind
 use Rattle.eds_types.specs.declared.row.Container.{Container}
 use Rattle.eds_types.specs.declared.row.Part.{Part}
 use Rattle.eds_types.specs.declared.row.Part.TheVariants as part
-use Rattle.eds_types.specs.declared.row.Constraint.{Constraint as Condition}
 use Rattle.eds_bits.proofs.FormLaws.{has_canonical}
-use Rattle.eds_bits.specs.Bits.{Bits, octets_for}
-use Rattle.eds_bits.specs.Scalars.{check_of}
-use Rattle.eds_bits.specs.Style.{any, canonical}
-use Rattle.eds_types.proofs.CanonicalSpelling.{parts_before, listed_number, check_spelt}
+use Rattle.eds_bits.specs.Bits.{Bits}
+use Rattle.eds_bits.specs.Style.{canonical}
+use Rattle.eds_types.proofs.CanonicalSpelling.{listed_number, check_spelt}
 use Rattle.eds_types.proofs.DecidedPacking.{Decided, decided_as, refused, of_kind, of_other_kind, items_decided}
-use Rattle.eds_types.proofs.DistinctParts.{sequence_apart}
-use Rattle.eds_types.proofs.FieldKeys.{IsOther}
-use Rattle.eds_types.proofs.FieldTypes.{sequence_placed}
-use Rattle.eds_types.proofs.LengthChoices.{Choice, Choices, tell_all, NumbersDecided, Told, choices_decide, run_chosen}
-use Rattle.eds_types.proofs.TableFacts.{Facts, IsNumbered, CheckFits, FixedFits, ListsFit}
-use Rattle.eds_types.proofs.PackingRuns.{count_by, paired_on, paired_past, At, TypesDecided, Supplies, IsFine, part_decides, part_one, Built, build, run_fine}
+use Rattle.eds_types.proofs.LengthChoices.{Choice, NumbersDecided}
+use Rattle.eds_types.proofs.TableFacts.{Facts, IsNumbered, CheckFits, FixedFits}
+use Rattle.eds_types.proofs.PackingRuns.{Supplies}
 use Rattle.eds_types.proofs.Ranks.{sequence_lower, row_there}
-use Rattle.eds_types.proofs.SameValues.{list_of-plains_of}
 use Rattle.eds_types.proofs.ScalarPacking.{int_decided, enum_decided, bool_decided, text_decided, bin_decided}
 use Rattle.eds_types.proofs.CanonicalPatterns.{bool_exists, text_exists}
 use Rattle.eds_types.proofs.ScalarReading.{size_of}
 use Rattle.eds_types.specs.Rules.{KindKeeps, IsValueOf, HasKind}
-use Rattle.eds_types.proofs.SpellingSizes.{canon_spells, same_size, parts_any, parts_size, all_sized, fields_by, same_row}
-use Rattle.eds_types.proofs.Tests.{cases_has, holds_from, holds_in, found_is, none_is}
-use Rattle.eds_types.specs.Failing.{Station, condition, entry, choice, end, later, chain_under, own, course, length_step, path_steps}
-use Rattle.eds_types.specs.Fields.{Field, values_of, has_value, paired, listed, type_by, Holds, IsUnder, constraints_along, IsCandidate}
-use Rattle.eds_types.specs.Packing.{Where, behind, here, valued, ItemFails, shape, kind_shape, StationFails, FirstFails, HasFields, NoSizeFits, ContainerPackFails, OfKindFails, KindPackFails, PackFailsWithin}
-use Rattle.eds_types.specs.Plain.{Plain, num, label, truth, text, bits, items, fields, Plains, list_of, plain}
-use Rattle.eds_types.specs.Reading.{holds, candidate_under}
-use Rattle.eds_types.specs.Rows.{Table, chain, container_of, concrete_in, is_concrete, constraints_of, Placed, placed_entries, placed_trailers, sequence, id_of}
-use Rattle.eds_types.specs.Spelling.{State, started, PartPasses, PartsPass, SizeFits, ContainerSpells, ItemsSpell, KindSpells, SpellsWithin}
+use Rattle.eds_types.proofs.SpellingSizes.{same_row}
+use Rattle.eds_types.specs.Fields.{Field, listed, type_by, IsUnder}
+use Rattle.eds_types.specs.Packing.{Where, here, ItemFails, shape, ContainerPackFails, OfKindFails, KindPackFails, PackFailsWithin}
+use Rattle.eds_types.specs.Plain.{Plain, num, bits, items, fields, Plains, list_of, plain}
+use Rattle.eds_types.specs.Rows.{Table, Placed, sequence}
+use Rattle.eds_types.specs.Spelling.{ContainerSpells, ItemsSpell, KindSpells, SpellsWithin}
 use Rattle.eds_types.specs.Tables.{IsTable, IsPartType, IsItemType, IsIntRow, IsIntKind}
-use Rattle.eds_types.proofs.AllOf.{All-weaker, All-both, All-front, All-back, All-pair, All-each}
+use Rattle.eds_types.proofs.AllOf.{All-weaker, All-pair}
 use Rattle.eds_types.proofs.ContainerPacking.{Known, container_decided}
 
 module _ (t : Table) (is : IsTable t) (can : Facts t) where
@@ -170,7 +158,7 @@ module _ (t : Table) (is : IsTable t) (can : Facts t) where
     con_decided : (c : Container) (v : Plain) → Decided (KindSpells canonical t CN id (kind.Con c) v) (KindPackFails t CN FN id (kind.Con c) v)
     con_decided c (fields k f) = of_kind t CN FN id (kind.Con c) (fields k f) (KindSpells canonical t CN id (kind.Con c) (fields k f)) (λ b p. ap shape p.2) (λ g q. ap shape q.2)
         (decided_as (ContainerSpells canonical t CN id k (list_of f)) (KindSpells canonical t CN id (kind.Con c) (fields k f)) (ContainerPackFails t CN FN id k (list_of f)) (OfKindFails t CN FN id (kind.Con c) (fields k f)) (container_decided t is can n id k (list_of f) (known_of k))
-            (λ b sp. (k, f, refl, sp)) back (λ g q. (k, f, refl, q)) fault)
+        (λ b sp. (k, f, refl, sp)) back (λ g q. (k, f, refl, q)) fault)
       where
         back : (b : Bits) → KindSpells canonical t CN id (kind.Con c) (fields k f) b → ContainerSpells canonical t CN id k (list_of f) b
         back b p = let e = fields_is k p.0 f p.1 p.2 in subst (λ x. ContainerSpells canonical t CN id x (list_of f) b) (sym e.0) (subst (λ y. ContainerSpells canonical t CN id p.0 (list_of y) b) (sym e.1) p.3)

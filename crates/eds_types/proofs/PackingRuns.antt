@@ -1,39 +1,30 @@
 -- A canonical run over the parts of a sequence, from values that don't fail; and a run has no part that fails.
-use Rattle.std.proofs.Common.{◌≡◌, ℕ, zero, suc, ◌+◌, ◌<◌, ℤ, pos, nat_abs, ◌+ℤ◌, ◌*ℤ◌, Bool, true, false, cond, List, [], ◌∷◌, ◌++◌, length, replicate, Option, Some, None, refl, sym, ap, subst, ◌∙◌, append_assoc, append-nil, arith, ◌⊎◌, inl, inr}
-use Rattle.std.specs.Prelude.{slice_get, ◌&&◌, ◌==◌}
+use Rattle.std.proofs.Common.{◌≡◌, ℕ, ◌+◌, ℤ, pos, ◌+ℤ◌, ◌*ℤ◌, Bool, true, false, cond, List, [], ◌∷◌, ◌++◌, length, replicate, Option, Some, None, refl, sym, ap, subst, ◌∙◌, append_assoc, append-nil, arith, ◌⊎◌, inl, inr}
 use Rattle.std.specs.List.{AllByRecursion}
-use Rattle.std.proofs.lemmas.Bool.{and_parts, and_from, cases_Bool, both_ways, eqb-true, eq-eqb, false_from_ne_true}
+use Rattle.std.proofs.lemmas.Bool.{cases_Bool, both_ways}
 use Rattle.eds_types.specs.declared.reason.PackReason.TheVariants as reason
-use Rattle.eds_types.specs.declared.row.TypeRow.{TypeRow}
-use Rattle.eds_types.specs.declared.row.Kind.{Kind}
-use Rattle.eds_types.specs.declared.row.Kind.TheVariants as kind
 use Rattle.eds_types.specs.declared.row.Part.{Part}
 use Rattle.eds_types.specs.declared.row.Part.TheVariants as part
-use Rattle.eds_base.specs.Spans.{IsWithin}
 use Rattle.eds_bits.specs.Bits.{Bits}
-use Rattle.eds_bits.specs.Lists.{HasOne}
 use Rattle.eds_bits.specs.Scalars.{check_of}
 use Rattle.eds_bits.specs.Style.{any, canonical}
 use Rattle.eds_types.proofs.DecidedPacking.{Decided, items_decided}
 use Rattle.eds_types.proofs.DistinctParts.{Pairwise, Apart}
 use Rattle.eds_types.proofs.FieldKeys.{IsOther, value_stays}
-use Rattle.eds_types.proofs.FieldTypes.{Stands, IsPlaced, ValueFits, FieldFits, Fits, Found, found_by, part_keeps}
+use Rattle.eds_types.proofs.FieldTypes.{Stands, IsPlaced, ValueFits, Fits, found_by, part_keeps}
 use Rattle.eds_types.proofs.Grown.{only_grown}
 use Rattle.eds_types.proofs.ListCounts.{IsKnown, found_there, known_more, known_count, count_stands, value_counts}
 use Rattle.eds_types.proofs.LengthChoices.{Choice, tell, Choices, tell_all}
-use Rattle.eds_types.proofs.TableFacts.{IsCount, ListFits, ListsFit}
+use Rattle.eds_types.proofs.TableFacts.{ListFits, ListsFit}
 use Rattle.eds_types.proofs.SameValues.{same-is, is-same}
-use Rattle.eds_types.proofs.SpellingSizes.{canon_spells, part_any, parts_any, added_same, same_row}
+use Rattle.eds_types.proofs.SpellingSizes.{canon_spells, part_any, added_same}
 use Rattle.eds_types.proofs.CanonicalPatterns.{zeros_false, length-zeros, zeros_zero}
 use Rattle.eds_types.specs.Fields.{Field, value_at, has_value, paired, type_by}
 use Rattle.eds_types.specs.Packing.{Where, here, ItemFails, ListFails, PartFails, valued, PackFailsWithin}
 use Rattle.eds_types.specs.Plain.{Plain, num, label, truth, text, bits, items, fields, Plains, list_of, plain}
 use Rattle.eds_types.specs.Reading.{same}
-use Rattle.eds_types.specs.Rules.{IsInt, IsIntBy}
-use Rattle.eds_base.specs.declared.spans.Span.{Span}
-use Rattle.eds_bits.specs.declared.forms.IntForm.{IntForm}
 use Rattle.eds_types.specs.Rows.{Table, Placed}
-use Rattle.eds_types.specs.Spelling.{State, passed, took, told, count_in, ItemsSpell, PartPasses, PartsPass, KindSpells, SpellsWithin}
+use Rattle.eds_types.specs.Spelling.{State, passed, took, told, count_in, ItemsSpell, PartPasses, PartsPass, SpellsWithin}
 use Rattle.eds_types.proofs.AllOf.{All-weaker, All-both, All-pair}
 
 -- ---- values with their parts

@@ -1,12 +1,12 @@
 -- The types of the parts of a container are nested less deep than it, and so are those of the containers that derive from it.
-use Rattle.std.proofs.Common.{◌≡◌, ℕ, zero, suc, ◌+◌, ◌<◌, List, [], ◌∷◌, ◌++◌, length, reverse, Option, Some, None, refl, sym, ◌∙◌, arith}
+use Rattle.std.proofs.Common.{◌≡◌, ℕ, zero, suc, ◌+◌, ◌<◌, List, [], ◌∷◌, length, reverse, Option, Some, None, refl, sym, ◌∙◌, arith}
 use Rattle.std.specs.Prelude.{slice_get}
 use Rattle.std.specs.List.{AllByRecursion, flat_map}
 use Rattle.eds_types.specs.declared.row.TypeRow.{TypeRow}
 use Rattle.eds_types.specs.declared.row.Part.{Part}
 use Rattle.eds_types.specs.Rows.{Table, base_of, chain, chain_within, chain_before, entries_of, trailers_of, Placed, placed_from, placed_entries, placed_trailers, sequence}
 use Rattle.eds_types.specs.Tables.{IsTable, IsPartType}
-use Rattle.eds_types.specs.Fields.{type_by, IsUnder}
+use Rattle.eds_types.specs.Fields.{IsUnder}
 use Rattle.eds_types.proofs.AllOf.{All-weaker, All-both, All-front, All-back, All-at, All-flat, All-reverse}
 
 module _ (t : Table) (is : IsTable t) where

@@ -1,5 +1,5 @@
 -- What the laws use of a table follows from the rules that it keeps.
-use Rattle.std.proofs.Common.{◌≡◌, ℕ, zero, suc, ◌+◌, ◌<◌, ◌≤◌, ℤ, pos, negsuc, Bool, true, false, cond, List, [], ◌∷◌, ◌++◌, length, map, filter, reverse, Option, Some, None, refl, sym, ap, subst, ◌∙◌, append_assoc, arith, ◌⊎◌, inl, inr}
+use Rattle.std.proofs.Common.{◌≡◌, ℕ, zero, suc, ◌+◌, ◌≤◌, ℤ, pos, negsuc, Bool, true, false, cond, List, [], ◌∷◌, ◌++◌, length, map, filter, reverse, Some, refl, sym, ap, subst, ◌∙◌, append_assoc, arith}
 use Rattle.std.specs.Prelude.{slice_get, ◌≤ℤ◌}
 use Rattle.std.specs.List.{AllByRecursion, flat_map}
 use Rattle.std.proofs.lemmas.Grind.{flat_map-append}
@@ -10,15 +10,14 @@ use Rattle.eds_base.specs.Spans.{IsWithin}
 use Rattle.eds_base.specs.Reading.{same as same_text}
 use Rattle.eds_bits.specs.declared.forms.IntForm.{IntForm}
 use Rattle.eds_bits.specs.Lists.{Has, HasOne}
-use Rattle.eds_types.specs.declared.row.TypeRow.{TypeRow}
 use Rattle.eds_types.specs.declared.row.Kind.{Kind}
 use Rattle.eds_types.specs.declared.row.Kind.TheVariants as kind
 use Rattle.eds_types.specs.declared.row.Part.{Part}
 use Rattle.eds_types.specs.declared.row.Part.TheVariants as part
 use Rattle.eds_types.specs.declared.row.Constraint.{Constraint}
 use Rattle.eds_types.specs.Fields.{type_by, listed, StartsAbove}
-use Rattle.eds_types.specs.Rows.{Table, base_of, chain, entries_of, trailers_of, constraints_of, Placed, placed_from, placed_entries, placed_trailers, own_parts, sequence}
-use Rattle.eds_types.specs.Rules.{AreDistinct, IsBefore, IsIntBy, HasKind, IsInt, IsNested, ItemsNest, IsCounted, IsScale, PartKeeps, KindKeeps, is_length, ConstraintKeeps, KeepsRules}
+use Rattle.eds_types.specs.Rows.{Table, chain, entries_of, trailers_of, constraints_of, Placed, placed_from, placed_entries, placed_trailers, own_parts, sequence}
+use Rattle.eds_types.specs.Rules.{AreDistinct, IsBefore, IsIntBy, IsInt, IsNested, ItemsNest, IsScale, PartKeeps, KindKeeps, is_length, ConstraintKeeps, KeepsRules}
 use Rattle.eds_types.specs.Tables.{IsTable, IsPartType, IsItemType, IsOneLabel, IsIntRow, IsIntKind, LengthIsInt}
 use Rattle.eds_types.proofs.AllOf.{All-weaker, All-both, All-front, All-back, All-pair, All-at, All-has, All-flat, All-reverse, one_of}
 use Rattle.eds_types.proofs.ChainLaws.{under_is}
