@@ -64,9 +64,6 @@ module _ (t : Table) (Each : ℕ → Plain → Bits → Type 0) where
       ∙ ap (λ w. w ++ parts (later t zs)) (parts-append (map entry (placed_entries t z)) (choice z ∷ []) ∙ ap (λ w. w ++ []) (parts-entries (placed_entries t z)) ∙ append-nil (placed_entries t z))
       ∙ ap (λ w. placed_entries t z ++ w) (parts-later zs)
 
-  pub trailers_of_all : ℕ → List Placed
-  trailers_of_all x = flat_map (placed_trailers t) (reverse (chain t x))
-
   parts-rest : (Fails : ℕ → Bits → Where → Type 0) (x y : ℕ) (zs : List ℕ) → parts (choice y ∷ (later t zs ++ tail t Each Fails x)) ≡ flat_map (placed_entries t) zs ++ flat_map (placed_trailers t) (reverse (chain t x))
   unfolding parts
   parts-rest Fails x y zs =

@@ -55,10 +55,6 @@ pub one_of : {A : Type 0} (P : A → Type 0) (before : List A) (x : A) (after : 
 one_of P [] x after h = inl h
 one_of P (y ∷ ys) x after h = inr (one_of P ys x after h)
 
--- an item with P
-pub HasOne-of : {A : Type 0} (P : A → Type 0) (xs : List A) (x : A) → Has xs x → P x → HasOne P xs
-HasOne-of P xs x h p = subst (HasOne P) (sym h.is) (one_of P h.before x h.after p)
-
 all_onto : {A : Type 0} (P : A → Type 0) (xs ys : List A) → AllByRecursion P xs → AllByRecursion P ys → AllByRecursion P (reverse_aux xs ys)
 all_onto P [] ys h k = k
 all_onto P (x ∷ xs) ys h k = all_onto P xs (x ∷ ys) h.1 (h.0, k)

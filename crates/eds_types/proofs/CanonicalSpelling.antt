@@ -83,9 +83,6 @@ module _ (t : Table) (n : ℕ) (g : (id : ℕ) (v : Plain) (b : Bits) → Spells
     fields : u.fields ≡ w.fields
     octets : u.octets ≡ w.octets
 
-  fields_of : State → List Field
-  fields_of s = s.fields
-
   part_canon : (s z : State) (p : Placed) (q : Part) (u : State) (b : Bits) → CheckFits t q → s.fields ≡ z.fields → s.octets ≡ z.octets → PartPasses any t A s p q u b → Beside z p q u
   part_canon s z p (part.Plain name id) u b f e o h = let x = g id.0 h.0 b h.1 in record { w = took z p h.0 x.0; c = x.0; passes = (h.0, x.1, refl); fields = ap (λ (y : State). y.fields) h.2 ∙ ap (λ l. l ++ (p.container, p.place, h.0) ∷ []) e; octets = ap (λ (y : State). y.octets) h.2 ∙ o }
   part_canon s z p (part.Fixed name id v) u b f e o h = let x = g id.0 _ b h.0 in record { w = passed z x.0; c = x.0; passes = (x.1, refl); fields = ap (λ (y : State). y.fields) h.1 ∙ e; octets = ap (λ (y : State). y.octets) h.1 ∙ o }

@@ -175,9 +175,6 @@ module _ (read : Bits → Read Plain) (Each : Plain → Bits → Type 0) (Fails 
   then_by : Plain → Read (List Plain) → Read (List Plain)
   then_by v r = r >>= λ vs. Ok (v ∷ vs.0, vs.1)
 
-  first_by : ℕ → ℕ → Read Plain → Read (List Plain)
-  first_by n j r = inside (step.Item j) r >>= λ v. then_by v.0 (read_items read n (j + 1) v.1)
-
   put_first : (n j : ℕ) (b : Bits) (x : Plain × Bits) → Front (Each x.0) b x.1 → (r : Read (List Plain)) → Is (Items Each n) (ItemsFail Each Fails n (j + 1)) x.1 r → Is (Items Each (suc n)) (ItemsFail Each Fails (suc n) j) b (then_by x.0 r)
   unfolding then_by
   put_first n j b x h (Ok vs) k = record { front = h.front ++ k.front; is = regroup b h.front x.1 k.front vs.1 h.is k.is; has = record { count = ap suc k.has.count; spelled = (h.front, k.front, refl, h.has, k.has.spelled) } }

@@ -268,9 +268,6 @@ module _ (t : Table) (read : ℕ → Bits → Read Plain) (Each : ℕ → Plain 
 
   -- ---- arrays
 
-  made_items : List Plain → Result Plain Where
-  made_items vs = Ok (items (plains_of vs))
-
   pub array_exact : (id : ℕ) (item : TypeId) (n : ℕ) → Exact (read item.0) (Each item.0) (Fails item.0) → Exact (λ b. judge (λ vs. Ok (items (plains_of vs))) (read_items (read item.0) n 0 b)) (KindSpells any t Each id (kind.Arr item n)) (KindFails t Each Fails id (kind.Arr item n))
   array_exact id item n s = exact_as _ (Judged (Items (Each item.0) n) (λ vs. Ok (items (plains_of vs)))) _ (JudgeFails (Items (Each item.0) n) (λ vs. Ok (items (plains_of vs))) (ItemFails (Each item.0) (Fails item.0) n)) _
       (judge_exact (read_items (read item.0) n 0) (Items (Each item.0) n) (ItemFails (Each item.0) (Fails item.0) n) (λ vs. Ok (items (plains_of vs))) (items_exact (read item.0) (Each item.0) (Fails item.0) s n))

@@ -75,9 +75,6 @@ starts_in t x (p ∷ path) h = and_from (list_has (chain t x) (p.0).0) (nat_lt p
 abbrev pub Applies : Table → ℕ → List Field → Condition → Type 0
 Applies t x fs c = StartsAbove t x c.path → Holds t fs c
 
-applies : Table → ℕ → List Field → Condition → Bool
-applies t x fs c = cond (starts_above t x c.path) (holds t fs c) true
-
 all_from : (t : Table) (x : ℕ) (fs : List Field) (cs : List Condition) → list_all (λ (c : Condition). cond (starts_above t x c.path) (holds t fs c) true) cs ≡ true → AllByRecursion (Applies t x fs) cs
 all_from t x fs [] e = tt
 all_from t x fs (c ∷ cs) e =
