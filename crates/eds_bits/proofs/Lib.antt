@@ -6,3 +6,4 @@ pub mod Groups
 pub mod Decimals
 pub mod PatternLaws
 pub mod FormLaws
+pub mod CheckLaws

@@ -86,6 +86,13 @@ crc8_divisor = low_bits 8 0x07
 abbrev pub crc16_divisor : Bits
 crc16_divisor = low_bits 16 0x1021
 
+-- how many bits a check has
+abbrev pub check_bits : CheckKind → ℕ
+check_bits Checksum = 8
+check_bits Longitudinal = 8
+check_bits Crc8 = 8
+check_bits Crc16Ccitt = 16
+
 -- the check of some octets
 abbrev pub check_of_octets : CheckKind → List ℕ → ℕ
 check_of_octets Checksum octets = sum octets % 256

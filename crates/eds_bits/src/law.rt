@@ -5,9 +5,10 @@ ghost use Rattle.eds_bits.specs.Bits.{Bits};
 ghost use Rattle.eds_bits.specs.Lists.{HasOne};
 ghost use Rattle.eds_bits.specs.Style.{canonical};
 ghost use Rattle.eds_bits.specs.IntForms.{least, greatest, HasNumber, number_of, digits_of, IsInt, IsNumber};
+ghost use Rattle.eds_bits.specs.Scalars.{check_bits, check_of};
 ghost use Rattle.eds_bits.specs.Vectors.{NumberVectors, CheckVectors};
 
-use crate::IntForm;
+use crate::{CheckKind, IntForm};
 
 /// A pattern stands for at most one number, and for none exactly where one of its decimal digits is above 9.
 pub fn numbers_of_patterns(form: IntForm)
@@ -49,4 +50,9 @@ pub fn number_vectors()
 /// The checks of the text `123456789`, which are known from outside.
 pub fn check_vectors()
     ensures { CheckVectors }
+{}
+
+/// A check is a number of its bits: 16 for the longer cyclic redundancy check, and 8 for the others.
+pub fn sizes_of_checks(kind: CheckKind)
+    ensures { (bits : Bits) → check_of kind bits < 2 ^ check_bits kind }
 {}
