@@ -20,3 +20,6 @@ pub use sample::sample_table;
 pub use sequence::Sequence;
 pub use table::TypeTable;
 pub use value::Value;
+
+#[cfg(test)]
+mod tests;
