@@ -31,3 +31,6 @@ pub mod ContainerPacking
 pub mod PackingLaws
 pub mod LeastBound
 pub mod RuleFacts
+pub mod ByRows
+pub mod SampleKeeps
+pub mod Appended

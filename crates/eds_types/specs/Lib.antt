@@ -11,3 +11,4 @@ pub mod Reading
 pub mod Rules
 pub mod Stored
 pub mod Tables
+pub mod Sample

@@ -5,6 +5,7 @@ mod chain;
 mod look;
 mod reason;
 mod row;
+mod sample;
 mod sequence;
 mod sizes;
 mod table;
@@ -15,6 +16,10 @@ pub use reason::PackReason;
 pub use row::{
     Constraint, Constraints, Container, EntryPath, Kind, Listing, Part, Parts, TypeRow, TypeRows,
 };
+pub use sample::sample_table;
 pub use sequence::Sequence;
 pub use table::TypeTable;
 pub use value::Value;
+
+#[cfg(test)]
+mod tests;

@@ -4,6 +4,7 @@ ghost use Rattle.std.specs.Prelude.{◌≡◌, ◌++◌, ◌<◌, ◌≤◌, Som
 ghost use Rattle.std.specs.List.{flat_map};
 ghost use Rattle.std.specs.Option.{option_copied};
 ghost use Rattle.eds_types.specs.Rows.{id_of, chain, address, entry_places, trailer_places, sequence, container_of, entries_of, trailers_of, constraints_of, is_concrete};
+ghost use Rattle.eds_types.specs.Fields.{part_at};
 ghost use Rattle.eds_types.specs.Domains.{int_domain};
 ghost use Rattle.eds_types.specs.LeastSize.{least_size};
 ghost use Rattle.eds_types.specs.Rules.{KeepsRules};
@@ -92,6 +93,13 @@ impl TypeTable {
         ensures few { length result.now ≤ 32767 }
     {
         look::trailers_of(self.rows.as_slice(), id)
+    }
+
+    /// The part at a position among a container's entries and then its trailers, None exactly where there is none.
+    pub fn part_at(&self, id: TypeId, place: u16) -> Option<&Part>
+        ensures { option_copied result ≡ part_at self.now (id, place) }
+    {
+        look::part_at(self.rows.as_slice(), id, place)
     }
 
     /// A container's own constraints; any other type has none.
