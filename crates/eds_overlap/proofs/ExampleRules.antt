@@ -25,7 +25,8 @@ use Rattle.eds_types.specs.Rules.{IsHollow, IsCounted, HoldsCheck, KindKeeps, Ha
 use Rattle.eds_types.proofs.RuleFacts.{table_of}
 use Rattle.eds_types.proofs.Tests.{has_in}
 use Rattle.eds_overlap.specs.Example.{example, flags, unsigned_form, any_number}
-use Rattle.eds_overlap.proofs.Concrete.{EachRow, each_row, each_number, below, below_is, index_below, by_base, bases_pass, past_own, texts_distinct, numbers_distinct, small_family, all_nested, Nests, parts_nested, solid, not_hollow, sequence_passes, sequences_keep}
+use Rattle.eds_types.proofs.ByRows.{AllFrom, by_row, derived-le, none_hollow, not_hollow}
+use Rattle.eds_overlap.proofs.Concrete.{each_number, below, below_is, index_below, by_base, bases_pass, past_own, texts_distinct, numbers_distinct, all_nested, Nests, parts_nested, sequence_passes, sequences_keep}
 
 -- ---- kinds
 
@@ -54,7 +55,7 @@ flags_listing = record {
 few_parts : (a b : ℕ) → a ≤ 7 → b ≤ 7 → (a ≤ 32767) × (b ≤ 32767)
 few_parts a b h k = (omega arith, omega arith)
 
-kinds : EachRow (λ id row. KindKeeps row.kind) 0 example
+kinds : AllFrom (λ id row. KindKeeps row.kind) 0 example
 kinds = (
   any_domain 3 refl refl,
   (
@@ -150,7 +151,7 @@ none_base A b e = absurd cc
 some_base : (P : ℕ → Type 0) (a b : ℕ) → ◌≡◌ {A = Option ℕ} (Some a) (Some b) → P a → P b
 some_base P a b e h = let q : a ≡ b = cc in subst P q h
 
-bases : EachRow HasBase 0 example
+bases : AllFrom HasBase 0 example
 bases = (
   (λ b e. none_base _ b e),
   (
@@ -211,7 +212,7 @@ no_base : (k base : ℕ) → slice_get example k ≡ None → base_of example k 
 no_base k base e h = none_base ⊥ base (sym (ap base_in e) ∙ h)
 
 has_bases : (id base : ℕ) (r : TypeRow) → slice_get example id ≡ Some r → base_of example id ≡ Some base → HasKind example base (DerivesFrom r.kind)
-has_bases id base r e h = each_row HasBase example bases id r e base h
+has_bases id base r e h = by_row HasBase example bases id r e base h
 
 base_levels : (id base : ℕ) → base_of example id ≡ Some base → level_of id ≡ suc (level_of base)
 base_levels id base h = eqb-true (level_of id) (suc (level_of base)) (bases_pass example (λ i b. level_of i == suc (level_of b)) refl id base h)
@@ -227,22 +228,22 @@ nests y = each_number (λ y. AllByRecursion (Nests example rank_of y) (own_parts
     one : (k : ℕ) → all_nested example rank_of k (own_parts example k) ≡ true → AllByRecursion (Nests example rank_of k) (own_parts example k)
     one k e = parts_nested example rank_of k (own_parts example k) e
 
-    rows : EachRow (λ y r. AllByRecursion (Nests example rank_of y) (own_parts example y)) 0 example
+    rows : AllFrom (λ y r. AllByRecursion (Nests example rank_of y) (own_parts example y)) 0 example
     rows = (one 0 refl, (one 1 refl, (one 2 refl, (one 3 refl, (one 4 refl, (one 5 refl, (one 6 refl, (one 7 refl, (one 8 refl, (one 9 refl, (one 10 refl, (one 11 refl, (one 12 refl, (one 13 refl, (one 14 refl, (one 15 refl, (one 16 refl, (one 17 refl, tt))))))))))))))))))
 
-items : EachRow (λ id r. ItemsNest example rank_of id r.kind) 0 example
+items : AllFrom (λ id r. ItemsNest example rank_of id r.kind) 0 example
 items = (tt, (tt, (tt, (tt, (tt, (tt, (tt, (tt, (tt, (tt, (tt, (tt, (tt, (tt, (tt, (tt, (tt, (tt, tt))))))))))))))))))
 
 abbrev Keep : Placed → Type 0
 Keep p = PartKeeps example p p.part
 
 -- each type of an entry or item has a bit
-all_solid : below (λ id. not (nat_lt id 6 || (id == 8 || (id == 9 || id == 13))) || solid example id) 18 ≡ true
+all_solid : below (λ id. not (nat_lt id 6 || (id == 8 || (id == 9 || id == 13))) || none_hollow example id) 18 ≡ true
 unfolding chain_within
 all_solid = refl
 
 solid_at : (id : ℕ) → id < 18 → (nat_lt id 6 || (id == 8 || (id == 9 || id == 13))) ≡ true → IsHollow example id → ⊥
-solid_at id l e = not_hollow example id (ap (λ b. not b || solid example id) (sym e) ∙ below_is (λ id. not (nat_lt id 6 || (id == 8 || (id == 9 || id == 13))) || solid example id) 18 id all_solid l)
+solid_at id l e = not_hollow example id (ap (λ b. not b || none_hollow example id) (sym e) ∙ below_is (λ id. not (nat_lt id 6 || (id == 8 || (id == 9 || id == 13))) || none_hollow example id) 18 id all_solid l)
 
 length_keeps : PartKeeps example (record { container = 6; place = 6; part = part.Length (codes "Length") (id_of 4) (pos 7) (pos 1) }) (part.Length (codes "Length") (id_of 4) (pos 7) (pos 1))
 length_keeps = ((row 4, refl, tt), record { rises = omega (arith, ints); factor = omega (arith, ints); offset = omega arith })
@@ -261,7 +262,7 @@ counted = record { name = codes "Count"; id = id_of 8; before = record { before 
 keep : (y : ℕ) → AllByRecursion Keep (own_parts example y)
 keep y = each_number (λ y. AllByRecursion Keep (own_parts example y)) example rows (λ k e. subst (AllByRecursion Keep) (sym (past_own example k e)) tt) y
   where
-    rows : EachRow (λ y r. AllByRecursion Keep (own_parts example y)) 0 example
+    rows : AllFrom (λ y r. AllByRecursion Keep (own_parts example y)) 0 example
     rows = (
       tt,
       (
@@ -330,7 +331,7 @@ root_constraints k h = each_number (λ k. base_of example k ≡ None → constra
     some_none : (A : Type 0) (b : ℕ) → ◌≡◌ {A = Option ℕ} (Some b) None → A
     some_none A b e = absurd cc
 
-    rows : EachRow (λ k r. base_of example k ≡ None → constraints_of example k ≡ []) 0 example
+    rows : AllFrom (λ k r. base_of example k ≡ None → constraints_of example k ≡ []) 0 example
     rows = ((λ e. refl), ((λ e. refl), ((λ e. refl), ((λ e. refl), ((λ e. refl), ((λ e. refl), ((λ e. refl), ((λ e. some_none _ 6 e), ((λ e. refl), ((λ e. refl), ((λ e. refl), ((λ e. refl), ((λ e. refl), ((λ e. refl), ((λ e. refl), ((λ e. refl), ((λ e. some_none _ 15 e), ((λ e. some_none _ 15 e), tt))))))))))))))))))
 
 -- the constraint of a container on the entry of its base at this place
@@ -373,7 +374,7 @@ of_high = record {
 abbrev Constrained : ℕ → TypeRow → Type 0
 Constrained k r = (base : ℕ) → base_of example k ≡ Some base → AllByRecursion (ConstraintKeeps example base k) (constraints_of example k)
 
-constrained : EachRow Constrained 0 example
+constrained : AllFrom Constrained 0 example
 constrained = (
   (λ b e. tt),
   (
@@ -439,7 +440,7 @@ pub keeps_rules : KeepsRules example
 keeps_rules = record {
   few = omega arith;
   names = texts_distinct (map (λ (r : TypeRow). r.name) example) refl;
-  kinds = λ id r e. each_row (λ id r. KindKeeps r.kind) example kinds id r e;
+  kinds = λ id r e. by_row (λ id r. KindKeeps r.kind) example kinds id r e;
   bases = λ id base r e h. has_bases id base r e h;
   level = level_of;
   chains = λ id. index_below levels 16 (omega arith) (few_levels 16 (omega arith)) id;
@@ -449,7 +450,7 @@ keeps_rules = record {
   nesting = λ id. index_below ranks 32 (omega arith) (few_ranks 32 (omega arith)) id;
   base_rank = base_ranks;
   parts_nest = nests;
-  items_nest = λ id r e. each_row (λ id r. ItemsNest example rank_of id r.kind) example items id r e;
+  items_nest = λ id r e. by_row (λ id r. ItemsNest example rank_of id r.kind) example items id r e;
   parts = keep;
   sequences = sequences_keep example all_sequences;
   root_constraints = root_constraints;
@@ -457,7 +458,7 @@ keeps_rules = record {
 }
   where
     small : (id : ℕ) → length (derived example id) ≤ 512
-    small id = let l : length (derived example id) ≤ 18 = small_family example id in omega arith
+    small id = let l : length (derived example id) ≤ 18 = derived-le example id in omega arith
 
 -- ---- overlap
 
