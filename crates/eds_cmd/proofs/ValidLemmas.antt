@@ -5,7 +5,7 @@ use Rattle.eds_bits.specs.Bits.{bits_of}
 use Rattle.eds_io.specs.Files.{Files}
 use Rattle.eds_cmd.specs.declared.command.Verb.{Verb}
 use Rattle.eds_cmd.specs.declared.command.Verb.TheVariants.{Unpack}
-use Rattle.eds_cmd.specs.declared.limits.TheConstants.{FRAME_OCTETS, SHEET_OCTETS}
+use Rattle.eds_cmd.specs.Limits.{frame_octets, sheet_octets}
 use Rattle.eds_cmd.specs.declared.status.Status.{Status}
 use Rattle.eds_cmd.specs.declared.status.Status.TheVariants as statuses
 use Rattle.eds_cmd.specs.declared.stop.Stop.{Stop}
@@ -25,7 +25,7 @@ frame octets = Ok octets
 
 valid_frame : (type : TypeIn) (text : List ℕ) (v : IsValidFrame type text) → frame_for text ≡ frame v.frame
 unfolding frame_for
-valid_frame type text v = rw (v.hex, le-leb (length v.frame) FRAME_OCTETS v.within) refl
+valid_frame type text v = rw (v.hex, le-leb (length v.frame) frame_octets v.within) refl
 
 valid_bits : (type : TypeIn) (text : List ℕ) (v : IsValidFrame type text) → (report : List ℕ) × (unpacked_bits type (bits_of v.frame) ≡ done report)
 unfolding unpacked_bits
@@ -43,7 +43,7 @@ valid_work Unpack type input v =
 pub valid_performed : (files : Files) (c : CommandWords) → IsValid files c → (report : List ℕ) × (performed files c ≡ done report)
 valid_performed files c v =
     let work = valid_work c.verb v.type v.input v.input_valid in
-    let sheet_within : nat_le (length v.octets) SHEET_OCTETS ≡ true = le-leb (length v.octets) SHEET_OCTETS v.sheet_within in
+    let sheet_within : nat_le (length v.octets) sheet_octets ≡ true = le-leb (length v.octets) sheet_octets v.sheet_within in
     let input_within : nat_le (length v.input) (input_most c.verb) ≡ true = le-leb (length v.input) (input_most c.verb) v.input_within in
     (work.0, rw (v.sheet_there, sheet_within, v.sheet_accepted, v.type_named, v.input_there, input_within) work.1)
 

@@ -5,7 +5,7 @@ use Rattle.eds_bits.specs.Bits.{Bits, bits_of}
 use Rattle.eds_io.specs.Files.{Files, file_named}
 use Rattle.eds_cmd.specs.declared.command.Verb.{Verb}
 use Rattle.eds_cmd.specs.declared.command.Verb.TheVariants.{Unpack}
-use Rattle.eds_cmd.specs.declared.limits.TheConstants.{SHEET_OCTETS, FRAME_OCTETS}
+use Rattle.eds_cmd.specs.Limits.{frame_octets, sheet_octets}
 use Rattle.eds_cmd.specs.declared.sheet.Sheet.{Sheet}
 use Rattle.eds_cmd.specs.declared.status.Status.{Status}
 use Rattle.eds_cmd.specs.declared.status.Status.TheVariants as statuses
@@ -34,7 +34,7 @@ whole_file files name what most = whole_from (file_named name files) name what m
 -- the type that the word of a command names in its sheet
 abbrev pub accepted : Files → CommandWords → Result TypeIn Stop
 accepted files c = do
-  octets ← whole_file files c.sheet File SHEET_OCTETS
+  octets ← whole_file files c.sheet File sheet_octets
   sheet ← sheet_for octets
   type_for sheet c.word
 
@@ -97,7 +97,7 @@ IsReached files c name = (name ≡ c.sheet) ⊎ ((name ≡ c.input) × IsOk (acc
 pub record IsValidFrame (type : TypeIn) (text : List ℕ) : Type 0 where
   pub frame : List ℕ
   pub hex : hex_octets text ≡ Some frame
-  pub within : length frame ≤ FRAME_OCTETS
+  pub within : length frame ≤ frame_octets
   pub value : FlatValue
   pub front : Bits
   pub rest : Bits
@@ -111,7 +111,7 @@ IsValidInput Unpack type text = IsValidFrame type text
 pub record IsValid (files : Files) (c : CommandWords) : Type 0 where
   pub octets : List ℕ
   pub sheet_there : file_named c.sheet files ≡ Some octets
-  pub sheet_within : length octets ≤ SHEET_OCTETS
+  pub sheet_within : length octets ≤ sheet_octets
   pub sheet : Sheet
   pub sheet_accepted : flat_sheet octets ≡ Some sheet
   pub type : TypeIn

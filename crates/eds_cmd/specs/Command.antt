@@ -5,7 +5,7 @@ use Rattle.eds_base.specs.Reading.{same}
 use Rattle.eds_cmd.specs.declared.command.Verb.{Verb}
 use Rattle.eds_cmd.specs.declared.command.Verb.TheVariants.{Unpack}
 use Rattle.eds_cmd.specs.declared.command.Command.{Command}
-use Rattle.eds_cmd.specs.declared.limits.TheConstants.{HEX_OCTETS}
+use Rattle.eds_cmd.specs.Limits.{hex_octets}
 
 -- what is to be done, the name of a type, and the names of the input file and of the sheet file
 pub record CommandWords : Type 0 where
@@ -31,7 +31,7 @@ command_of (verb ∷ word ∷ input ∷ sheet ∷ more ∷ words) = None
 
 -- the most octets of the input file
 abbrev pub input_most : Verb → ℕ
-input_most Unpack = HEX_OCTETS
+input_most Unpack = hex_octets
 
 -- the command reads the file of that name
 abbrev pub ReadsFile : CommandWords → List ℕ → Type 0

@@ -10,7 +10,7 @@ use Rattle.eds_cmd.specs.declared.sheet.Unsigned.{Unsigned}
 use Rattle.eds_cmd.specs.declared.sheet.Row.{Row}
 use Rattle.eds_cmd.specs.declared.sheet.Row.TheVariants.{Int, Con}
 use Rattle.eds_cmd.specs.declared.sheet.Sheet.{Sheet}
-use Rattle.eds_cmd.specs.declared.sheet.TheConstants.{ENTRIES, TYPES}
+use Rattle.eds_cmd.specs.Limits as limits
 
 -- the items, where they are from one to so many
 abbrev pub few : {A : Type 0} → ℕ → List A → Option (List A)
@@ -153,7 +153,7 @@ unfoldable pub entry_list_of : (List ℕ → Option ℕ) → Data → Option (Li
 entry_list_of sizes d = do
   values ← tagged (codes "EntryList") d
   all ← entries_of sizes values
-  entries ← few ENTRIES all
+  entries ← few limits.entries all
   only (all_differ (entry_names entries)) entries
 
 unfoldable pub container_of : (List ℕ → Option ℕ) → Data → Option Row
@@ -193,7 +193,7 @@ unfoldable pub types_of : Data → Option (List Row)
 types_of d = do
   values ← tagged (codes "DataTypeSet") d
   all ← rows_of (size_named values) values
-  rows ← few TYPES all
+  rows ← few limits.types all
   only (all_differ (row_names rows)) rows
 
 -- the attributes of the only package of a file, and its set of types

@@ -4,7 +4,7 @@ use Rattle.eds_base.specs.declared.fault.Step.{Step}
 use Rattle.eds_base.specs.declared.fault.Reason.TheVariants.{Short, Trailing}
 use Rattle.eds_base.specs.Answering.{◌>>=◌, or_stop}
 use Rattle.eds_bits.specs.Bits.{Bits, bits_of}
-use Rattle.eds_cmd.specs.declared.limits.TheConstants.{FRAME_OCTETS}
+use Rattle.eds_cmd.specs.Limits.{frame_octets}
 use Rattle.eds_cmd.specs.declared.status.Status.{Status}
 use Rattle.eds_cmd.specs.declared.status.Status.TheVariants as statuses
 use Rattle.eds_cmd.specs.declared.status.What.TheVariants.{Frame}
@@ -18,7 +18,7 @@ use Rattle.eds_cmd.specs.Target.{TypeIn}
 use Rattle.eds_cmd.specs.Values.{Begins, IsShort}
 
 abbrev pub within_frame : List ℕ → Result (List ℕ) Stop
-within_frame octets = if nat_le (length octets) FRAME_OCTETS then Ok octets else Err (limited Frame FRAME_OCTETS)
+within_frame octets = if nat_le (length octets) frame_octets then Ok octets else Err (limited Frame frame_octets)
 
 -- the octets of a frame's text
 unfoldable pub frame_for : List ℕ → Result (List ℕ) Stop

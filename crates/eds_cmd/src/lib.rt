@@ -24,3 +24,6 @@ pub use law::{answer_is_one, reading_is_exact};
 pub use status::{DataFault, Status, What};
 pub use top::eds;
 pub use words::Words;
+
+#[cfg(test)]
+mod tests;
