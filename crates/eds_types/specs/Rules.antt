@@ -1,4 +1,5 @@
--- The rules of the profile that a table of types keeps.
+-- The rules of the profile that a table of types keeps. Each is named where it stands by the refusal that a sheet gets
+-- which breaks it: a sheet that gets none of these has a table that keeps them all.
 use Rattle.std.specs.Prelude.{◌≡◌, ℕ, suc, ◌^◌, ◌<◌, ◌≤◌, ℤ, pos, ◌≤ℤ◌, nat_abs, List, [], ◌∷◌, ◌++◌, length, map, filter, Bool, true, false, Option, Some, None, IsSome, slice_get, IsTrue}
 use Rattle.std.specs.List.{AllByRecursion, filter_map}
 use Rattle.eds_base.specs.declared.ids.TypeId.{TypeId}
@@ -59,12 +60,13 @@ IsContainer t id = IsSome (container_of t id)
 
 -- ---- kinds
 
--- the numbers are those of the form, and there is one
+-- the numbers are those of the form, and there is one (EmptyRange)
 pub record IsDomain (form : IntForm) (spans : List Span) : Type 0 where
   pub some : (n : ℤ) × IsWithin spans n
   pub of_form : (n : ℤ) → IsWithin spans n → HasNumber form n
 
 -- there are labels, none is empty, none and no number is listed twice, and all numbers are those of the form
+-- (BadEncoding is met by the forms themselves; this is BadEnumeration)
 pub record IsListing (form : IntForm) (listing : List (List ℕ × ℤ)) : Type 0 where
   pub some : 1 ≤ length listing
   pub named : AllByRecursion (λ e. 1 ≤ length e.0) listing
@@ -89,6 +91,7 @@ pub record IsSubRange (form : IntForm) (spans : List Span) (base_form : IntForm)
   pub within : (n : ℤ) → IsWithin spans n → IsWithin base_spans n
 
 -- a sub-range derives from an integer type or sub-range, and a container from a container; nothing else derives
+-- (WrongKind)
 abbrev pub DerivesFrom : Kind → Kind → Type 0
 DerivesFrom (kind.Int form spans) base = IsIntBy (IsSubRange form spans) base
 DerivesFrom (kind.Con c) (kind.Con base) = Unit {0}
@@ -96,7 +99,8 @@ DerivesFrom k base = ⊥
 
 -- ---- what is nested
 
--- a container at or under this one has no parts, and no concrete container under it: it is spelled by no bits
+-- a container at or under this one has no parts, and no concrete container under it: it is spelled by no bits, so that
+-- the type may be that of no entry, list or item (EmptyType)
 pub record IsHollow (t : Table) (id : ℕ) : Type 0 where
   pub hollow : ℕ
   pub concrete : IsTrue (is_concrete t hollow)
@@ -119,7 +123,7 @@ ItemsNest t rank id (kind.Con c) = Unit {0}
 
 -- ---- parts
 
--- the value is one of a scalar, text or binary type of this kind
+-- the value is one of a scalar, text or binary type of this kind (FixedValue)
 abbrev pub IsValueOf : Kind → Plain → Type 0
 IsValueOf (kind.Int form spans) v = (n : ℤ) × (v ≡ num n) × IsWithin spans n
 IsValueOf (kind.Enum form listing) v = (l : List ℕ) × (v ≡ label l) × IsSome (listed listing l)
@@ -130,6 +134,7 @@ IsValueOf (kind.Arr item n) v = ⊥
 IsValueOf (kind.Con c) v = ⊥
 
 -- the list's number of items is told by an entry before it, with an integer type that has no negative numbers
+-- (ListField)
 pub record IsCounted (t : Table) (list : Placed) (container place : ℕ) : Type 0 where
   pub name : List ℕ
   pub id : TypeId
@@ -143,13 +148,13 @@ check_bits Longitudinal = 8
 check_bits Crc8 = 8
 check_bits Crc16Ccitt = 16
 
--- an unsigned form of the check's size, with all its numbers
+-- an unsigned form of the check's size, with all its numbers (ErrorControl)
 pub record HoldsCheck (check : CheckKind) (form : IntForm) (spans : List Span) : Type 0 where
   pub encoding : form.encoding ≡ Unsigned
   pub size : form.bits ≡ check_bits check
   pub all : (n : ℤ) → HasNumber form n → IsWithin spans n
 
--- c1 is at least 1, and neither coefficient is past 2^32
+-- c1 is at least 1, and neither coefficient is past 2^32 (LengthField)
 pub record IsScale (c0 c1 : ℤ) : Type 0 where
   pub rises : pos 1 ≤ℤ c1
   pub factor : c1 ≤ℤ pos (2 ^ 32)
@@ -179,7 +184,7 @@ is_length (part.List name id y i) = false
 is_length (part.Length name id c0 c1) = true
 is_length (part.Check name id k) = false
 
--- the parts of a whole chain: names differ, and there is one length entry at most
+-- the parts of a whole chain: names differ (DuplicateEntry), and there is one length entry at most (LengthField)
 pub record SequenceKeeps (parts : List Placed) : Type 0 where
   pub names : AreDistinct (filter_map (λ (p : Placed). name_of p.part) parts)
   pub one_length : length (filter (λ (p : Placed). is_length p.part) parts) ≤ 1
@@ -187,6 +192,7 @@ pub record SequenceKeeps (parts : List Placed) : Type 0 where
 -- ---- constraints
 
 -- each name on the path is that of an entry, and each further one stands in the chain of the container before it
+-- (ConstraintTarget)
 abbrev pub Follows : Table → List (TypeId × ℕ) → Type 0
 Follows t [] = ⊥
 Follows t (p ∷ []) = (name : List ℕ) × (id : TypeId) × (part_at t p ≡ Some (part.Plain name id))
@@ -202,6 +208,7 @@ IsScalarKind (kind.Arr item n) = ⊥
 IsScalarKind (kind.Con c) = ⊥
 
 -- the numbers are those of the concrete containers at or under some container that is, or derives from, this one
+-- (ConstraintValue)
 pub record IsTypeSet (t : Table) (target : ℕ) (set : List Span) : Type 0 where
   pub kept : ℕ
   pub under : IsUnder t target kept
@@ -214,7 +221,7 @@ TargetKeeps t target true set = IsContainer t target × IsTypeSet t target set
 TargetKeeps t target false set = HasKind t target IsScalarKind
 
 -- a constraint of the container k, which derives from base: its path leads to an entry, from one of the bases' own
--- entries, and all that the chain asks of this entry can be met
+-- entries, and all that the chain asks of this entry can be met (ConstraintEmpty)
 pub record ConstraintKeeps (t : Table) (base k : ℕ) (c : Constraint) : Type 0 where
   pub starts : StartsAbove t base c.path
   pub follows : Follows t c.path
@@ -226,19 +233,21 @@ pub record ConstraintKeeps (t : Table) (base k : ℕ) (c : Constraint) : Type 0 
 -- ---- a table
 
 pub record KeepsRules (t : Table) : Type 0 where
-  -- there are at most 4,096 types, of different names
+  -- there are at most 4,096 types (Limit), of different names (Duplicate)
   pub few : length t ≤ 4096
   pub names : AreDistinct (map (λ (row : TypeRow). row.name) t)
+  -- sizes and numbers of items (BadAttribute, Limit), domains and listings
   pub kinds : (id : ℕ) (row : TypeRow) → slice_get t id ≡ Some row → KindKeeps row.kind
-  -- a base is there, and of the derived type's kind
+  -- a base is there (Unresolved), and of the derived type's kind
   pub bases : (id base : ℕ) (row : TypeRow) → slice_get t id ≡ Some row → base_of t id ≡ Some base → HasKind t base (DerivesFrom row.kind)
-  -- no type is its own base, and a chain has at most 16 types: the level counts the bases of a type
+  -- no type is its own base (BaseCycle), and a chain has at most 16 types (Limit): the level counts the bases of a type
   pub level : ℕ → ℕ
   pub chains : (id : ℕ) → level id < 16
   pub base_level : (id base : ℕ) → base_of t id ≡ Some base → level id ≡ suc (level base)
-  -- at most 512 containers are of one family
+  -- at most 512 containers are of one family (Limit)
   pub family : (id : ℕ) → IsContainer t id → length (derived t id) ≤ 512
-  -- no type reaches itself or its family, and at most 32 are nested: the rank of a family counts what is nested in it
+  -- no type reaches itself or its family (TypeCycle), and at most 32 are nested (Limit): the rank of a family counts what
+  -- is nested in it
   pub rank : ℕ → ℕ
   pub nesting : (id : ℕ) → rank id < 32
   pub base_rank : (id base : ℕ) → base_of t id ≡ Some base → rank id ≡ rank base
@@ -247,6 +256,6 @@ pub record KeepsRules (t : Table) : Type 0 where
   -- parts, alone and together
   pub parts : (y : ℕ) → AllByRecursion (λ (p : Placed). PartKeeps t p p.part) (own_parts t y)
   pub sequences : (k : ℕ) → SequenceKeeps (sequence t k)
-  -- a container with constraints has a base
+  -- a container with constraints has a base (ConstraintTarget)
   pub root_constraints : (k : ℕ) → base_of t k ≡ None → constraints_of t k ≡ []
   pub constraints : (k base : ℕ) → base_of t k ≡ Some base → AllByRecursion (ConstraintKeeps t base k) (constraints_of t k)

@@ -41,7 +41,8 @@ impl Model for TypeTable {
 }
 
 impl TypeTable {
-    /// The table of rows that keep the rules on types.
+    /// The table of rows that keep the rules on types: bases, parts and constraints name what is there, chains and
+    /// nesting end within their limits, and each type, part and constraint is one that the profile admits.
     pub fn of(alloc: Global, rows: TypeRows) -> Result<TypeTable, Memory>
         requires { KeepsRules rows }
         ensures { IfOk result (λ t. t ≡ rows) }
