@@ -1,3 +1,4 @@
 pub mod Growing
 pub mod Octets
 pub mod Walking
+pub mod Bound

@@ -1,10 +1,10 @@
 //! Reading a file as a tree.
 
-ghost use Rattle.std.specs.Prelude.{◌≡◌, ◌<◌, ◌^◌, IfSome};
+ghost use Rattle.std.specs.Prelude.{◌≡◌, ◌<◌, ◌^◌, length};
 ghost use Rattle.serde_json.specs.View.{view};
 ghost use Rattle.eds_base.specs.Answering.{Answers};
 ghost use Rattle.eds_tree.specs.Elements.{size};
-ghost use Rattle.eds_tree.specs.Reading.{refusal_at, tree_from, data_in, tree_in};
+ghost use Rattle.eds_tree.specs.Reading.{refusal_at, tree_from, tree_in};
 
 use crate::Tree;
 use crate::build::grow;
@@ -43,7 +43,7 @@ fn tree_of(alloc: Global, file: u16, value: &Value) -> Result<Tree, Fail<Refusal
 /// The elements of a file, or the rule that its text breaks.
 #[tactic(auto, unfolding(crate::specs::Reading::tree_in))]
 pub fn read_tree(alloc: Global, file: u16, octets: &[u8]) -> Result<Tree, Fail<Refusal>>
-    requires { IfSome (data_in octets.now) (λ d. size d < 2 ^ 32) }
+    requires { length octets.now < 2 ^ 32 }
     ensures { Answers (λ tree. tree) result (tree_in file octets.now) }
 {
     match Value::from_slice(alloc, octets) {
