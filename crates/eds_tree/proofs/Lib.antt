@@ -2,3 +2,5 @@ pub mod Growing
 pub mod Octets
 pub mod Walking
 pub mod Bound
+pub mod TableRises
+pub mod Rising

@@ -1,3 +1,5 @@
 pub mod Trees
 pub mod Elements
 pub mod Reading
+pub mod Rows
+pub mod ElementTable
