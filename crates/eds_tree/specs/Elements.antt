@@ -1,10 +1,13 @@
 -- The elements of a file's data, in document order.
-use Rattle.std.specs.Prelude.{ℕ, suc, ◌+◌, ◌&&◌, ◌||◌, List, [], ◌∷◌, ◌++◌, map, flat_map, codes, Bool, true, false, if◌then◌else◌, Option, Some, None, nat_eq, Result, Ok, Err, decimal}
+use Rattle.std.specs.Prelude.{ℕ, suc, ◌+◌, ◌&&◌, ◌||◌, not, List, [], ◌∷◌, ◌++◌, map, flat_map, codes, Bool, true, false, if◌then◌else◌, Option, Some, None, nat_eq, Result, Ok, Err, decimal}
 use Rattle.std.specs.Fmt.{signed_decimal}
 use Rattle.std.specs.Cmp.Lexicographic.{pointwise}
 use Rattle.std.specs.List.{list_any}
 use Rattle.serde_json.specs.Data.{Data, null, boolean, number, string, array, object, Num, unsigned, negative, float, Items, no_items, item, Members, no_members, member}
+use Rattle.eds_base.specs.Reading.{same}
 use Rattle.eds_tree.specs.declared.tree.Node.{Node}
+use Rattle.eds_tree.specs.Rows.{ElementShape}
+use Rattle.eds_tree.specs.Shapes.{shape_named, lists}
 
 -- ---- texts of attributes
 
@@ -40,14 +43,22 @@ abbrev pub have_texts : Members → Bool
 have_texts no_members = true
 have_texts (member k d ms) = has_text d && have_texts ms
 
--- a member as an attribute, unless it is ignored
-abbrev pub attribute_from : List ℕ → Option (List ℕ) → List (List ℕ × List ℕ)
-attribute_from name None = []
-attribute_from name (Some text) = if is_foreign name then [] else (name, text) ∷ []
+-- the attributes that make an element unsupported wherever they stand
+abbrev pub is_watched : List ℕ → Bool
+is_watched name = list_any (same name) (map codes ("failed" ∷ "fixedSize" ∷ "fixedValue" ∷ "transaction" ∷ []))
 
-abbrev pub attributes_from : Members → List (List ℕ × List ℕ)
-attributes_from no_members = []
-attributes_from (member k d ms) = attribute_from k (text_of d) ++ attributes_from ms
+-- the attributes that a tree keeps: not those with a prefix, nor those that the table doesn't list and no rule asks for
+abbrev pub is_kept : Option ElementShape → List ℕ → Bool
+is_kept shape name = not (is_foreign name) && (is_watched name || lists shape name)
+
+-- a member as an attribute, unless it is ignored
+abbrev pub attribute_from : Option ElementShape → List ℕ → Option (List ℕ) → List (List ℕ × List ℕ)
+attribute_from shape name None = []
+attribute_from shape name (Some text) = if is_kept shape name then (name, text) ∷ [] else []
+
+abbrev pub attributes_from : Option ElementShape → Members → List (List ℕ × List ℕ)
+attributes_from shape no_members = []
+attributes_from shape (member k d ms) = attribute_from shape k (text_of d) ++ attributes_from shape ms
 
 -- ---- an element by itself
 
@@ -97,26 +108,28 @@ name_in (item (string name) ds) = after_colons name name
 name_in (item (array es) ds) = []
 name_in (item (object ms) ds) = []
 
-abbrev pub attributes_of_data : Data → List (List ℕ × List ℕ)
-attributes_of_data null = []
-attributes_of_data (boolean b) = []
-attributes_of_data (number n) = []
-attributes_of_data (string s) = []
-attributes_of_data (array ds) = []
-attributes_of_data (object ms) = attributes_from ms
+abbrev pub attributes_of_data : Option ElementShape → Data → List (List ℕ × List ℕ)
+attributes_of_data shape null = []
+attributes_of_data shape (boolean b) = []
+attributes_of_data shape (number n) = []
+attributes_of_data shape (string s) = []
+attributes_of_data shape (array ds) = []
+attributes_of_data shape (object ms) = attributes_from shape ms
 
-abbrev pub first_attributes : Items → List (List ℕ × List ℕ)
-first_attributes no_items = []
-first_attributes (item d ds) = attributes_of_data d
+abbrev pub first_attributes : Option ElementShape → Items → List (List ℕ × List ℕ)
+first_attributes shape no_items = []
+first_attributes shape (item d ds) = attributes_of_data shape d
 
-abbrev pub attributes_in : Items → List (List ℕ × List ℕ)
-attributes_in no_items = []
-attributes_in (item d ds) = first_attributes ds
+-- the attributes of an element, which stand behind its name
+abbrev pub attributes_in : Option ElementShape → Items → List (List ℕ × List ℕ)
+attributes_in shape no_items = []
+attributes_in shape (item d ds) = first_attributes shape ds
 
 -- ---- document order
 
--- an array, and its number
+-- an array, its number, and the name of the element that holds it
 pub record Opening : Type 0 where
+  pub parent : List ℕ
   pub number : ℕ
   pub items : Items
 
@@ -136,17 +149,17 @@ abbrev mutual
 
 -- all arrays in the order in which they open, numbered from `at`
 abbrev mutual
-  pub openings : ℕ → Data → List Opening
-  openings at null = []
-  openings at (boolean b) = []
-  openings at (number n) = []
-  openings at (string s) = []
-  openings at (array ds) = record { number = at; items = ds } ∷ openings_in (at + 1) ds
-  openings at (object ms) = []
+  pub openings : (parent : List ℕ) → ℕ → Data → List Opening
+  openings parent at null = []
+  openings parent at (boolean b) = []
+  openings parent at (number n) = []
+  openings parent at (string s) = []
+  openings parent at (array ds) = record { parent = parent; number = at; items = ds } ∷ openings_in (name_in ds) (at + 1) ds
+  openings parent at (object ms) = []
 
-  pub openings_in : ℕ → Items → List Opening
-  openings_in at no_items = []
-  openings_in at (item d ds) = openings at d ++ openings_in (at + size d) ds
+  pub openings_in : (parent : List ℕ) → ℕ → Items → List Opening
+  openings_in parent at no_items = []
+  openings_in parent at (item d ds) = openings parent at d ++ openings_in parent (at + size d) ds
 
 abbrev pub child_number : ℕ → Data → List ℕ
 child_number at null = []
@@ -162,23 +175,27 @@ child_numbers at no_items = []
 child_numbers at (item d ds) = child_number at d ++ child_numbers (at + size d) ds
 
 abbrev pub node_of : Opening → Node
-node_of o = record { name = name_in o.items; attributes = attributes_in o.items; children = child_numbers (o.number + 1) o.items }
+node_of o = record { name = name_in o.items; attributes = attributes_in (shape_named o.parent (name_in o.items)) o.items; children = child_numbers (o.number + 1) o.items }
 
 -- the tree of some data
 abbrev pub tree_of : Data → List Node
-tree_of d = map node_of (openings 0 d)
+tree_of d = map node_of (openings [] 0 d)
 
 -- ---- the second rule
 
-abbrev pub not_element_at : Opening → List ℕ
-not_element_at o = if is_element o.items then [] else o.number ∷ []
+-- the numbers of the arrays that are no elements, in document order, where the first that opens has the number `at`
+abbrev mutual
+  pub not_elements : ℕ → Data → List ℕ
+  not_elements at null = []
+  not_elements at (boolean b) = []
+  not_elements at (number n) = []
+  not_elements at (string s) = []
+  not_elements at (array ds) = (if is_element ds then [] else at ∷ []) ++ not_elements_in (at + 1) ds
+  not_elements at (object ms) = []
 
--- the numbers of the arrays that are no elements, in document order
-abbrev pub not_elements : ℕ → Data → List ℕ
-not_elements at d = flat_map not_element_at (openings at d)
-
-abbrev pub not_elements_in : ℕ → Items → List ℕ
-not_elements_in at ds = flat_map not_element_at (openings_in at ds)
+  pub not_elements_in : ℕ → Items → List ℕ
+  not_elements_in at no_items = []
+  not_elements_in at (item d ds) = not_elements at d ++ not_elements_in (at + size d) ds
 
 -- the first of some numbers, or what comes after them
 abbrev pub first_or : List ℕ → ℕ → Result ℕ ℕ

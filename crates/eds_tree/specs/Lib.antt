@@ -1,4 +1,5 @@
 pub mod Trees
+pub mod Shapes
 pub mod Elements
 pub mod Reading
 pub mod Rows

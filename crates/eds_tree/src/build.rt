@@ -1,9 +1,12 @@
 //! Making a tree of a file's data.
 
-ghost use Rattle.std.specs.Prelude.{◌≡◌, ◌+◌, ◌<◌, ◌^◌, ◌++◌, length, map, OnOk, IfOk};
+ghost use Rattle.std.specs.Prelude.{◌≡◌, ◌+◌, ◌<◌, ◌^◌, ◌++◌, length, map, OnOk, IfOk, option_map};
 ghost use Rattle.serde_json.specs.View.{view, items_view, members_view};
-ghost use Rattle.eds_tree.specs.Elements.{after_colons as local_from, is_foreign as foreign, text_of as text_from, attributes_from, attributes_in, first_attributes, name_in, size, items_size, openings, openings_in, child_number, child_numbers, node_of};
+ghost use Rattle.eds_tree.specs.Rows.{shape_of};
+ghost use Rattle.eds_tree.specs.Elements.{after_colons as local_from, is_foreign as foreign, is_watched as watched, is_kept as kept, text_of as text_from, attributes_from, attributes_in, first_attributes, name_in, size, items_size, openings, openings_in, child_number, child_numbers, node_of};
 
+use crate::row::Shape;
+use crate::shape::{lists, shape_named};
 use crate::tree::Node;
 use eds_base::{Items, Memory, Text};
 use serde_json::{Map, Value};
@@ -13,6 +16,18 @@ fn is_foreign(name: &str) -> bool
     ensures { result ≡ foreign name.now }
 {
     name.as_bytes().contains(&b':') || name == "xmlns"
+}
+
+fn is_watched(name: &str) -> bool
+    ensures { result ≡ watched name.now }
+{
+    name == "failed" || name == "fixedSize" || name == "fixedValue" || name == "transaction"
+}
+
+fn is_kept(shape: Option<&'static Shape>, name: &str) -> bool
+    ensures { result ≡ kept (option_map (λ s. shape_of s.now) shape.entry) name.now }
+{
+    !is_foreign(name) && (is_watched(name) || lists(shape, name))
 }
 
 // What stands after the last colon.
@@ -45,14 +60,14 @@ fn text_of(alloc: Global, value: &Value) -> Result<Option<Text>, Memory>
     }
 }
 
-fn attributes_of(alloc: Global, members: &Map<String, Value>) -> Result<Items<(Text, Text)>, Memory>
-    ensures { IfOk result (λ a. a ≡ attributes_from (members_view members.now.entries)) }
+fn attributes_of(alloc: Global, shape: Option<&'static Shape>, members: &Map<String, Value>) -> Result<Items<(Text, Text)>, Memory>
+    ensures { IfOk result (λ a. a ≡ attributes_from (option_map (λ s. shape_of s.now) shape.entry) (members_view members.now.entries)) }
 {
     let mut attributes = Items::new(alloc);
     for (key, value) in members.iter() {
         let text = text_of(alloc, value)?;
         if let Some(text) = text {
-            if !is_foreign(key.as_str()) {
+            if is_kept(shape, key.as_str()) {
                 let name = Text::of(alloc, key.as_str())?;
                 attributes.push((name, text))?;
             }
@@ -73,24 +88,24 @@ fn name_of(alloc: Global, items: &[Value]) -> Result<Text, Memory>
     }
 }
 
-fn attributes_first(alloc: Global, items: &[Value]) -> Result<Items<(Text, Text)>, Memory>
-    ensures { IfOk result (λ a. a ≡ first_attributes (items_view items.now)) }
+fn attributes_first(alloc: Global, shape: Option<&'static Shape>, items: &[Value]) -> Result<Items<(Text, Text)>, Memory>
+    ensures { IfOk result (λ a. a ≡ first_attributes (option_map (λ s. shape_of s.now) shape.entry) (items_view items.now)) }
 {
     match items {
         [] => Ok(Items::new(alloc)),
         [first, ..] => match first.as_object() {
-            Some(members) => attributes_of(alloc, members),
+            Some(members) => attributes_of(alloc, shape, members),
             None => Ok(Items::new(alloc)),
         },
     }
 }
 
-fn attributes_among(alloc: Global, items: &[Value]) -> Result<Items<(Text, Text)>, Memory>
-    ensures { IfOk result (λ a. a ≡ attributes_in (items_view items.now)) }
+fn attributes_among(alloc: Global, shape: Option<&'static Shape>, items: &[Value]) -> Result<Items<(Text, Text)>, Memory>
+    ensures { IfOk result (λ a. a ≡ attributes_in (option_map (λ s. shape_of s.now) shape.entry) (items_view items.now)) }
 {
     match items {
         [] => Ok(Items::new(alloc)),
-        [_, rest @ ..] => attributes_first(alloc, rest),
+        [_, rest @ ..] => attributes_first(alloc, shape, rest),
     }
 }
 
@@ -117,12 +132,12 @@ fn note_child(children: &mut Items<u32>, at: u32, item: &Value) -> Result<(), Me
 
 /// Puts the elements of the data last.
 #[cycle(grow)]
-pub(crate) fn grow(alloc: Global, nodes: &mut Vec<Node>, value: &Value) -> Result<(), Memory>
+pub(crate) fn grow(alloc: Global, nodes: &mut Vec<Node>, parent: &str, value: &Value) -> Result<(), Memory>
     requires { length nodes.old.items + size (view value.now) < 2 ^ 32 }
-    ensures { OnOk result (nodes.new.items ≡ nodes.old.items ++ map node_of (openings (length nodes.old.items) (view value.now))) }
+    ensures { OnOk result (nodes.new.items ≡ nodes.old.items ++ map node_of (openings parent.now (length nodes.old.items) (view value.now))) }
 {
     match value {
-        Value::Array(items) => grow_array(alloc, nodes, items),
+        Value::Array(items) => grow_array(alloc, nodes, parent, items),
         Value::Null | Value::Bool(_) | Value::Number(_) | Value::String(_) | Value::Object(_) => Ok(
             (),
         ),
@@ -130,15 +145,15 @@ pub(crate) fn grow(alloc: Global, nodes: &mut Vec<Node>, value: &Value) -> Resul
 }
 
 #[cycle(grow)]
-fn grow_array(alloc: Global, nodes: &mut Vec<Node>, items: &Vec<Value>) -> Result<(), Memory>
+fn grow_array(alloc: Global, nodes: &mut Vec<Node>, parent: &str, items: &Vec<Value>) -> Result<(), Memory>
     requires { length nodes.old.items + 1 + items_size (items_view items.now.items) < 2 ^ 32 }
-    ensures { OnOk result (nodes.new.items ≡ nodes.old.items ++ map node_of (openings (length nodes.old.items) (view (Value.Array items.now)))) }
+    ensures { OnOk result (nodes.new.items ≡ nodes.old.items ++ map node_of (openings parent.now (length nodes.old.items) (view (Value.Array items.now)))) }
 {
     let at = nodes.len();
     let name = name_of(alloc, items)?;
-    let attributes = attributes_among(alloc, items)?;
+    let attributes = attributes_among(alloc, shape_named(parent, name.as_str()), items)?;
     nodes.push(blank(alloc))?;
-    let children = grow_items(alloc, nodes, items)?;
+    let children = grow_items(alloc, nodes, name.as_str(), items)?;
     nodes[at] = Node {
         name,
         attributes,
@@ -151,16 +166,17 @@ fn grow_array(alloc: Global, nodes: &mut Vec<Node>, items: &Vec<Value>) -> Resul
 fn grow_items(
     alloc: Global,
     nodes: &mut Vec<Node>,
+    parent: &str,
     items: &Vec<Value>,
 ) -> Result<Items<u32>, Memory>
     requires { length nodes.old.items + items_size (items_view items.now.items) < 2 ^ 32 }
-    ensures grown { OnOk result (nodes.new.items ≡ nodes.old.items ++ map node_of (openings_in (length nodes.old.items) (items_view items.now.items))) }
+    ensures grown { OnOk result (nodes.new.items ≡ nodes.old.items ++ map node_of (openings_in parent.now (length nodes.old.items) (items_view items.now.items))) }
     ensures children { IfOk result (λ numbers. numbers ≡ child_numbers (length nodes.old.items) (items_view items.now.items)) }
 {
     let mut children = Items::new(alloc);
     for item in items {
         note_child(&mut children, nodes.len() as u32, item)?;
-        grow(alloc, nodes, item)?;
+        grow(alloc, nodes, parent, item)?;
     }
     Ok(children)
 }

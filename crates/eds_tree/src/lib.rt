@@ -8,6 +8,7 @@ mod link;
 mod read;
 mod row;
 mod rows;
+mod shape;
 mod table;
 mod tree;
 

@@ -33,7 +33,7 @@ fn tree_of(alloc: Global, file: u16, value: &Value) -> Result<Tree, Fail<Refusal
     match judge(value, 0) {
         Ok(_) => {
             let mut nodes = Vec::new(alloc);
-            grow(alloc, &mut nodes, value)?;
+            grow(alloc, &mut nodes, "", value)?;
             Ok(Tree::of(Items::from_vec(nodes)))
         }
         Err(place) => Err(Fail::Named(refusal(Rule::NotElement, file, place))),
