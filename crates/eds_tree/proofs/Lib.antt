@@ -4,3 +4,5 @@ pub mod Walking
 pub mod Bound
 pub mod TableRises
 pub mod Rising
+pub mod Least
+pub mod Lacking

@@ -10,7 +10,8 @@ use Rattle.std.proofs.lemmas.Bool.{and_parts}
 use Rattle.std.proofs.lemmas.Bool.Decides.{nat_tests}
 use lib.Pointwise.{bytes_decides}
 use Rattle.eds_base.specs.Reading.{same}
-use Rattle.eds_tree.specs.Rows.{ElementRow, precedes, rises_from, rising, has_name, find_row}
+use Rattle.eds_tree.specs.ByteOrder.{precedes}
+use Rattle.eds_tree.specs.Rows.{ElementRow, rises_from, rising, has_name, find_row}
 
 -- ---- the byte order of names
 
@@ -129,7 +130,7 @@ pub no-row : (name : List ℕ) (rows : List ElementRow) (low : ℕ) → ((k : �
     → ((k : ℕ) (r : ElementRow) → low ≤ k → slice_get rows k ≡ Some r → precedes name r.name ≡ true) → find_row rows name ≡ None
 no-row name rows low before after =
     let none : NoneBelow name rows (length rows) = λ k p lt f.
-        on_side k low (same p.name name ≡ false) (λ below. precedes-same p.name name (before k p below f)) (λ above. precedes-same_back name p.name (after k p above f)) in
+    on_side k low (same p.name name ≡ false) (λ below. precedes-same p.name name (before k p below f)) (λ above. precedes-same_back name p.name (after k p above f)) in
     rw (no-place name rows none, not_below_itself (length rows)) refl
 
 -- ---- one step of the halves

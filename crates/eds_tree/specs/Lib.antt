@@ -1,6 +1,10 @@
 pub mod Trees
+pub mod ByteOrder
+pub mod Rows
+pub mod ElementTable
 pub mod Shapes
 pub mod Elements
 pub mod Reading
-pub mod Rows
-pub mod ElementTable
+pub mod Groups
+pub mod Breaks
+pub mod Missing

@@ -1,9 +1,8 @@
 -- What the profile says of elements, as plain data.
 use denote.Ref.{Bor}
 use Rattle.std.specs.Prelude.{ℕ, List, [], ◌∷◌, ◌++◌, map, Bool, true, ◌&&◌, Option, Some, None, position, slice_get}
-use Rattle.std.specs.Ordering.{nat_cmp, is_lt}
-use Rattle.std.specs.Cmp.Lexicographic.{slice_cmp}
 use Rattle.eds_base.specs.Reading.{same, ◌>>=◌}
+use Rattle.eds_tree.specs.ByteOrder.{precedes}
 use Rattle.eds_tree.specs.declared.row.Attribute.{Attribute}
 use Rattle.eds_tree.specs.declared.row.Child.{Child}
 use Rattle.eds_tree.specs.declared.row.Shape.{Shape}
@@ -79,9 +78,6 @@ rows_of [] = []
 rows_of (p ∷ ps) = map row_of p.now ++ rows_of ps
 
 -- ---- names in byte order
-
-abbrev pub precedes : List ℕ → List ℕ → Bool
-precedes a b = is_lt (slice_cmp nat_cmp a b)
 
 abbrev pub rises_from : List ℕ → List ElementRow → Bool
 rises_from low [] = true

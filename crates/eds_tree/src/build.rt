@@ -60,7 +60,11 @@ fn text_of(alloc: Global, value: &Value) -> Result<Option<Text>, Memory>
     }
 }
 
-fn attributes_of(alloc: Global, shape: Option<&'static Shape>, members: &Map<String, Value>) -> Result<Items<(Text, Text)>, Memory>
+fn attributes_of(
+    alloc: Global,
+    shape: Option<&'static Shape>,
+    members: &Map<String, Value>,
+) -> Result<Items<(Text, Text)>, Memory>
     ensures { IfOk result (λ a. a ≡ attributes_from (option_map (λ s. shape_of s.now) shape.entry) (members_view members.now.entries)) }
 {
     let mut attributes = Items::new(alloc);
@@ -88,7 +92,11 @@ fn name_of(alloc: Global, items: &[Value]) -> Result<Text, Memory>
     }
 }
 
-fn attributes_first(alloc: Global, shape: Option<&'static Shape>, items: &[Value]) -> Result<Items<(Text, Text)>, Memory>
+fn attributes_first(
+    alloc: Global,
+    shape: Option<&'static Shape>,
+    items: &[Value],
+) -> Result<Items<(Text, Text)>, Memory>
     ensures { IfOk result (λ a. a ≡ first_attributes (option_map (λ s. shape_of s.now) shape.entry) (items_view items.now)) }
 {
     match items {
@@ -100,7 +108,11 @@ fn attributes_first(alloc: Global, shape: Option<&'static Shape>, items: &[Value
     }
 }
 
-fn attributes_among(alloc: Global, shape: Option<&'static Shape>, items: &[Value]) -> Result<Items<(Text, Text)>, Memory>
+fn attributes_among(
+    alloc: Global,
+    shape: Option<&'static Shape>,
+    items: &[Value],
+) -> Result<Items<(Text, Text)>, Memory>
     ensures { IfOk result (λ a. a ≡ attributes_in (option_map (λ s. shape_of s.now) shape.entry) (items_view items.now)) }
 {
     match items {
@@ -132,7 +144,12 @@ fn note_child(children: &mut Items<u32>, at: u32, item: &Value) -> Result<(), Me
 
 /// Puts the elements of the data last.
 #[cycle(grow)]
-pub(crate) fn grow(alloc: Global, nodes: &mut Vec<Node>, parent: &str, value: &Value) -> Result<(), Memory>
+pub(crate) fn grow(
+    alloc: Global,
+    nodes: &mut Vec<Node>,
+    parent: &str,
+    value: &Value,
+) -> Result<(), Memory>
     requires { length nodes.old.items + size (view value.now) < 2 ^ 32 }
     ensures { OnOk result (nodes.new.items ≡ nodes.old.items ++ map node_of (openings parent.now (length nodes.old.items) (view value.now))) }
 {
@@ -145,7 +162,12 @@ pub(crate) fn grow(alloc: Global, nodes: &mut Vec<Node>, parent: &str, value: &V
 }
 
 #[cycle(grow)]
-fn grow_array(alloc: Global, nodes: &mut Vec<Node>, parent: &str, items: &Vec<Value>) -> Result<(), Memory>
+fn grow_array(
+    alloc: Global,
+    nodes: &mut Vec<Node>,
+    parent: &str,
+    items: &Vec<Value>,
+) -> Result<(), Memory>
     requires { length nodes.old.items + 1 + items_size (items_view items.now.items) < 2 ^ 32 }
     ensures { OnOk result (nodes.new.items ≡ nodes.old.items ++ map node_of (openings parent.now (length nodes.old.items) (view (Value.Array items.now)))) }
 {

@@ -1,13 +1,17 @@
 //! Element trees.
 #![tactic(auto)]
 
+mod breaks;
 mod build;
 mod element;
+mod groups;
 mod halves;
 mod link;
+mod order;
 mod read;
 mod row;
 mod rows;
+mod rule_missing;
 mod shape;
 mod table;
 mod tree;

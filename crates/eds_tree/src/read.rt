@@ -4,7 +4,7 @@ ghost use Rattle.std.specs.Prelude.{◌≡◌, ◌<◌, ◌^◌, length};
 ghost use Rattle.serde_json.specs.View.{view};
 ghost use Rattle.eds_base.specs.Answering.{Answers};
 ghost use Rattle.eds_tree.specs.Elements.{size};
-ghost use Rattle.eds_tree.specs.Reading.{refusal_at, tree_from, tree_in};
+ghost use Rattle.eds_tree.specs.Reading.{plain_refusal, tree_from, tree_in};
 
 use crate::Tree;
 use crate::build::grow;
@@ -14,7 +14,7 @@ use serde_json::Value;
 use std::alloc::Global;
 
 fn refusal(rule: Rule, file: u16, node: u32) -> Refusal
-    ensures { result ≡ refusal_at rule file node }
+    ensures { result ≡ plain_refusal rule file node }
 {
     Refusal {
         rule,

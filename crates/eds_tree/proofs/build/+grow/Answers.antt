@@ -11,7 +11,7 @@ grow_array-returns t c =
     let items = items_view c.args.items.now.items in
     let attributes : c.in_ok-attributes.attributes ≡ attributes_in (shape_named c.args.parent.now c.as_str.result.now) items = search rules in
     rw (view-Array c.args.items.now) (array-grown c.args.parent.now c.args.nodes.now.items c.push.new.self.items _ _ c.len-at.result items c.in_ok-name.name c.as_str.result.now c.as_str-2.result.now _ _
-        (search rules) c.in_ok-push.ensures.items c.in_ok-children.ensures.grown (search rules) c.as_str.ensures c.as_str-2.ensures attributes c.in_ok-children.ensures.children)
+    (search rules) c.in_ok-push.ensures.items c.in_ok-children.ensures.grown (search rules) c.as_str.ensures c.as_str-2.ensures attributes c.in_ok-children.ensures.children)
 
 pub grow_items-loop-item-preserved : goal.grow_items-loop-item-preserved
 grow_items-loop-item-preserved t c =

@@ -1,7 +1,8 @@
 use Rattle.std.proofs.Common.{◌≡◌, ◌+◌, ◌-◌, ◌/◌, Some, true, false, sym, rules, arith, ◌∙◌}
 use Rattle.std.specs.Prelude.{slice_get}
 use Rattle.eds_base.specs.Reading.{same}
-use Rattle.eds_tree.specs.Rows.{row_of, rows_of, precedes}
+use Rattle.eds_tree.specs.ByteOrder.{precedes}
+use Rattle.eds_tree.specs.Rows.{row_of, rows_of}
 use Rattle.eds_tree.proofs.Rising.{found-row, no-row, upper-half, lower-half}
 use Rattle.eds_tree.proofs.halves.find_among.Goals as goal
 

@@ -1,6 +1,7 @@
 use Rattle.std.proofs.Common.{◌≡◌, ℕ, ◌-◌, ◌<◌, ◌≤◌, true, Some}
 use Rattle.std.specs.Prelude.{slice_get}
-use Rattle.eds_tree.specs.Rows.{ElementRow, rows_of, precedes}
+use Rattle.eds_tree.specs.ByteOrder.{precedes}
+use Rattle.eds_tree.specs.Rows.{ElementRow, rows_of}
 use Rattle.eds_tree.proofs.halves.find_among.Given as goal
 
 abbrev pub invariant-loop-low : goal.invariant-loop-low
