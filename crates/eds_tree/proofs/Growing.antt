@@ -1,4 +1,4 @@
--- A tree that grows, and names behind colons.
+-- A tree that grows.
 use Rattle.std.proofs.Common.{◌≡◌, ◌≢◌, ℕ, suc, ◌+◌, ◌-◌, ◌<◌, ◌≤◌, false, List, [], ◌∷◌, ◌++◌, length, map, set, get_or, drop, refl, sym, ap, ◌∙◌, append_assoc, arith, length-append, drop-cons, add-one}
 use Rattle.std.specs.Prelude.{nat_eq}
 use Rattle.std.proofs.lemmas.Bool.Decides.{nat_tests}
@@ -8,7 +8,7 @@ use Rattle.serde_json.specs.View.{view, items_view}
 use Rattle.serde_json.specs.declared.value.Value.{Value}
 use Rattle.eds_tree.specs.declared.tree.Node.{Node}
 use Rattle.eds_tree.specs.Shapes.{shape_named}
-use Rattle.eds_tree.specs.Elements.{openings, openings_in, size, items_size, node_of, after_colons, name_in, attributes_in, child_numbers}
+use Rattle.eds_tree.specs.Elements.{openings, openings_in, size, items_size, node_of, name_in, attributes_in, child_numbers}
 
 -- a node put aside for its children is replaced, once they stand
 pub set-grown : (parent : List ℕ) (old : List Node) (n : Node) (at : ℕ) (d : Items) (new : List Node) → at ≡ length old → new ≡ (old ++ n ∷ []) ++ map node_of (openings_in (name_in d) (at + 1) d)
@@ -57,16 +57,3 @@ items-grown parent old new d ds whole e h =
 
 pub items_view-drop : (vs : List Value) (i : ℕ) (v : Value) → i < length vs → v ≡ get_or vs i v → items_view (drop i vs) ≡ item (view v) (items_view (drop (i + 1) vs))
 items_view-drop vs i v lt e = ap items_view (drop-cons vs i v lt) ∙ rw (add-one, ← e) refl
-
--- ---- names behind colons
-
-not_colon : (x : ℕ) → (x ≢ 58) → nat_eq x 58 ≡ false
-not_colon x h = grind (arith, nat_tests)
-
-pub colons-front : (kept xs ys : List ℕ) → ((i : ℕ) → i < length xs → get_or xs i 0 ≢ 58) → after_colons kept (xs ++ 58 ∷ ys) ≡ after_colons ys ys
-colons-front kept [] ys h = refl
-colons-front kept (x ∷ xs) ys h = rw (not_colon x (h 0 (omega arith))) (colons-front kept xs ys (λ i lt. h (suc i) (omega arith)))
-
-pub colons-none : (kept xs : List ℕ) → ((i : ℕ) → i < length xs → get_or xs i 0 ≢ 58) → after_colons kept xs ≡ kept
-colons-none kept [] h = refl
-colons-none kept (x ∷ xs) h = rw (not_colon x (h 0 (omega arith))) (colons-none kept xs (λ i lt. h (suc i) (omega arith)))

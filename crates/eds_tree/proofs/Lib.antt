@@ -6,3 +6,5 @@ pub mod TableRises
 pub mod Rising
 pub mod Least
 pub mod Lacking
+pub mod Colons
+pub mod Joined

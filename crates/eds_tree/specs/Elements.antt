@@ -2,7 +2,7 @@
 use Rattle.std.specs.Prelude.{ℕ, suc, ◌+◌, ◌&&◌, ◌||◌, not, List, [], ◌∷◌, ◌++◌, map, flat_map, codes, Bool, true, false, if◌then◌else◌, Option, Some, None, nat_eq, Result, Ok, Err, decimal}
 use Rattle.std.specs.Fmt.{signed_decimal}
 use Rattle.std.specs.Cmp.Lexicographic.{pointwise}
-use Rattle.std.specs.List.{list_any}
+use Rattle.std.specs.List.{list_any, after_last}
 use Rattle.serde_json.specs.Data.{Data, null, boolean, number, string, array, object, Num, unsigned, negative, float, Items, no_items, item, Members, no_members, member}
 use Rattle.eds_base.specs.Reading.{same}
 use Rattle.eds_tree.specs.declared.tree.Node.{Node}
@@ -94,17 +94,19 @@ is_element (item (string name) ds) = goes_on_well ds
 is_element (item (array es) ds) = false
 is_element (item (object ms) ds) = false
 
--- what stands after the last colon
-abbrev pub after_colons : List ℕ → List ℕ → List ℕ
-after_colons kept [] = kept
-after_colons kept (c ∷ cs) = if nat_eq c 58 then after_colons cs cs else after_colons kept cs
+abbrev pub is_colon : ℕ → Bool
+is_colon c = nat_eq c 58
+
+-- what stands after the last colon, or the whole name where there is none
+abbrev pub local_name : List ℕ → List ℕ
+local_name name = after_last is_colon name
 
 abbrev pub name_in : Items → List ℕ
 name_in no_items = []
 name_in (item null ds) = []
 name_in (item (boolean b) ds) = []
 name_in (item (number n) ds) = []
-name_in (item (string name) ds) = after_colons name name
+name_in (item (string name) ds) = local_name name
 name_in (item (array es) ds) = []
 name_in (item (object ms) ds) = []
 

@@ -6,5 +6,6 @@ pub mod Shapes
 pub mod Elements
 pub mod Reading
 pub mod Groups
+pub mod AttributeTexts
 pub mod Breaks
 pub mod Missing

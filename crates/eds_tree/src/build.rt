@@ -3,7 +3,7 @@
 ghost use Rattle.std.specs.Prelude.{◌≡◌, ◌+◌, ◌<◌, ◌^◌, ◌++◌, length, map, OnOk, IfOk, option_map};
 ghost use Rattle.serde_json.specs.View.{view, items_view, members_view};
 ghost use Rattle.eds_tree.specs.Rows.{shape_of};
-ghost use Rattle.eds_tree.specs.Elements.{after_colons as local_from, is_foreign as foreign, is_watched as watched, is_kept as kept, text_of as text_from, attributes_from, attributes_in, first_attributes, name_in, size, items_size, openings, openings_in, child_number, child_numbers, node_of};
+ghost use Rattle.eds_tree.specs.Elements.{local_name as local_from, is_foreign as foreign, is_watched as watched, is_kept as kept, text_of as text_from, attributes_from, attributes_in, first_attributes, name_in, size, items_size, openings, openings_in, child_number, child_numbers, node_of};
 
 use crate::row::Shape;
 use crate::shape::{lists, shape_named};
@@ -32,10 +32,10 @@ fn is_kept(shape: Option<&'static Shape>, name: &str) -> bool
 
 // What stands after the last colon.
 fn local_name(name: &str) -> &str
-    ensures { result.now ≡ local_from name.now name.now }
+    ensures { result.now ≡ local_from name.now }
 {
-    match name.split_once(':') {
-        Some((_, after)) => local_name(after),
+    match name.rsplit_once(':') {
+        Some((_, after)) => after,
         None => name,
     }
 }

@@ -14,6 +14,7 @@ mod rows;
 mod rule_missing;
 mod shape;
 mod table;
+mod texts;
 mod tree;
 
 pub use link::Link;
@@ -21,4 +22,5 @@ pub use read::read_tree;
 pub use row::{Attribute, Child, Form, Mark, Row, Shape};
 pub use rows::Rows;
 pub use table::{ELEMENTS, element_rows};
+pub use texts::{flag_value, whole_number};
 pub use tree::{Node, Tree};
