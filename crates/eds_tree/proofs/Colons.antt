@@ -21,7 +21,7 @@ a_colon x h = grind (arith, nat_tests)
 pub local_name-cut : (name : List ℕ) (n : ℕ) → n ≤ length name → ((k : ℕ) → n ≤ k → k < length name → get_or name k 0 ≢ 58) → (0 < n → get_or name (n - 1) 0 ≡ 58) → local_name name ≡ drop n name
 local_name-cut name n le none one =
     let cut : suffix_len (λ x. not (is_colon x)) name ≡ length name - n =
-        suffix_len_is (λ x. not (is_colon x)) name n 0 le (λ k from to. not_colon (get_or name k 0) (none k from to)) (λ some. a_colon (get_or name (n - 1) 0) (one some)) in
+    suffix_len_is (λ x. not (is_colon x)) name n 0 le (λ k from to. not_colon (get_or name k 0) (none k from to)) (λ some. a_colon (get_or name (n - 1) 0) (one some)) in
     let at : length name - (length name - n) ≡ n = omega arith in
     ap (λ m. drop (length name - m) name) cut ∙ ap (λ m. drop m name) at
 
@@ -34,9 +34,9 @@ local_name-behind name after i j none here e l =
     let colon : get_or name i 0 ≡ 58 = here.byte (omega arith) in
     let back : j - 1 ≡ i = omega arith in
     e ∙ sym (local_name-cut name j le
-        (λ k from to h. let at : j + (k - j) ≡ k = omega arith in
-            NoCharPasses-char 58 (drop j name) (k - j) none (omega arith) (omega arith) (get_or-drop j name (k - j) 0 ∙ ap (λ m. get_or name m 0) at ∙ h))
-        (λ some. ap (λ m. get_or name m 0) back ∙ colon))
+    (λ k from to h. let at : j + (k - j) ≡ k = omega arith in
+    NoCharPasses-char 58 (drop j name) (k - j) none (omega arith) (omega arith) (get_or-drop j name (k - j) 0 ∙ ap (λ m. get_or name m 0) at ∙ h))
+    (λ some. ap (λ m. get_or name m 0) back ∙ colon))
 
 -- a name without a colon
 pub local_name-whole : (name : List ℕ) → NoCharPasses (λ d. d == 58) name → name ≡ local_name name

@@ -5,6 +5,8 @@ pub mod Bound
 pub mod TableRises
 pub mod Rising
 pub mod Least
-pub mod Lacking
+pub mod ByteFirst
 pub mod Colons
 pub mod Joined
+pub mod Lowest
+pub mod Counting

@@ -7,5 +7,12 @@ pub mod Elements
 pub mod Reading
 pub mod Groups
 pub mod AttributeTexts
+pub mod Attributes
 pub mod Breaks
+pub mod Unsupported
 pub mod Missing
+pub mod Unknown
+pub mod BadAttribute
+pub mod BadName
+pub mod Limits
+pub mod ShapeCheck

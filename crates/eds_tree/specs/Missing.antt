@@ -11,12 +11,10 @@ use Rattle.eds_tree.specs.Rows.{AttributeRow, ChildRow, ElementShape}
 use Rattle.eds_tree.specs.Trees.{name_at, attributes_at, text_among, children_of}
 use Rattle.eds_tree.specs.Shapes.{is_among, shape_at}
 use Rattle.eds_tree.specs.Groups.{is_member}
+use Rattle.eds_tree.specs.Attributes.{has_attribute, failing, lacks_attribute}
 use Rattle.eds_tree.specs.Breaks.{Judgement, refusal_if}
 
 -- ---- attributes
-
-abbrev pub has_attribute : List (List ℕ × List ℕ) → List ℕ → Bool
-has_attribute held name = is_some (text_among held name)
 
 -- which ends of a range a type of range asks for
 abbrev pub range_ends : Option (List ℕ) → List (List ℕ)
@@ -32,12 +30,9 @@ asked_for name held =
     if same name (codes "MinMaxRange") then range_ends (text_among held (codes "rangeType")) else
     if same name (codes "Dimension") then (if has_attribute held (codes "indexTypeRef") then [] else codes "size" ∷ []) else []
 
-abbrev pub attribute_name : AttributeRow → List ℕ
-attribute_name row = row.name
-
 -- the attributes that an element lacks
 abbrev pub missing_attributes : (name : List ℕ) → ElementShape → List (List ℕ × List ℕ) → List (List ℕ)
-missing_attributes name shape held = filter (λ a. not (has_attribute held a)) (map attribute_name shape.required ++ asked_for name held)
+missing_attributes name shape held = failing (lacks_attribute held) shape.required ++ filter (λ a. not (has_attribute held a)) (asked_for name held)
 
 -- ---- children
 

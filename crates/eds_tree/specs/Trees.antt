@@ -56,9 +56,13 @@ attribute_at t i name = text_among (attributes_at t i) name
 abbrev pub is_passed_over : List ℕ → Bool
 is_passed_over name = list_any (same name) (map codes ("Device" ∷ "LongDescription" ∷ "Metadata" ∷ "MetadataSet" ∷ "MetadataValueSet" ∷ "NominalRangeSet" ∷ "SafeRangeSet" ∷ "Semantics" ∷ "include" ∷ []))
 
+-- those of some elements that aren't passed over
+abbrev pub counted : List Node → List ℕ → List ℕ
+counted t children = filter (λ child. not (is_passed_over (name_at t child))) children
+
 -- the children of an element that aren't passed over, in document order
 abbrev pub children_of : List Node → ℕ → List ℕ
-children_of t i = filter (λ child. not (is_passed_over (name_at t child))) (children_at t i)
+children_of t i = counted t (children_at t i)
 
 abbrev pub is_named : List Node → List ℕ → ℕ → Bool
 is_named t name i = same (name_at t i) name

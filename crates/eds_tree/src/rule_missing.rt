@@ -2,25 +2,21 @@
 
 ghost use Rattle.std.specs.Prelude.{◌≡◌, map, length, filter, not, nat_lt, option_map};
 ghost use Rattle.eds_tree.specs.ByteOrder.{first_from, first_in_order};
-ghost use Rattle.eds_tree.specs.Rows.{attribute_of, child_of, shape_of};
-ghost use Rattle.eds_tree.specs.Missing.{has_attribute as has, range_ends as ends_of, asked_for as also_needed, attribute_name, missing_attributes, fewest as fewest_of, members_of, lacks as lacks_row, child_name, missing_children, missing_in};
+ghost use Rattle.eds_tree.specs.Rows.{child_of, shape_of};
+ghost use Rattle.eds_tree.specs.Missing.{range_ends as ends_of, asked_for as also_needed, missing_attributes, fewest as fewest_of, members_of, lacks as lacks_row, child_name, missing_children, missing_in};
+ghost use Rattle.eds_tree.specs.Attributes.{has_attribute as has};
 ghost use Rattle.eds_tree.specs.Trees.{children_of};
 
+use crate::attributes::{Lacks, first_failing, has_attribute};
 use crate::breaks::{ElementRule, refusal};
 use crate::groups::is_member;
 use crate::link::{Link, attributes_at, children_at, is_passed_over, name_at, text_among};
 use crate::order::first_of;
-use crate::row::{Attribute, Child, Mark, Shape};
+use crate::row::{Child, Mark, Shape};
 use crate::shape::{is_among, shape_at};
 use crate::tree::Node;
 use eds_base::{Memory, Refusal, Rule, Text};
 use std::alloc::Global;
-
-fn has_attribute(attributes: &[(Text, Text)], name: &str) -> bool
-    ensures { result ≡ has attributes.now name.now }
-{
-    text_among(attributes, name).is_some()
-}
 
 // Which ends of a range a type of range asks for.
 fn range_ends(word: Option<&str>) -> &'static [&'static str]
@@ -67,24 +63,6 @@ fn asked_for(name: &str, attributes: &[(Text, Text)]) -> &'static [&'static str]
     }
 }
 
-// The first of some required attributes that is missing.
-fn first_missing(
-    required: &'static [Attribute],
-    attributes: &[(Text, Text)],
-) -> Option<&'static str>
-    ensures { option_map (λ w. w.now) result ≡ first_in_order (filter (λ a. not (has attributes.now a)) (map attribute_name (map attribute_of required.now))) }
-{
-    let mut found = None;
-    let mut rest = required;
-    while let [row, after @ ..] = rest {
-        if !has_attribute(attributes, row.name) {
-            found = first_of(found, row.name);
-        }
-        rest = after;
-    }
-    found
-}
-
 // The first of some names that is missing, and of one that is found already.
 fn first_asked(
     before: Option<&'static str>,
@@ -113,7 +91,7 @@ fn missing_attribute(
     ensures { option_map (λ w. w.now) result ≡ first_in_order (missing_attributes name.now (shape_of shape.now) attributes.now) }
 {
     first_asked(
-        first_missing(shape.required, attributes),
+        first_failing::<Lacks>(None, shape.required, attributes),
         asked_for(name, attributes),
         attributes,
     )

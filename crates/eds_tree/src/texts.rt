@@ -247,6 +247,13 @@ pub(crate) fn has_name_form(form: Form, text: &str) -> bool
     match form {
         Form::Name => is_name(text.as_bytes()),
         Form::PackageName => are_names(text.as_bytes(), b'/'),
-        Form::Reference | Form::Path | Form::Whole | Form::AtLeast(_) | Form::Between(_, _) | Form::Flag | Form::Word(_) | Form::Text => true,
+        Form::Reference
+        | Form::Path
+        | Form::Whole
+        | Form::AtLeast(_)
+        | Form::Between(_, _)
+        | Form::Flag
+        | Form::Word(_)
+        | Form::Text => true,
     }
 }

@@ -31,6 +31,9 @@ pub struct Tree {
     nodes: Items<Node>,
 }
 
+/// The trees of the files of a sheet, in the order of the files.
+pub type Trees = Items<Tree>;
+
 impl Model for Tree {
     ghost use Rattle.std.specs.Prelude.{List};
     ghost use Rattle.eds_tree.specs.declared.tree.Node.{Node};

@@ -1,7 +1,7 @@
 use Rattle.std.proofs.Common.{◌≡◌, map, length, filter, not}
 use Rattle.std.specs.Prelude.{option_map}
 use Rattle.eds_tree.specs.ByteOrder.{first_from}
-use Rattle.eds_tree.specs.Missing.{has_attribute}
+use Rattle.eds_tree.specs.Attributes.{has_attribute}
 use Rattle.eds_tree.proofs.rule_missing.first_asked.Given as goal
 
 abbrev pub invariant-loop-rest : goal.invariant-loop-rest
