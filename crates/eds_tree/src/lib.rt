@@ -32,3 +32,6 @@ pub use shape_rules::shape_check;
 pub use table::{ELEMENTS, element_rows};
 pub use texts::{flag_value, whole_number};
 pub use tree::{Node, Tree, Trees};
+
+#[cfg(test)]
+mod tests;
