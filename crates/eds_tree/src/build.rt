@@ -136,9 +136,8 @@ fn note_child(children: &mut Items<u32>, at: u32, item: &Value) -> Result<(), Me
 {
     match item {
         Value::Array(_) => children.push(at),
-        Value::Null | Value::Bool(_) | Value::Number(_) | Value::String(_) | Value::Object(_) => Ok(
-            (),
-        ),
+        Value::String(_) => Ok(()),
+        Value::Null | Value::Bool(_) | Value::Number(_) | Value::Object(_) => Ok(()),
     }
 }
 
