@@ -1,0 +1,29 @@
+use Rattle.std.proofs.Common.{◌-◌, ◌^◌, ◌≤◌, arith}
+use Rattle.std.proofs.Math.Nat.{pow-le-pow_right}
+use Rattle.std.proofs.lemmas.Int.{ints}
+use Rattle.std.proofs.lemmas.Nat.{one_shl, pow_pos}
+use Rattle.eds_bits.proofs.Patterns.{halves, magnitude_positive, magnitude_negative}
+use Rattle.eds_bits.proofs.encodings.sign_magnitude.encode.Goals as goal
+
+pub overflow_cast-result-then-n-lt0 : goal.overflow_cast-result-then-n-lt0
+overflow_cast-result-then-n-lt0 c =
+    let most : 2 ^ c.args.bits ≤ 2 ^ 64 = pow-le-pow_right (omega arith) c.requires.few in
+    let half = halves c.args.bits c.requires.some in
+    let full = one_shl c.args.bits 128 (omega arith) in
+    let some = one_shl (c.args.bits - 1) 128 (omega arith) in
+    grind (arith, ints)
+
+pub returns-then-n-lt0-clause-number : goal.returns-then-n-lt0-clause-number
+returns-then-n-lt0-clause-number c =
+    let most : 2 ^ c.args.bits ≤ 2 ^ 64 = pow-le-pow_right (omega arith) c.requires.few in
+    let half = halves c.args.bits c.requires.some in
+    let full = one_shl c.args.bits 128 (omega arith) in
+    let some = one_shl (c.args.bits - 1) 128 (omega arith) in
+    magnitude_negative c.args.bits _ c.args.n c.requires.some (omega (arith, ints)) (omega (arith, ints)) (omega (arith, ints))
+
+pub returns-else-n-lt0-clause-small : goal.returns-else-n-lt0-clause-small
+returns-else-n-lt0-clause-small c = let half = halves c.args.bits c.requires.some in omega (arith, ints, pow_pos (c.args.bits - 1))
+
+pub returns-else-n-lt0-clause-number : goal.returns-else-n-lt0-clause-number
+returns-else-n-lt0-clause-number c =
+    magnitude_positive c.args.bits _ c.args.n c.requires.some (omega (arith, ints, pow_pos (c.args.bits - 1))) (omega (arith, ints))

@@ -1,0 +1,52 @@
+-- A valid command is done.
+use Rattle.std.proofs.Common.{◌≡◌, ℕ, ◌-◌, ◌<◌, ◌≤◌, List, length, true, false, nat_le, Some, Result, Ok, refl, ◌∙◌, ap, arith}
+use Rattle.std.proofs.lemmas.Bool.{le-leb, lt-leb}
+use Rattle.eds_bits.specs.Bits.{bits_of}
+use Rattle.eds_io.specs.Files.{Files}
+use Rattle.eds_cmd.specs.declared.command.Verb.{Verb}
+use Rattle.eds_cmd.specs.declared.command.Verb.TheVariants.{Unpack}
+use Rattle.eds_cmd.specs.Limits.{frame_octets, sheet_octets}
+use Rattle.eds_cmd.specs.declared.status.Status.{Status}
+use Rattle.eds_cmd.specs.declared.status.Status.TheVariants as statuses
+use Rattle.eds_cmd.specs.declared.stop.Stop.{Stop}
+use Rattle.eds_cmd.specs.Answer.{AnswersCommand, IsValid, IsValidFrame, IsValidInput, performed, status_from, worked}
+use Rattle.eds_cmd.specs.Command.{CommandWords, input_most}
+use Rattle.eds_cmd.specs.Shown.{bits_report, value_text}
+use Rattle.eds_cmd.specs.Target.{TypeIn}
+use Rattle.eds_cmd.specs.Unpack.{frame_for, unpacked, unpacked_bits}
+use Rattle.eds_cmd.proofs.AnswerLemmas.{command_one}
+use Rattle.eds_cmd.proofs.SpellingLemmas.{value_read}
+
+abbrev done : List ℕ → Result (List ℕ) Stop
+done report = Ok report
+
+abbrev frame : List ℕ → Result (List ℕ) Stop
+frame octets = Ok octets
+
+valid_frame : (type : TypeIn) (text : List ℕ) (v : IsValidFrame type text) → frame_for text ≡ frame v.frame
+unfolding frame_for
+valid_frame type text v = rw (v.hex, le-leb (length v.frame) frame_octets v.within) refl
+
+valid_bits : (type : TypeIn) (text : List ℕ) (v : IsValidFrame type text) → (report : List ℕ) × (unpacked_bits type (bits_of v.frame) ≡ done report)
+unfolding unpacked_bits
+valid_bits type text v =
+    let few : nat_le 8 (length v.rest) ≡ false = lt-leb 8 (length v.rest) (omega (arith, v.few)) in (
+      bits_report (value_text type.word type.row v.value) (length (bits_of v.frame) - length v.rest),
+      rw (value_read type.id type.row v.value v.front v.rest (bits_of v.frame) v.begins, few) refl,
+    )
+
+valid_work : (verb : Verb) (type : TypeIn) (input : List ℕ) → IsValidInput verb type input → (report : List ℕ) × (worked verb type input ≡ done report)
+valid_work Unpack type input v =
+    let bits = valid_bits type input v in
+    (bits.0, rw (valid_frame type input v) bits.1)
+
+pub valid_performed : (files : Files) (c : CommandWords) → IsValid files c → (report : List ℕ) × (performed files c ≡ done report)
+valid_performed files c v =
+    let work = valid_work c.verb v.type v.input v.input_valid in
+    let sheet_within : nat_le (length v.octets) sheet_octets ≡ true = le-leb (length v.octets) sheet_octets v.sheet_within in
+    let input_within : nat_le (length v.input) (input_most c.verb) ≡ true = le-leb (length v.input) (input_most c.verb) v.input_within in
+    (work.0, rw (v.sheet_there, sheet_within, v.sheet_accepted, v.type_named, v.input_there, input_within) work.1)
+
+pub valid_done : (files : Files) (c : CommandWords) (status : Status) (report : List ℕ) → IsValid files c → AnswersCommand (Some c) files status report → status ≡ statuses.Done
+valid_done files c status report v answer =
+    (command_one files c status report answer).0 ∙ ap (λ (r : Result (List ℕ) Stop). status_from r) (valid_performed files c v).1

@@ -1,0 +1,40 @@
+use Rattle.std.proofs.Common.{◌≡◌, ◌≢◌, ◌∙◌, ap, sym, subst, refl, inl, inr, ⊎_elim, Option, Some, None}
+use Rattle.eds_cmd.specs.declared.status.Status.{Status}
+use Rattle.eds_cmd.specs.declared.status.Status.TheVariants as statuses
+use Rattle.eds_cmd.specs.Command.{CommandWords, command_of, words_of}
+use Rattle.eds_cmd.specs.Outcome.{IsFault}
+use Rattle.eds_cmd.specs.Reports.{usage_line}
+use Rattle.eds_cmd.proofs.ValidLemmas.{valid_done}
+use Rattle.eds_cmd.proofs.top.eds.Goals as goal
+
+-- what is no fault is no write fault
+not_write_fault : (status : Status) → (IsFault status → ⊥) → status ≢ statuses.WriteFault
+not_write_fault status calm e = calm (subst IsFault (sym e) tt)
+
+pub returns-in_default-clause-answer : goal.returns-in_default-clause-answer
+returns-in_default-clause-answer g c = λ files before told written calm.
+    let none : command_of c.args.words.now ≡ None = rw (← c.as_slice.ensures) (sym c.in_default.ensures) in
+    let whole = not_write_fault c.finish.result calm in
+    (usage_line, rw none (c.finish.ensures.kept whole, refl), c.finish.ensures.whole before written whole)
+
+pub returns-in_default-clause-write_prefix : goal.returns-in_default-clause-write_prefix
+returns-in_default-clause-write_prefix g c = λ files before told written fault.
+    let none : command_of c.args.words.now ≡ None = rw (← c.as_slice.ensures) (sym c.in_default.ensures) in
+    let front = c.finish.ensures.prefix before written refl fault in
+    (usage_line, front.0, (statuses.Usage, inl (rw none (refl, refl))), front.1)
+
+pub returns-in-Ok-clause-write_prefix : goal.returns-in-Ok-clause-write_prefix
+returns-in-Ok-clause-write_prefix g c = λ files before told written fault.
+    let some : command_of c.args.words.now ≡ Some (words_of c.in-Some.command) = rw (← c.as_slice.ensures) (sym c.in-Some.ensures) in
+    let front = rw c.as_str.ensures at (c.finish-in-Ok.ensures.prefix before written c.in-Ok.ensures.written fault) in
+    (c.in-Ok.field-0.report, front.0, (c.in-Ok.field-0.status, rw some (c.in-Ok.ensures.told files told)), front.1)
+
+pub returns-in-Ok-clause-complete : goal.returns-in-Ok-clause-complete
+returns-in-Ok-clause-complete g c = λ files words told is valid reads_calm writes_calm.
+    let some : Some (words_of c.in-Some.command) ≡ Some words = c.in-Some.ensures ∙ rw c.as_slice.ensures is in
+    let same : words_of c.in-Some.command ≡ words = cc some in
+    let kept = c.finish-in-Ok.ensures.kept (λ e. writes_calm (c.finish-in-Ok.ensures.cause c.in-Ok.ensures.written e)) in
+    ⊎_elim
+    (λ answer. inl (kept ∙ valid_done files (words_of c.in-Some.command) c.in-Ok.field-0.status c.in-Ok.field-0.report (rw same valid) answer))
+    (λ unread. absurd (reads_calm unread.name unread.risen))
+    (c.in-Ok.ensures.told files told)

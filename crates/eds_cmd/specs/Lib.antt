@@ -1,0 +1,17 @@
+pub mod Limits
+pub mod Flat
+pub mod Sizes
+pub mod Status
+pub mod Reports
+pub mod Values
+pub mod Reading
+pub mod Shown
+pub mod Hex
+pub mod Command
+pub mod Stops
+pub mod Target
+pub mod Unpack
+pub mod Laws
+pub mod Answer
+pub mod Halts
+pub mod Outcome

@@ -1,0 +1,104 @@
+-- The lines that are reported.
+use Rattle.std.specs.Prelude.{ℕ, List, [], ◌∷◌, ◌++◌, codes, decimal, Option, Some, None, slice_get}
+use Rattle.std.specs.Fmt.{signed_decimal}
+use Rattle.eds_base.specs.Rules.{rule_number, rule_name}
+use Rattle.eds_base.specs.declared.ids.Place.{Place}
+use Rattle.eds_base.specs.declared.rule.Rule.{Rule}
+use Rattle.eds_base.specs.declared.refusal.CommonNumber.{CommonNumber}
+use Rattle.eds_base.specs.declared.refusal.Kept.{Kept}
+use Rattle.eds_base.specs.declared.refusal.Kept.TheVariants.{Nothing, Word, Overlap}
+use Rattle.eds_base.specs.declared.refusal.Refusal.{Refusal}
+use Rattle.eds_base.specs.declared.fault.Step.{Step}
+use Rattle.eds_base.specs.declared.fault.Step.TheVariants.{Part, Item, Choice}
+use Rattle.eds_cmd.specs.declared.status.What.{What}
+use Rattle.eds_cmd.specs.declared.status.What.TheVariants.{File, Input, Frame}
+use Rattle.eds_cmd.specs.declared.sheet.Unsigned.{Unsigned}
+use Rattle.eds_cmd.specs.declared.sheet.Row.{Row}
+use Rattle.eds_cmd.specs.declared.sheet.Row.TheVariants.{Int, Con}
+use Rattle.eds_cmd.specs.declared.sheet.Sheet.{Sheet}
+use Rattle.eds_cmd.specs.Flat.{row_name}
+
+-- ---- refusals
+
+-- ` PATH=NUMBER` for each
+abbrev pub common_text : List CommonNumber → List ℕ
+common_text [] = []
+common_text (c ∷ cs) = (codes " " ++ c.path ++ codes "=" ++ signed_decimal c.number) ++ common_text cs
+
+-- a space and the kept text, where there is one
+abbrev pub kept_text : Kept → List ℕ
+kept_text Nothing = []
+kept_text (Word word) = codes " " ++ word
+kept_text (Overlap note) = codes " " ++ note.first ++ codes " " ++ note.second ++ common_text note.common
+
+abbrev pub rule_text : Rule → List ℕ
+rule_text rule = decimal (rule_number rule) ++ codes " " ++ rule_name rule
+
+abbrev pub place_text : Place → List ℕ
+place_text place = decimal place.file ++ codes ":" ++ decimal place.node
+
+-- `refused NUMBER RULE at FILE:NODE`, and the kept text
+abbrev pub refusal_line : Refusal → List ℕ
+refusal_line r = codes "refused " ++ rule_text r.rule ++ codes " at " ++ place_text r.place ++ kept_text r.kept ++ codes "\n"
+
+-- ---- files and limits
+
+abbrev pub no_file_line : List ℕ → List ℕ
+no_file_line name = codes "no file " ++ name ++ codes "\n"
+
+abbrev pub read_fault_line : List ℕ → List ℕ
+read_fault_line name = codes "read fault " ++ name ++ codes "\n"
+
+abbrev pub what_text : What → List ℕ
+what_text File = codes "file"
+what_text Input = codes "input"
+what_text Frame = codes "frame"
+
+abbrev pub limit_line : What → ℕ → List ℕ
+limit_line what most = codes "limit " ++ what_text what ++ codes " " ++ decimal most ++ codes "\n"
+
+abbrev pub usage_line : List ℕ
+usage_line = codes "usage: eds COMMAND ARGUMENTS\n"
+
+-- ---- faults
+
+-- the name of a package's type with the package's name
+abbrev pub qualified : List ℕ → List ℕ → List ℕ
+qualified package_name name = package_name ++ codes "/" ++ name
+
+abbrev pub name_or_none : Option Row → List ℕ
+name_or_none None = []
+name_or_none (Some row) = row_name row
+
+abbrev pub row_entries : Row → List Unsigned
+row_entries (Int own) = []
+row_entries (Con name entries) = entries
+
+abbrev pub entries_or_none : Option Row → List Unsigned
+entries_or_none None = []
+entries_or_none (Some row) = row_entries row
+
+abbrev pub entry_name_or_none : Option Unsigned → List ℕ
+entry_name_or_none None = []
+entry_name_or_none (Some entry) = entry.name
+
+-- the name of the entry at a position of the container at a position
+abbrev pub part_name : List Row → ℕ → ℕ → List ℕ
+part_name rows id at = entry_name_or_none (slice_get (entries_or_none (slice_get rows id)) at)
+
+-- `.NAME` for an entry, `[I]` for an item, `<NAME>` for a choice
+abbrev pub step_text : Sheet → Step → List ℕ
+step_text sheet (Part id at) = codes "." ++ part_name sheet.rows id.0 at
+step_text sheet (Item i) = codes "[" ++ decimal i ++ codes "]"
+step_text sheet (Choice id) = codes "<" ++ qualified sheet.name (name_or_none (slice_get sheet.rows id.0)) ++ codes ">"
+
+abbrev pub steps_text : Sheet → List Step → List ℕ
+steps_text sheet [] = []
+steps_text sheet (step ∷ steps) = step_text sheet step ++ steps_text sheet steps
+
+abbrev pub path_text : Sheet → List Step → List ℕ
+path_text sheet steps = codes "$" ++ steps_text sheet steps
+
+-- `fault REASON at PATH`
+abbrev pub fault_line : List ℕ → List ℕ → List ℕ
+fault_line reason path = codes "fault " ++ reason ++ codes " at " ++ path ++ codes "\n"

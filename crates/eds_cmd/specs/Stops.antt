@@ -1,0 +1,54 @@
+-- What ends a command before it is done, with the report.
+use Rattle.std.specs.Prelude.{◌≡◌, ℕ, List, codes}
+use Rattle.eds_base.specs.Faults.{reason_name}
+use Rattle.eds_base.specs.declared.fault.Reason.{Reason}
+use Rattle.eds_base.specs.declared.fault.Step.{Step}
+use Rattle.eds_base.specs.declared.refusal.Kept.TheVariants.{Word}
+use Rattle.eds_base.specs.declared.refusal.Refusal.{Refusal}
+use Rattle.eds_base.specs.declared.rule.Rule.TheVariants.{Unsupported, Unresolved}
+use Rattle.eds_cmd.specs.declared.sheet.Sheet.{Sheet}
+use Rattle.eds_cmd.specs.declared.status.Status.{Status}
+use Rattle.eds_cmd.specs.declared.status.Status.TheVariants as statuses
+use Rattle.eds_cmd.specs.declared.status.DataFault.TheVariants as faults
+use Rattle.eds_cmd.specs.declared.status.What.{What}
+use Rattle.eds_cmd.specs.declared.stop.Cause.{Cause}
+use Rattle.eds_cmd.specs.declared.stop.Cause.TheVariants.{Sheet as Refused, Data, Limit, NoFile}
+use Rattle.eds_cmd.specs.declared.stop.Stop.{Stop}
+use Rattle.eds_cmd.specs.Reports.{fault_line, limit_line, no_file_line, path_text, refusal_line}
+
+abbrev pub status_of : Cause → Status
+status_of (Refused refusal) = statuses.Sheet refusal
+status_of (Data fault) = statuses.Data fault
+status_of (Limit what most) = statuses.Limit what most
+status_of (NoFile name) = statuses.NoFile name
+
+-- the status and the report are those of a stop
+pub record IsStop (stop : Stop) (status : Status) (report : List ℕ) : Type 0 where
+  pub status_is : status ≡ status_of stop.cause
+  pub report_is : report ≡ stop.report
+
+abbrev pub missing : List ℕ → Stop
+missing name = record { cause = NoFile name; report = no_file_line name }
+
+abbrev pub limited : What → ℕ → Stop
+limited what most = record { cause = Limit what most; report = limit_line what most }
+
+abbrev pub refused : Refusal → Stop
+refused refusal = record { cause = Refused refusal; report = refusal_line refusal }
+
+-- the file is not of the flat form
+abbrev pub not_flat : Stop
+not_flat = refused (record { rule = Unsupported; place = record { file = 0; node = 0 }; kept = Word (codes "flat") })
+
+-- the word, which stands behind the one sheet file, names no type
+abbrev pub unresolved : List ℕ → Stop
+unresolved word = refused (record { rule = Unresolved; place = record { file = 1; node = 0 }; kept = Word word })
+
+abbrev pub bad_hex : Stop
+bad_hex = record { cause = Data faults.Hex; report = fault_line (codes "BadHex") (codes "$") }
+
+abbrev pub frame_fault : Sheet → Reason → List Step → Stop
+frame_fault sheet reason path = record {
+  cause = Data (faults.Frame (record { reason = reason; path = path }));
+  report = fault_line (reason_name reason) (path_text sheet path);
+}

@@ -1,0 +1,29 @@
+//! The top call: a command, its files, and its report.
+#![tactic(auto)]
+
+mod command;
+mod flat;
+mod halt;
+mod hex_text;
+mod law;
+mod limits;
+mod names;
+mod perform;
+mod report;
+mod sheet;
+mod shown;
+mod status;
+mod stop;
+mod target;
+mod top;
+mod unpack;
+mod value;
+mod words;
+
+pub use law::{answer_is_one, reading_is_exact};
+pub use status::{DataFault, Status, What};
+pub use top::eds;
+pub use words::Words;
+
+#[cfg(test)]
+mod tests;

@@ -1,0 +1,188 @@
+//! The lines that are reported.
+
+ghost use Rattle.std.specs.Prelude.{◌≡◌, IfOk, string_bytes, slice_get};
+ghost use Rattle.eds_cmd.specs.Reports.{common_text as text_of_common, entries_or_none, entry_name_or_none, row_entries as entries_of_row, fault_line as line_of_fault, kept_text as text_of_kept, limit_line as line_of_limit, name_or_none, no_file_line as line_of_no_file, part_name as name_of_part, path_text as text_of_path, place_text as text_of_place, qualified as joined, read_fault_line as line_of_read_fault, refusal_line as line_of_refusal, rule_text as text_of_rule, step_text as text_of_step, what_text as text_of_what};
+
+use crate::names::row_name;
+use crate::sheet::{Row, Sheet, Unsigned};
+use crate::status::What;
+use eds_base::{CommonNumber, Kept, Path, Place, Refusal, Rule, Step, TypeId};
+use std::alloc::{AllocError, Global};
+
+// ` PATH=NUMBER` for each.
+fn common_text(alloc: Global, common: &[CommonNumber]) -> Result<String, AllocError>
+    ensures { IfOk result (λ s. string_bytes s ≡ text_of_common common.now) }
+{
+    let mut text = String::new(alloc);
+    let mut rest = common;
+    while let [one, after @ ..] = rest {
+        let path = one.path.as_str();
+        let number = one.number;
+        let part = format!(in alloc; " {path}={number}")?;
+        text.push_str(part.as_str())?;
+        rest = after;
+    }
+    Ok(text)
+}
+
+// A space and the kept text, where there is one.
+fn kept_text(alloc: Global, kept: &Kept) -> Result<String, AllocError>
+    ensures { IfOk result (λ s. string_bytes s ≡ text_of_kept kept.now) }
+{
+    match kept {
+        Kept::Nothing => Ok(String::new(alloc)),
+        Kept::Word(word) => {
+            let word = word.as_str();
+            Ok(format!(in alloc; " {word}")?)
+        }
+        Kept::Overlap(note) => {
+            let first = note.first.as_str();
+            let second = note.second.as_str();
+            let mut text = format!(in alloc; " {first} {second}")?;
+            let common = common_text(alloc, note.common.as_slice())?;
+            text.push_str(common.as_str())?;
+            Ok(text)
+        }
+    }
+}
+
+fn rule_text(alloc: Global, rule: Rule) -> Result<String, AllocError>
+    ensures { IfOk result (λ s. string_bytes s ≡ text_of_rule rule) }
+{
+    let number = rule.number();
+    let name = rule.name();
+    Ok(format!(in alloc; "{number} {name}")?)
+}
+
+fn place_text(alloc: Global, place: Place) -> Result<String, AllocError>
+    ensures { IfOk result (λ s. string_bytes s ≡ text_of_place place) }
+{
+    let file = place.file;
+    let node = place.node;
+    Ok(format!(in alloc; "{file}:{node}")?)
+}
+
+/// The line of a refusal.
+pub fn refusal_line(alloc: Global, refusal: &Refusal) -> Result<String, AllocError>
+    ensures { IfOk result (λ s. string_bytes s ≡ line_of_refusal refusal.now) }
+{
+    let rule = rule_text(alloc, refusal.rule)?;
+    let place = place_text(alloc, refusal.place)?;
+    let kept = kept_text(alloc, &refusal.kept)?;
+    let mut line = String::from_str(alloc, "refused ")?;
+    line.push_str(rule.as_str())?;
+    line.push_str(" at ")?;
+    line.push_str(place.as_str())?;
+    line.push_str(kept.as_str())?;
+    line.push_str("\n")?;
+    Ok(line)
+}
+
+/// The line of a missing file.
+pub fn no_file_line(alloc: Global, name: &str) -> Result<String, AllocError>
+    ensures { IfOk result (λ s. string_bytes s ≡ line_of_no_file name.now) }
+{
+    Ok(format!(in alloc; "no file {name}\n")?)
+}
+
+/// The line of a read that failed.
+pub fn read_fault_line(alloc: Global, name: &str) -> Result<String, AllocError>
+    ensures { IfOk result (λ s. string_bytes s ≡ line_of_read_fault name.now) }
+{
+    Ok(format!(in alloc; "read fault {name}\n")?)
+}
+
+fn what_text(what: What) -> &'static str
+    ensures { result.now ≡ text_of_what what }
+{
+    match what {
+        What::File => "file",
+        What::Input => "input",
+        What::Frame => "frame",
+    }
+}
+
+/// The line of a limit that was passed.
+pub fn limit_line(alloc: Global, what: What, most: u64) -> Result<String, AllocError>
+    ensures { IfOk result (λ s. string_bytes s ≡ line_of_limit what most) }
+{
+    let word = what_text(what);
+    Ok(format!(in alloc; "limit {word} {most}\n")?)
+}
+
+/// The name of a package's type with the package's name.
+pub fn qualified(alloc: Global, package_name: &str, name: &str) -> Result<String, AllocError>
+    ensures { IfOk result (λ s. string_bytes s ≡ joined package_name.now name.now) }
+{
+    Ok(format!(in alloc; "{package_name}/{name}")?)
+}
+
+/// The entries of a type, none where it is no container.
+pub fn row_entries(row: &Row) -> &[Unsigned]
+    ensures { result.now ≡ entries_of_row row.now }
+{
+    match row {
+        Row::Int(_) => &[],
+        Row::Con(_, entries) => entries.as_slice(),
+    }
+}
+
+fn part_name(rows: &[Row], id: TypeId, at: u16) -> &str
+    ensures { result.now ≡ name_of_part rows.now id.0 at }
+{
+    match rows.get(id.0 as usize) {
+        None => "",
+        Some(row) => match row_entries(row).get(at as usize) {
+            None => "",
+            Some(entry) => entry.name.as_str(),
+        },
+    }
+}
+
+fn type_name(rows: &[Row], id: TypeId) -> &str
+    ensures { result.now ≡ name_or_none (slice_get rows.now id.0) }
+{
+    match rows.get(id.0 as usize) {
+        None => "",
+        Some(row) => row_name(row),
+    }
+}
+
+fn step_text(alloc: Global, sheet: &Sheet, step: Step) -> Result<String, AllocError>
+    ensures { IfOk result (λ s. string_bytes s ≡ text_of_step sheet.now step) }
+{
+    match step {
+        Step::Part(id, at) => {
+            let name = part_name(sheet.rows.as_slice(), id, at);
+            Ok(format!(in alloc; ".{name}")?)
+        }
+        Step::Item(i) => Ok(format!(in alloc; "[{i}]")?),
+        Step::Choice(id) => {
+            let name = type_name(sheet.rows.as_slice(), id);
+            let whole = qualified(alloc, sheet.name.as_str(), name)?;
+            let whole = whole.as_str();
+            Ok(format!(in alloc; "<{whole}>")?)
+        }
+    }
+}
+
+/// The text of a path.
+pub fn path_text(alloc: Global, sheet: &Sheet, path: &Path) -> Result<String, AllocError>
+    ensures { IfOk result (λ s. string_bytes s ≡ text_of_path sheet.now path.now) }
+{
+    let mut text = String::from_str(alloc, "$")?;
+    for i in 0..path.len() {
+        if let Some(step) = path.get(i) {
+            let part = step_text(alloc, sheet, step)?;
+            text.push_str(part.as_str())?;
+        }
+    }
+    Ok(text)
+}
+
+/// The line of a fault.
+pub fn fault_line(alloc: Global, reason: &str, path: &str) -> Result<String, AllocError>
+    ensures { IfOk result (λ s. string_bytes s ≡ line_of_fault reason.now path.now) }
+{
+    Ok(format!(in alloc; "fault {reason} at {path}\n")?)
+}

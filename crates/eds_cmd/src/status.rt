@@ -1,0 +1,68 @@
+//! How a command ended.
+
+use eds_base::{Fault, Refusal, Text};
+
+/// What has passed its limit.
+#[derive(Clone, Copy, Debug, PartialEq, Eq)]
+pub enum What {
+    /// The octets of one sheet file.
+    File,
+    /// The octets of the input file.
+    Input,
+    /// The octets of a frame.
+    Frame,
+}
+
+/// What is wrong with the input file.
+#[derive(Debug, Drop)]
+pub enum DataFault {
+    /// It has an octet that is no hex digit and no blank, or an odd number of digits.
+    Hex,
+    /// The frame spells no value.
+    Frame(Fault),
+}
+
+/// How a command ended.
+#[derive(Debug, Drop)]
+pub enum Status {
+    /// It was done.
+    Done,
+    /// A rule is broken.
+    Sheet(Refusal),
+    /// The words are no command.
+    Usage,
+    /// The input file is refused.
+    Data(DataFault),
+    /// A read of the file of that name failed.
+    ReadFault(Text),
+    /// A write of the report failed.
+    WriteFault,
+    /// An allocation was refused. Nothing was written.
+    Memory,
+    /// A limit was passed: the stated most, as a number.
+    Limit(What, u64),
+    /// There is no file of that name.
+    NoFile(Text),
+}
+
+impl Status {
+    ghost use Rattle.eds_cmd.specs.Status.{number_of};
+    ghost use Rattle.std.specs.Prelude.{◌≡◌};
+
+    /// The number that the program ends with.
+    pub fn number(&self) -> u8
+        ensures { result ≡ number_of self.now }
+    {
+        match self {
+            Status::Done => 0,
+            Status::Sheet(_) => 1,
+            Status::Usage => 2,
+            Status::Data(_) => 3,
+            Status::ReadFault(_) => 4,
+            Status::WriteFault => 5,
+            Status::Memory => 6,
+            Status::Limit(_, _) => 7,
+            Status::NoFile(_) => 8,
+        }
+    }
+}

@@ -1,0 +1,123 @@
+//! Why a command ends before it is done, with the report.
+
+ghost use Rattle.std.specs.Prelude.{◌≡◌, IfOk};
+ghost use Rattle.eds_cmd.specs.Stops as stops;
+
+use crate::report::{fault_line, limit_line, no_file_line, path_text, refusal_line};
+use crate::sheet::Sheet;
+use crate::status::{DataFault, Status, What};
+use eds_base::{Fault, Kept, Memory, Path, Place, Reason, Refusal, Rule, Text};
+use std::alloc::Global;
+
+/// What ends a command before it is done.
+#[derive(Debug, Drop)]
+pub enum Cause {
+    /// A rule is broken.
+    Sheet(Refusal),
+    /// The input file is refused.
+    Data(DataFault),
+    /// A limit was passed.
+    Limit(What, u64),
+    /// There is no file of that name.
+    NoFile(Text),
+}
+
+impl Cause {
+    /// The status of the command.
+    pub fn status(self) -> Status
+        ensures { result ≡ stops.status_of self }
+    {
+        match self {
+            Cause::Sheet(refusal) => Status::Sheet(refusal),
+            Cause::Data(fault) => Status::Data(fault),
+            Cause::Limit(what, most) => Status::Limit(what, most),
+            Cause::NoFile(name) => Status::NoFile(name),
+        }
+    }
+}
+
+/// What ends a command before it is done, and the whole report.
+#[derive(Debug, Drop)]
+pub struct Stop {
+    pub cause: Cause,
+    pub report: Text,
+}
+
+/// A file is missing.
+pub fn missing(alloc: Global, name: &str) -> Result<Stop, Memory>
+    ensures { IfOk result (λ s. s ≡ stops.missing name.now) }
+{
+    let report = no_file_line(alloc, name)?;
+    Ok(Stop {
+        cause: Cause::NoFile(Text::of(alloc, name)?),
+        report: Text::from_string(report),
+    })
+}
+
+/// A limit was passed.
+pub fn limited(alloc: Global, what: What, most: u64) -> Result<Stop, Memory>
+    ensures { IfOk result (λ s. s ≡ stops.limited what most) }
+{
+    let report = limit_line(alloc, what, most)?;
+    Ok(Stop {
+        cause: Cause::Limit(what, most),
+        report: Text::from_string(report),
+    })
+}
+
+fn refused(alloc: Global, refusal: Refusal) -> Result<Stop, Memory>
+    ensures { IfOk result (λ s. s ≡ stops.refused refusal) }
+{
+    let report = refusal_line(alloc, &refusal)?;
+    Ok(Stop {
+        cause: Cause::Sheet(refusal),
+        report: Text::from_string(report),
+    })
+}
+
+/// A sheet file is not of the flat form.
+pub fn not_flat(alloc: Global) -> Result<Stop, Memory>
+    ensures { IfOk result (λ s. s ≡ stops.not_flat) }
+{
+    let refusal = Refusal {
+        rule: Rule::Unsupported,
+        place: Place { file: 0, node: 0 },
+        kept: Kept::Word(Text::of(alloc, "flat")?),
+    };
+    refused(alloc, refusal)
+}
+
+/// The word of a type names none of the only sheet file.
+pub fn unresolved(alloc: Global, word: &str) -> Result<Stop, Memory>
+    ensures { IfOk result (λ s. s ≡ stops.unresolved word.now) }
+{
+    let refusal = Refusal {
+        rule: Rule::Unresolved,
+        place: Place { file: 1, node: 0 },
+        kept: Kept::Word(Text::of(alloc, word)?),
+    };
+    refused(alloc, refusal)
+}
+
+/// The text of a frame is no hex.
+pub fn bad_hex(alloc: Global) -> Result<Stop, Memory>
+    ensures { IfOk result (λ s. s ≡ stops.bad_hex) }
+{
+    let report = fault_line(alloc, "BadHex", "$")?;
+    Ok(Stop {
+        cause: Cause::Data(DataFault::Hex),
+        report: Text::from_string(report),
+    })
+}
+
+/// A frame spells no value.
+pub fn frame_fault(alloc: Global, sheet: &Sheet, reason: Reason, path: Path) -> Result<Stop, Memory>
+    ensures { IfOk result (λ s. s ≡ stops.frame_fault sheet.now reason path) }
+{
+    let place = path_text(alloc, sheet, &path)?;
+    let report = fault_line(alloc, reason.name(), place.as_str())?;
+    Ok(Stop {
+        cause: Cause::Data(DataFault::Frame(Fault { reason, path })),
+        report: Text::from_string(report),
+    })
+}

@@ -1,0 +1,128 @@
+//! The top call.
+
+ghost use Rattle.std.specs.Prelude.{◌≡◌, ◌≢◌, ◌≤◌, ◌++◌, ◌⊎◌, ℕ, List, Some, take, true, false, string_bytes, IfOk, IsSome, IsNone, IsSomeAnd};
+ghost use Rattle.eds_io.specs.Counts.{HasRisen};
+ghost use Rattle.eds_io.specs.Files.{Files};
+ghost use Rattle.eds_cmd.specs.Answer.{Answer, IsReached, IsValid};
+ghost use Rattle.eds_cmd.specs.Command.{CommandWords, ReadsFile, command_of as command_in, words_of};
+ghost use Rattle.eds_cmd.specs.Outcome.{ComesTo, IsFault, IsReport, has_report, is_usage};
+ghost use Rattle.eds_cmd.specs.Reports.{read_fault_line as line_of_read_fault};
+
+use crate::command::{Command, command_of};
+use crate::halt::Halt;
+use crate::perform::perform;
+use crate::report::read_fault_line;
+use crate::status::Status;
+use crate::stop::Stop;
+use crate::words::Words;
+use eds_base::{Memory, Text};
+use eds_io::{Shelf, Sink, write_whole};
+use std::alloc::Global;
+
+const USAGE: &str = "usage: eds COMMAND ARGUMENTS\n";
+
+/// The status and the report of a command.
+#[derive(Debug, Drop)]
+pub struct Outcome {
+    pub status: Status,
+    pub report: Text,
+}
+
+fn unread(alloc: Global, name: Text) -> Result<Outcome, Memory>
+    ensures { IfOk result (λ o. o ≡ record { status = Status.ReadFault name; report = line_of_read_fault name }) }
+{
+    let line = read_fault_line(alloc, name.as_str())?;
+    Ok(Outcome {
+        status: Status::ReadFault(name),
+        report: Text::from_string(line),
+    })
+}
+
+fn concluded<S: Shelf>(
+    alloc: Global,
+    command: &Command<'_>,
+    shelf: &mut S,
+) -> Result<Outcome, Memory>
+    ensures told { (files : Files) → S.files shelf.old ≡ Some files → IfOk result (λ o.
+        ComesTo (λ n. HasRisen (S.faults shelf.old n) (S.faults shelf.new n)) files (words_of command.now) o.status o.report) }
+    ensures cause { IfOk result (λ o. (name : List ℕ) → o.status ≡ Status.ReadFault name
+        → HasRisen (S.faults shelf.old name) (S.faults shelf.new name)) }
+    ensures file { IfOk result (λ o. (name : List ℕ) → o.status ≡ Status.ReadFault name
+        → ReadsFile (words_of command.now) name) }
+    ensures line { IfOk result (λ o. (name : List ℕ) → o.status ≡ Status.ReadFault name
+        → o.report ≡ line_of_read_fault name) }
+    ensures written { IfOk result (λ o. has_report o.status ≡ true) }
+    ensures command { IfOk result (λ o. is_usage o.status ≡ false) }
+{
+    match perform(alloc, command, shelf) {
+        Ok(report) => Ok(Outcome {
+            status: Status::Done,
+            report: Text::from_string(report),
+        }),
+        Err(Halt::Stopped(Stop { cause, report })) => Ok(Outcome {
+            status: cause.status(),
+            report,
+        }),
+        Err(Halt::Unread(name)) => unread(alloc, name),
+        Err(Halt::Memory) => Err(Memory),
+    }
+}
+
+fn finish<K: Sink>(sink: &mut K, status: Status, report: &str) -> Status
+    ensures whole { (before : List ℕ) → K.written sink.old ≡ Some before → result ≢ Status.WriteFault
+        → K.written sink.new ≡ Some (before ++ report.now) }
+    ensures kept { result ≢ Status.WriteFault → result ≡ status }
+    ensures prefix { (before : List ℕ) → K.written sink.old ≡ Some before → has_report status ≡ true → result ≡ Status.WriteFault
+        → (n : ℕ) × (K.written sink.new ≡ Some (before ++ take n report.now)) }
+    ensures cause { has_report status ≡ true → result ≡ Status.WriteFault → HasRisen (K.faults sink.old) (K.faults sink.new) }
+{
+    match write_whole(sink, report.as_bytes()) {
+        Ok(()) => status,
+        Err(_) => Status::WriteFault,
+    }
+}
+
+/// Runs a command on the files of a shelf, and writes its report to a sink.
+pub fn eds<S: Shelf, K: Sink>(alloc: Global, words: &Words, shelf: &mut S, sink: &mut K) -> Status
+    // Where the shelf tells its files and the sink what is written, and nothing fails, the status is
+    // that of the answer, and its report is written.
+    ensures answer { (files : Files) (before : List ℕ) → S.files shelf.old ≡ Some files → K.written sink.old ≡ Some before → ¬ (IsFault result)
+        → (report : List ℕ) × Answer words.now files result report × (K.written sink.new ≡ Some (before ++ report)) }
+
+    // Usage comes exactly where the words are no command.
+    ensures usage { IsNone (command_in words.now) → ¬ (IsFault result) → result ≡ Status.Usage }
+    ensures usage_only { result ≡ Status.Usage → IsNone (command_in words.now) }
+
+    // A read fault names a file of the command whose count of faults has risen or stands at its end. No case
+    // of the answer stands before that file, and its line is written.
+    ensures read_cause { (name : List ℕ) → result ≡ Status.ReadFault name → HasRisen (S.faults shelf.old name) (S.faults shelf.new name) }
+    ensures read_file { (name : List ℕ) → result ≡ Status.ReadFault name → IsSomeAnd (command_in words.now) (λ c. ReadsFile c name) }
+    ensures read_first { (files : Files) (name : List ℕ) → S.files shelf.old ≡ Some files → result ≡ Status.ReadFault name
+        → IsSomeAnd (command_in words.now) (λ c. IsReached files c name) }
+    ensures read_line { (before name : List ℕ) → K.written sink.old ≡ Some before → result ≡ Status.ReadFault name
+        → K.written sink.new ≡ Some (before ++ line_of_read_fault name) }
+
+    // A write fault comes only where the count of faults has risen or stands at its end. What was written is
+    // a front of the report, or of a read fault's line.
+    ensures write_cause { result ≡ Status.WriteFault → HasRisen (K.faults sink.old) (K.faults sink.new) }
+    ensures write_prefix { (files : Files) (before : List ℕ) → S.files shelf.old ≡ Some files → K.written sink.old ≡ Some before → result ≡ Status.WriteFault
+        → (report : List ℕ) × (n : ℕ) × IsReport (λ name. HasRisen (S.faults shelf.old name) (S.faults shelf.new name)) words.now files report
+        × (K.written sink.new ≡ Some (before ++ take n report)) }
+
+    // Where memory is refused, the words are a command, and nothing is written.
+    ensures memory_command { result ≡ Status.Memory → IsSome (command_in words.now) }
+    ensures memory_nothing { result ≡ Status.Memory → K.written sink.new ≡ K.written sink.old }
+
+    // A valid command over told files is done, where no fault is counted.
+    ensures complete { (files : Files) (c : CommandWords) → S.files shelf.old ≡ Some files → command_in words.now ≡ Some c → IsValid files c
+        → ((name : List ℕ) → ¬ (HasRisen (S.faults shelf.old name) (S.faults shelf.new name))) → ¬ (HasRisen (K.faults sink.old) (K.faults sink.new))
+        → (result ≡ Status.Done) ⊎ (result ≡ Status.Memory) }
+{
+    let Some(command) = command_of(words.as_slice()) else {
+        return finish(sink, Status::Usage, USAGE);
+    };
+    match concluded(alloc, &command, shelf) {
+        Ok(Outcome { status, report }) => finish(sink, status, report.as_str()),
+        Err(_) => Status::Memory,
+    }
+}

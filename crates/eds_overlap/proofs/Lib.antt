@@ -1,0 +1,11 @@
+pub mod Course
+pub mod Taken
+pub mod CourseSpelling
+pub mod ContainerReading
+pub mod Choices
+pub mod ReadingLaws
+pub mod Theorems
+pub mod Concrete
+pub mod ExampleRules
+pub mod ExampleReading
+pub mod ExampleFrames

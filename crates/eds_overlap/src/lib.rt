@@ -1,0 +1,4 @@
+//! Containers whose values can't be told apart, and the laws that hold where there are none.
+#![tactic(auto)]
+
+pub mod law;

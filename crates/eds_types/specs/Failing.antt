@@ -1,0 +1,214 @@
+-- Where reading fails, and why.
+use Rattle.std.specs.Prelude.{◌≡◌, ◌≢◌, ℕ, zero, suc, ◌+◌, ◌*◌, ◌/◌, ◌<◌, ◌≤◌, ℤ, pos, List, [], ◌∷◌, ◌++◌, length, map, take, drop, reverse, Bool, true, false, Some, None, slice_get, IsTrue, ◌⊎◌}
+use Rattle.std.specs.List.{flat_map}
+use Rattle.eds_base.specs.declared.ids.TypeId.{TypeId}
+use Rattle.eds_base.specs.declared.fault.Step.{Step}
+use Rattle.eds_base.specs.declared.fault.Step.TheVariants as step
+use Rattle.eds_base.specs.declared.fault.Reason.{Reason}
+use Rattle.eds_base.specs.declared.fault.Reason.TheVariants.{Short, OutOfRange, NoLabel, BadDigit, BadText, Unterminated, FixedDiffers, Constraint, NoDerived, LengthDiffers, CheckDiffers}
+use Rattle.eds_base.specs.Spans.{IsWithin}
+use Rattle.eds_bits.specs.declared.forms.IntForm.{IntForm}
+use Rattle.eds_bits.specs.declared.forms.TextForm.{TextForm}
+use Rattle.eds_bits.specs.Lists.{Has}
+use Rattle.eds_bits.specs.Bits.{Bits, octets_of}
+use Rattle.eds_bits.specs.Style.{any}
+use Rattle.eds_bits.specs.IntForms.{number_of}
+use Rattle.eds_bits.specs.Scalars.{before_stop, IsCoded, check_of}
+use Rattle.eds_types.specs.declared.row.TypeRow.{TypeRow}
+use Rattle.eds_types.specs.declared.row.Kind.{Kind}
+use Rattle.eds_types.specs.declared.row.Kind.TheVariants as kind
+use Rattle.eds_types.specs.declared.row.Part.{Part}
+use Rattle.eds_types.specs.declared.row.Part.TheVariants as part
+use Rattle.eds_types.specs.declared.row.Constraint.{Constraint as Condition}
+use Rattle.eds_types.specs.Plain.{Plain, num, plain}
+use Rattle.eds_types.specs.Rows.{Table, id_of, chain, is_concrete, constraints_of, Placed, placed_entries, placed_trailers}
+use Rattle.eds_types.specs.Fields.{listed, Holds, IsUnder, IsCandidate}
+use Rattle.eds_types.specs.Spelling.{State, started, SizeFits, count_at, ItemsSpell, PartPasses, SpellsWithin}
+
+-- ---- the course of reading a container
+
+-- what is judged in turn: a constraint of a container, a part, the choice of a derived container, and at the end the
+-- length entry
+pub data Station : Type 0 where
+  condition : (container : ℕ) → Condition → Station
+  entry : Placed → Station
+  choice : ℕ → Station
+  end : Station
+
+-- the containers of x's chain strictly under s
+abbrev pub chain_under : Table → ℕ → ℕ → List ℕ
+chain_under t s x = drop (length (chain t s)) (chain t x)
+
+-- the constraints and then the entries of a container in the chain of the type that is read
+abbrev pub own : Table → ℕ → List Station
+own t y = map (condition y) (constraints_of t y) ++ map entry (placed_entries t y)
+
+-- the entries of each container that was chosen, and the next choice
+abbrev pub later : Table → List ℕ → List Station
+later t [] = []
+later t (y ∷ ys) = (map entry (placed_entries t y) ++ choice y ∷ []) ++ later t ys
+
+-- the course of reading the type s where the container turns out to be x
+abbrev pub course : Table → ℕ → ℕ → List Station
+course t s x = flat_map (own t) (chain t s) ++ (choice s ∷ (later t (chain_under t s x) ++ (map entry (flat_map (placed_trailers t) (reverse (chain t x))) ++ end ∷ [])))
+
+-- ---- what passes
+
+-- a container at or under the next one towards x may be that of the fields
+pub record GoesOn (t : Table) (y x : ℕ) (s : State) : Type 0 where
+  pub candidate : ℕ
+  pub is : IsCandidate t y candidate s.fields
+  pub child : ℕ
+  pub towards : (more : List ℕ) × (chain t x ≡ chain t y ++ child ∷ more)
+  pub under : IsUnder t child candidate
+
+-- no container strictly under x may be that of the fields
+abbrev pub NoneUnder : Table → ℕ → State → Type 0
+NoneUnder t x s = (l : ℕ) → l ≢ x → IsUnder t x l → IsCandidate t x l s.fields → ⊥
+
+module _ (t : Table) (Each : ℕ → Plain → Bits → Type 0) (x : ℕ) where
+  -- the station lets the bits pass, from one state to the next
+  abbrev pub StationPasses : State → Station → State → Bits → Type 0
+  StationPasses s (condition y c) u b = (u ≡ s) × (b ≡ []) × Holds t s.fields c
+  StationPasses s (entry p) u b = PartPasses any t Each s p p.part u b
+  StationPasses s (choice y) u b = (u ≡ s) × (b ≡ []) × (GoesOn t y x s ⊎ ((y ≡ x) × IsTrue (is_concrete t x) × NoneUnder t x s))
+  StationPasses s end u b = (u ≡ s) × (b ≡ []) × SizeFits s
+
+  -- all stations do, one after the other
+  abbrev pub Passes : State → List Station → State → Bits → Type 0
+  Passes s [] u b = (u ≡ s) × (b ≡ [])
+  Passes s (p ∷ ps) u b = (m : State) × (c : Bits) × (d : Bits) × (b ≡ c ++ d) × StationPasses s p m c × Passes m ps u d
+
+-- ---- what fails
+
+-- why reading stops, and the steps from the whole value to the place where it does
+abbrev pub Where : Type 0
+Where = Reason × List Step
+
+-- the same, seen from one step further out
+abbrev pub behind : Step → Where → Where
+behind s g = (g.0, s ∷ g.1)
+
+abbrev pub here : Reason → Where
+here r = (r, [])
+
+abbrev pub path_steps : List (TypeId × ℕ) → List Step
+path_steps path = map (λ p. step.Part p.0 p.1) path
+
+-- the whole octets at the front of the bits
+abbrev pub whole : Bits → List ℕ
+whole b = octets_of (take (8 * (length b / 8)) b)
+
+-- fewer than count items are spelled, and the next one fails
+pub record ItemFails (Each : Plain → Bits → Type 0) (Fails : Bits → Where → Type 0) (count : ℕ) (b : Bits) (g : Where) : Type 0 where
+  pub before : List Plain
+  pub few : length before < count
+  pub c : Bits
+  pub d : Bits
+  pub bits : b ≡ c ++ d
+  pub spelled : ItemsSpell Each before c
+  pub why : Where
+  pub fails : Fails d why
+  pub is : g ≡ behind (step.Item (length before)) why
+
+abbrev pub if_length : Part → Placed → List Step → List Step
+if_length (part.Plain name id) p steps = steps
+if_length (part.Fixed name id v) p steps = steps
+if_length (part.Pad n) p steps = steps
+if_length (part.List name id y i) p steps = steps
+if_length (part.Length name id c0 c1) p steps = step.Part (id_of p.container) p.place ∷ []
+if_length (part.Check name id k) p steps = steps
+
+-- the path of the length entry among the stations
+abbrev pub length_step : List Station → List Step
+length_step [] = []
+length_step (condition y c ∷ ss) = length_step ss
+length_step (choice y ∷ ss) = length_step ss
+length_step (end ∷ ss) = length_step ss
+length_step (entry p ∷ ss) = if_length p.part p (length_step ss)
+
+-- a pattern of the form that is there, but isn't one of the type: a digit above 9, or a number that isn't Good
+pub record BadNumber (form : IntForm) (Good : ℤ → Type 0) (bad : Reason) (b : Bits) (g : Where) : Type 0 where
+  pub enough : form.bits ≤ length b
+  pub why : ((number_of form (take form.bits b) ≡ None) × (g ≡ here BadDigit)) ⊎ ((n : ℤ) × (number_of form (take form.bits b) ≡ Some n) × (Good n → ⊥) × (g ≡ here bad))
+
+abbrev pub IsListed : List (List ℕ × ℤ) → ℤ → Type 0
+IsListed listing n = (l : List ℕ) × (listed listing l ≡ Some n)
+
+-- a fixed text: too few bits; or octets outside its encoding
+abbrev pub FixedTextFails : TextForm → Bits → Where → Type 0
+FixedTextFails form b g =
+    ((length b < 8 * form.length) × (g ≡ here Short))
+    ⊎ ((8 * form.length ≤ length b) × (IsCoded form.ascii (before_stop form.stop (octets_of (take (8 * form.length) b))) → ⊥) × (g ≡ here BadText))
+
+-- a text with a termination octet: the bits end before it may be missed; it is missing; or octets outside its encoding
+abbrev pub OpenTextFails : TextForm → Bits → Where → Type 0
+OpenTextFails form b g =
+    ((Has (whole b) form.stop → ⊥) × (length (whole b) < form.length + 1) × (g ≡ here Short))
+    ⊎ ((form.length + 1 ≤ length (whole b)) × (Has (take (form.length + 1) (whole b)) form.stop → ⊥) × (g ≡ here Unterminated))
+    ⊎ (Has (take (form.length + 1) (whole b)) form.stop × (IsCoded form.ascii (before_stop form.stop (whole b)) → ⊥) × (g ≡ here BadText))
+
+abbrev pub TextFails : TextForm → Bool → Bits → Where → Type 0
+TextFails form true b g = FixedTextFails form b g
+TextFails form false b g = OpenTextFails form b g
+
+-- Each says what spells a value of a type that is nested in this one, and Fails where reading one fails
+module _ (t : Table) (Each : ℕ → Plain → Bits → Type 0) (Fails : ℕ → Bits → Where → Type 0) where
+  -- another value of the type is read where this one should stand
+  pub record Differs (id : ℕ) (v : Plain) (b : Bits) : Type 0 where
+    pub other : Plain
+    pub c : Bits
+    pub rest : Bits
+    pub bits : b ≡ c ++ rest
+    pub spelled : Each id other c
+    pub differs : other ≢ v
+
+  abbrev pub PartFails : State → Part → Bits → Where → Type 0
+  PartFails s (part.Plain name id) b g = Fails id.0 b g
+  PartFails s (part.Fixed name id v) b g = Fails id.0 b g ⊎ (Differs id.0 (plain v) b × (g ≡ here FixedDiffers))
+  PartFails s (part.Pad n) b g = (length b < n) × (g ≡ here Short)
+  PartFails s (part.List name id y i) b g = ItemFails (Each id.0) (Fails id.0) (count_at s y.0 i) b g
+  PartFails s (part.Length name id c0 c1) b g = Fails id.0 b g
+  PartFails s (part.Check name id k) b g = Fails id.0 b g ⊎ (Differs id.0 (num (pos (check_of k s.before))) b × (g ≡ here CheckDiffers))
+
+  -- the bits are refused at the station, of all of the course towards x
+  abbrev pub StationFails : ℕ → List Station → State → Station → Bits → Where → Type 0
+  StationFails x all s (condition y c) b g = (Holds t s.fields c → ⊥) × (g ≡ (Constraint, path_steps c.path))
+  StationFails x all s (entry p) b g = (w : Where) × PartFails s p.part b w × (g ≡ behind (step.Part (id_of p.container) p.place) w)
+  StationFails x all s (choice y) b g = (y ≡ x) × (is_concrete t x ≡ false) × ((l : ℕ) → IsCandidate t x l s.fields → ⊥) × (g ≡ (NoDerived, step.Choice (id_of x) ∷ []))
+  StationFails x all s end b g = (SizeFits s → ⊥) × (g ≡ (LengthDiffers, length_step all))
+
+  -- for some container x the first stations of its course let a front of the bits pass, and the next refuses the rest
+  pub record ContainerFails (s : ℕ) (b : Bits) (g : Where) : Type 0 where
+    pub x : ℕ
+    pub under : IsUnder t s x
+    pub done : List Station
+    pub station : Station
+    pub rest : List Station
+    pub is_course : course t s x ≡ done ++ station ∷ rest
+    pub state : State
+    pub c : Bits
+    pub d : Bits
+    pub bits : b ≡ c ++ d
+    pub passes : Passes t Each x started done state c
+    pub fails : StationFails x (course t s x) state station d g
+
+  abbrev pub KindFails : ℕ → Kind → Bits → Where → Type 0
+  KindFails id (kind.Int form spans) b g = ((length b < form.bits) × (g ≡ here Short)) ⊎ BadNumber form (IsWithin spans) OutOfRange b g
+  KindFails id (kind.Enum form listing) b g = ((length b < form.bits) × (g ≡ here Short)) ⊎ BadNumber form (IsListed listing) NoLabel b g
+  KindFails id (kind.Bool form) b g = (length b < form.bits) × (g ≡ here Short)
+  KindFails id (kind.Str form) b g = TextFails form form.fixed b g
+  KindFails id (kind.Bin n) b g = (length b < n) × (g ≡ here Short)
+  KindFails id (kind.Arr item n) b g = ItemFails (Each item.0) (Fails item.0) n b g
+  KindFails id (kind.Con c) b g = ContainerFails id b g
+
+-- ---- all types
+
+-- reading the bits fails, where at most n types are nested in each other
+unfoldable pub FailsWithin : ℕ → Table → ℕ → Bits → Where → Type 0
+FailsWithin zero t id b g = ⊥
+FailsWithin (suc n) t id b g = (row : TypeRow) × (slice_get t id ≡ Some row) × KindFails t (SpellsWithin n any t) (FailsWithin n t) id row.kind b g
+
+-- reading the bits as the type fails for this reason at this path
+abbrev pub FailsAt : Table → ℕ → Bits → Where → Type 0
+FailsAt t id b g = FailsWithin 32 t id b g

@@ -1,0 +1,14 @@
+pub mod Plain
+pub mod Rows
+pub mod Fields
+pub mod Domains
+pub mod Spelling
+pub mod Failing
+pub mod Packing
+pub mod LeastSize
+pub mod Overlap
+pub mod Reading
+pub mod Rules
+pub mod Stored
+pub mod Tables
+pub mod Sample

@@ -1,0 +1,40 @@
+-- Values as plain data.
+use Rattle.std.specs.Prelude.{ℕ, ℤ, List, [], ◌∷◌, Bool}
+use Rattle.eds_types.specs.declared.value.Value.{Value, fold-Value}
+use Rattle.eds_types.specs.declared.value.Value.TheOpen.{Value-F}
+
+mutual
+  -- a value; bits come with their number and the octets that hold them, fields with the number of their container
+  pub data Plain : Type 0 where
+    num : ℤ → Plain
+    label : List ℕ → Plain
+    truth : Bool → Plain
+    text : List ℕ → Plain
+    bits : ℕ → List ℕ → Plain
+    items : Plains → Plain
+    fields : ℕ → Plains → Plain
+
+  pub data Plains : Type 0 where
+    none : Plains
+    more : Plain → Plains → Plains
+
+abbrev pub list_of : Plains → List Plain
+list_of none = []
+list_of (more v vs) = v ∷ list_of vs
+
+abbrev pub plains_of : List Plain → Plains
+plains_of [] = none
+plains_of (v ∷ vs) = more v (plains_of vs)
+
+abbrev pub plain_step : Value-F Plain → Plain
+plain_step (Value-F.Num n) = num n
+plain_step (Value-F.Label l) = label l
+plain_step (Value-F.Bool b) = truth b
+plain_step (Value-F.Text t) = text t
+plain_step (Value-F.Bits n o) = bits n o
+plain_step (Value-F.Items vs) = items (plains_of vs.items)
+plain_step (Value-F.Fields k vs) = fields k.0 (plains_of vs.items)
+
+-- the plain data of a value
+abbrev pub plain : Value → Plain
+plain = fold-Value Plain plain_step
