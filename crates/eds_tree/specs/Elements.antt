@@ -75,14 +75,14 @@ are_children_or_texts no_items = true
 are_children_or_texts (item d ds) = is_child_or_text d && are_children_or_texts ds
 
 -- attributes may stand here; then come children and texts
-abbrev pub goes_on_well : Items → Bool
-goes_on_well no_items = true
-goes_on_well (item (object ms) ds) = have_texts ms && are_children_or_texts ds
-goes_on_well (item null ds) = false
-goes_on_well (item (boolean b) ds) = false
-goes_on_well (item (number n) ds) = false
-goes_on_well (item (string s) ds) = are_children_or_texts ds
-goes_on_well (item (array es) ds) = are_children_or_texts ds
+abbrev pub is_content : Items → Bool
+is_content no_items = true
+is_content (item (object ms) ds) = have_texts ms && are_children_or_texts ds
+is_content (item null ds) = false
+is_content (item (boolean b) ds) = false
+is_content (item (number n) ds) = false
+is_content (item (string s) ds) = are_children_or_texts ds
+is_content (item (array es) ds) = are_children_or_texts ds
 
 -- the items of an array are those of an element
 abbrev pub is_element : Items → Bool
@@ -90,7 +90,7 @@ is_element no_items = false
 is_element (item null ds) = false
 is_element (item (boolean b) ds) = false
 is_element (item (number n) ds) = false
-is_element (item (string name) ds) = goes_on_well ds
+is_element (item (string name) ds) = is_content ds
 is_element (item (array es) ds) = false
 is_element (item (object ms) ds) = false
 

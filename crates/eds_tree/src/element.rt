@@ -2,7 +2,7 @@
 
 ghost use Rattle.std.specs.Prelude.{◌≡◌, ◌+◌, ◌<◌, ◌^◌, ◌++◌, length, map, OnOk, IfOk};
 ghost use Rattle.serde_json.specs.View.{view, items_view, members_view};
-ghost use Rattle.eds_tree.specs.Elements.{is_element as items_of_element, goes_on_well as well_from, are_children_or_texts as only_children_or_texts, is_child_or_text as child_or_text, have_texts as with_texts, has_text as with_text, size, items_size, not_elements, not_elements_in, first_or};
+ghost use Rattle.eds_tree.specs.Elements.{is_element as items_of_element, is_content as content_of_element, are_children_or_texts as only_children_or_texts, is_child_or_text as child_or_text, have_texts as with_texts, has_text as with_text, size, items_size, not_elements, not_elements_in, first_or};
 
 use serde_json::{Map, Value};
 
@@ -49,8 +49,8 @@ fn are_children_or_texts(items: &[Value]) -> bool
     true
 }
 
-fn goes_on_well(items: &[Value]) -> bool
-    ensures { result ≡ well_from (items_view items.now) }
+fn is_content(items: &[Value]) -> bool
+    ensures { result ≡ content_of_element (items_view items.now) }
 {
     match items {
         [] => true,
@@ -72,7 +72,7 @@ fn is_element(items: &[Value]) -> bool
     match items {
         [] => false,
         [first, rest @ ..] => match first {
-            Value::String(_) => goes_on_well(rest),
+            Value::String(_) => is_content(rest),
             Value::Null => false,
             Value::Bool(_) => false,
             Value::Number(_) => false,

@@ -3,15 +3,25 @@
 /// The form of an attribute's text.
 #[derive(Clone, Copy)]
 pub enum Form {
+    /// A letter or `_`, and then letters, digits, `_` and `-`.
     Name,
+    /// Names joined by `/`, as a package is called.
     PackageName,
+    /// Names joined by `/`.
     Reference,
+    /// Names joined by `.`.
     Path,
+    /// A whole number.
     Whole,
+    /// A whole number not below this one.
     AtLeast(u32),
+    /// A whole number from the first of these to the second.
     Between(u32, u32),
+    /// `true`, `false`, `1` or `0`.
     Flag,
+    /// One of these words.
     Word(&'static [&'static str]),
+    /// Any text.
     Text,
 }
 
@@ -25,10 +35,15 @@ pub struct Attribute {
 /// How many children of a name or group there may be.
 #[derive(Clone, Copy, PartialEq, Eq)]
 pub enum Mark {
+    /// Any number, also none.
     Any,
+    /// One or none.
     AtMostOne,
+    /// Exactly one.
     One,
+    /// One or more.
     AtLeastOne,
+    /// Exactly two.
     Two,
 }
 
