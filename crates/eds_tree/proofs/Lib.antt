@@ -1,0 +1,12 @@
+pub mod Growing
+pub mod Octets
+pub mod Walking
+pub mod Bound
+pub mod TableRises
+pub mod Rising
+pub mod Least
+pub mod ByteFirst
+pub mod Colons
+pub mod Joined
+pub mod Lowest
+pub mod Counting

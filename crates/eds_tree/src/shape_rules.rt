@@ -1,0 +1,51 @@
+//! The rules on elements and attributes, over all files.
+
+ghost use Rattle.std.specs.Prelude.{◌≡◌, ◌≤◌, length, map, IfOk};
+ghost use Rattle.eds_base.specs.Answering.{Answers};
+ghost use Rattle.eds_base.specs.Refusals.{least, first_of};
+ghost use Rattle.eds_tree.specs.Trees.{links_of};
+ghost use Rattle.eds_tree.specs.ShapeCheck.{shape_breaks, shape_verdict};
+
+use crate::breaks::{least_of, walks};
+use crate::rule_attribute::BadAttribute;
+use crate::rule_limit::least_limit;
+use crate::rule_missing::MissingAttribute;
+use crate::rule_name::BadName;
+use crate::rule_unknown::UnknownElement;
+use crate::rule_unsupported::Unsupported;
+use crate::tree::Trees;
+use eds_base::{Fail, Memory, Refusal};
+use std::alloc::Global;
+
+// The least break of the rules.
+fn least_break(alloc: Global, trees: &Trees) -> Result<Option<Refusal>, Memory>
+    requires { length trees.now ≤ 64 }
+    ensures { IfOk result (λ r. r ≡ least (shape_breaks trees.now)) }
+{
+    let trees = trees.as_slice();
+    let walks = walks(alloc, trees)?;
+    let unknown = least_of::<UnknownElement>(alloc, trees, &walks)?;
+    let unsupported = least_of::<Unsupported>(alloc, trees, &walks)?;
+    let missing = least_of::<MissingAttribute>(alloc, trees, &walks)?;
+    let attribute = least_of::<BadAttribute>(alloc, trees, &walks)?;
+    let name = least_of::<BadName>(alloc, trees, &walks)?;
+    let limit = least_limit(alloc, trees, &walks)?;
+    let found = Refusal::first(unknown, unsupported);
+    let found = Refusal::first(found, missing);
+    let found = Refusal::first(found, attribute);
+    let found = Refusal::first(found, name);
+    Ok(Refusal::first(found, limit))
+}
+
+/// Judges the elements of a sheet and their attributes: each stands where the table lists it, is supported, has what it needs,
+/// and its attributes have the forms that the table asks for; and there are not too many of them. Elements that are passed
+/// over are not judged. The refusal is the first by place and then by rule.
+pub fn shape_check(alloc: Global, trees: &Trees) -> Result<(), Fail<Refusal>>
+    requires { length trees.now ≤ 64 }
+    ensures { Answers (λ done. done) result (shape_verdict trees.now) }
+{
+    match least_break(alloc, trees)? {
+        None => Ok(()),
+        Some(refusal) => Err(Fail::Named(refusal)),
+    }
+}
