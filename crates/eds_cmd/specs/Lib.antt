@@ -15,3 +15,4 @@ pub mod Laws
 pub mod Answer
 pub mod Halts
 pub mod Outcome
+pub mod Shape

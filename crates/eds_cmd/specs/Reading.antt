@@ -9,7 +9,7 @@ use Rattle.eds_cmd.specs.declared.sheet.Row.{Row}
 use Rattle.eds_cmd.specs.declared.sheet.Row.TheVariants.{Int, Con}
 use Rattle.eds_cmd.specs.declared.value.FlatValue.{FlatValue}
 use Rattle.eds_cmd.specs.declared.value.FlatValue.TheVariants.{Number, Fields}
-use Rattle.eds_cmd.specs.declared.value.ShortAt.{ShortAt}
+use Rattle.eds_cmd.specs.declared.value.PartAt.{PartAt}
 use Rattle.eds_cmd.specs.Values.{entry_sizes}
 
 -- with some numbers before them
@@ -38,10 +38,10 @@ read_value id (Con name entries) bits = fields_from id (read_each (entry_sizes e
 
 -- ---- what a reader gives, and leaves
 
-abbrev pub FailsAt : Fail ShortAt → Result (List ℕ × Bits) ℕ → Type 0
-FailsAt (Named short) read = read ≡ Err short.at
+abbrev pub FailsAt : Fail PartAt → Result (List ℕ × Bits) ℕ → Type 0
+FailsAt (Named part) read = read ≡ Err part.at
 FailsAt Memory read = ⊤
 
-abbrev pub GivesEach : Result (List ℕ) (Fail ShortAt) → Bits → Result (List ℕ × Bits) ℕ → Type 0
+abbrev pub GivesEach : Result (List ℕ) (Fail PartAt) → Bits → Result (List ℕ × Bits) ℕ → Type 0
 GivesEach (Ok numbers) left read = read ≡ Ok (numbers, left)
 GivesEach (Err e) left read = FailsAt e read

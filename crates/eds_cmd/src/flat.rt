@@ -67,8 +67,8 @@ fn two(parts: &[Value]) -> Result<(&Value, &Value), NotFlat>
     }
 }
 
-// An object has so many members.
-fn has_members(value: &Value, count: usize) -> bool
+/// An object has so many members.
+pub fn has_members(value: &Value, count: usize) -> bool
     ensures { result ≡ has_so_many count (view value.now) }
 {
     match value.as_object() {

@@ -10,6 +10,7 @@ mod limits;
 mod names;
 mod perform;
 mod report;
+mod shape;
 mod sheet;
 mod shown;
 mod status;

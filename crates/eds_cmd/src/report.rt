@@ -1,6 +1,6 @@
 //! The lines that are reported.
 
-ghost use Rattle.std.specs.Prelude.{◌≡◌, IfOk, string_bytes, slice_get};
+ghost use Rattle.std.specs.Prelude.{◌≡◌, ◌≤◌, IfOk, string_bytes, slice_get, length};
 ghost use Rattle.eds_cmd.specs.Reports.{common_text as text_of_common, entries_or_none, entry_name_or_none, row_entries as entries_of_row, fault_line as line_of_fault, kept_text as text_of_kept, limit_line as line_of_limit, name_or_none, no_file_line as line_of_no_file, part_name as name_of_part, path_text as text_of_path, place_text as text_of_place, qualified as joined, read_fault_line as line_of_read_fault, refusal_line as line_of_refusal, rule_text as text_of_rule, step_text as text_of_step, what_text as text_of_what};
 
 use crate::names::row_name;
@@ -119,7 +119,8 @@ pub fn qualified(alloc: Global, package_name: &str, name: &str) -> Result<String
 
 /// The entries of a type, none where it is no container.
 pub fn row_entries(row: &Row) -> &[Unsigned]
-    ensures { result.now ≡ entries_of_row row.now }
+    ensures value { result.now ≡ entries_of_row row.now }
+    ensures most { length result.now ≤ 32767 }
 {
     match row {
         Row::Int(_) => &[],

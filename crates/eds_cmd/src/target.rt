@@ -50,7 +50,8 @@ pub fn sheet_for(alloc: Global, octets: &[u8]) -> Result<Sheet, Fail<Stop>>
     }
 }
 
-fn find_type<'a>(
+/// The first type whose qualified name is a word.
+pub fn find_type<'a>(
     alloc: Global,
     sheet: &'a Sheet,
     word: &'a str,

@@ -18,9 +18,9 @@ pub enum FlatValue {
     Fields(Items<u64>),
 }
 
-/// The position of the first entry for which there are too few bits.
+/// The position of a part of a container.
 #[derive(Clone, Copy, Debug, PartialEq, Eq)]
-pub struct ShortAt {
+pub struct PartAt {
     pub at: u16,
 }
 
@@ -28,14 +28,14 @@ fn read_fields(
     alloc: Global,
     entries: &[Unsigned],
     reader: &mut BitReader<'_>,
-) -> Result<Items<u64>, Fail<ShortAt>>
+) -> Result<Items<u64>, Fail<PartAt>>
     requires { length entries.now ≤ 32767 }
     ensures { GivesEach result (bits_left reader.new) (read_each (entry_sizes entries.now) 0 (bits_left reader.old)) }
 {
     let mut numbers = Items::new(alloc);
     for (at, entry) in entries.iter().enumerate() {
         let Some(number) = reader.take(entry.size.bits()) else {
-            return Err(Fail::Named(ShortAt { at: at as u16 }));
+            return Err(Fail::Named(PartAt { at: at as u16 }));
         };
         numbers.push(number)?;
     }
@@ -65,7 +65,7 @@ pub fn read_value(
         Row::Con(_, entries) => match read_fields(alloc, entries.as_slice(), reader) {
             Ok(numbers) => Ok(FlatValue::Fields(numbers)),
             Err(Fail::Memory) => Err(Fail::Memory),
-            Err(Fail::Named(ShortAt { at })) => {
+            Err(Fail::Named(PartAt { at })) => {
                 let mut path = Path::root();
                 path.put_first(Step::Part(id, at));
                 Err(Fail::Named(path))
