@@ -7,3 +7,5 @@ pub mod ShownLemmas
 pub mod SpellingLemmas
 pub mod AnswerLemmas
 pub mod ValidLemmas
+pub mod PackLemmas
+pub mod ShapeLemmas

@@ -16,3 +16,5 @@ pub mod Answer
 pub mod Halts
 pub mod Outcome
 pub mod Shape
+pub mod Reasons
+pub mod Pack

@@ -6,6 +6,8 @@ use Rattle.eds_base.specs.declared.fault.Step.{Step}
 use Rattle.eds_base.specs.declared.refusal.Kept.TheVariants.{Word}
 use Rattle.eds_base.specs.declared.refusal.Refusal.{Refusal}
 use Rattle.eds_base.specs.declared.rule.Rule.TheVariants.{Unsupported, Unresolved}
+use Rattle.eds_cmd.specs.declared.pack_fail.PackReason.{PackReason}
+use Rattle.eds_cmd.specs.declared.pack_fail.ValueFail.TheVariants as fails
 use Rattle.eds_cmd.specs.declared.sheet.Sheet.{Sheet}
 use Rattle.eds_cmd.specs.declared.status.Status.{Status}
 use Rattle.eds_cmd.specs.declared.status.Status.TheVariants as statuses
@@ -14,6 +16,7 @@ use Rattle.eds_cmd.specs.declared.status.What.{What}
 use Rattle.eds_cmd.specs.declared.stop.Cause.{Cause}
 use Rattle.eds_cmd.specs.declared.stop.Cause.TheVariants.{Sheet as Refused, Data, Limit, NoFile}
 use Rattle.eds_cmd.specs.declared.stop.Stop.{Stop}
+use Rattle.eds_cmd.specs.Reasons as reasons
 use Rattle.eds_cmd.specs.Reports.{fault_line, limit_line, no_file_line, path_text, refusal_line}
 
 abbrev pub status_of : Cause → Status
@@ -46,6 +49,22 @@ unresolved word = refused (record { rule = Unresolved; place = record { file = 1
 
 abbrev pub bad_hex : Stop
 bad_hex = record { cause = Data faults.Hex; report = fault_line (codes "BadHex") (codes "$") }
+
+-- the text of a value is no JSON
+abbrev pub not_json : Stop
+not_json = record { cause = Data (faults.Json fails.NotJson); report = fault_line (codes "NotJson") (codes "$") }
+
+abbrev pub wrong_shape : Sheet → List Step → Stop
+wrong_shape sheet path = record {
+  cause = Data (faults.Json (fails.WrongShape path));
+  report = fault_line (codes "WrongShape") (path_text sheet path);
+}
+
+abbrev pub pack_fault : Sheet → PackReason → List Step → Stop
+pack_fault sheet reason path = record {
+  cause = Data (faults.Pack (record { reason = reason; path = path }));
+  report = fault_line (reasons.reason_name reason) (path_text sheet path);
+}
 
 abbrev pub frame_fault : Sheet → Reason → List Step → Stop
 frame_fault sheet reason path = record {

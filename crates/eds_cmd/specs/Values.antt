@@ -13,6 +13,11 @@ use Rattle.eds_cmd.specs.declared.value.FlatValue.TheVariants.{Number, Fields}
 abbrev pub entry_sizes : List Unsigned → List ℕ
 entry_sizes entries = map (λ e. e.size) entries
 
+-- the sizes of the parts of a type: of itself, or of its entries
+abbrev pub part_sizes : Row → List ℕ
+part_sizes (Int own) = own.size ∷ []
+part_sizes (Con name entries) = entry_sizes entries
+
 -- the bits are the unsigned number of that size
 pub record IsUnsigned (size number : ℕ) (bits : Bits) : Type 0 where
   pub size_is : length bits ≡ size

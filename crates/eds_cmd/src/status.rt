@@ -1,5 +1,6 @@
 //! How a command ended.
 
+use crate::pack_fail::{PackFail, ValueFail};
 use eds_base::{Fault, Refusal, Text};
 
 /// What has passed its limit.
@@ -20,6 +21,10 @@ pub enum DataFault {
     Hex,
     /// The frame spells no value.
     Frame(Fault),
+    /// The text of a value gives none.
+    Json(ValueFail),
+    /// A value can't be packed.
+    Pack(PackFail),
 }
 
 /// How a command ended.

@@ -3,6 +3,7 @@
 ghost use Rattle.std.specs.Prelude.{◌≡◌, IfOk};
 ghost use Rattle.eds_cmd.specs.Stops as stops;
 
+use crate::pack_fail::{PackFail, ValueFail};
 use crate::report::{fault_line, limit_line, no_file_line, path_text, refusal_line};
 use crate::sheet::Sheet;
 use crate::status::{DataFault, Status, What};
@@ -118,6 +119,41 @@ pub fn frame_fault(alloc: Global, sheet: &Sheet, reason: Reason, path: Path) -> 
     let report = fault_line(alloc, reason.name(), place.as_str())?;
     Ok(Stop {
         cause: Cause::Data(DataFault::Frame(Fault { reason, path })),
+        report: Text::from_string(report),
+    })
+}
+
+/// The text of a value is no JSON.
+pub fn not_json(alloc: Global) -> Result<Stop, Memory>
+    ensures { IfOk result (λ s. s ≡ stops.not_json) }
+{
+    let report = fault_line(alloc, "NotJson", "$")?;
+    Ok(Stop {
+        cause: Cause::Data(DataFault::Json(ValueFail::NotJson)),
+        report: Text::from_string(report),
+    })
+}
+
+/// A value of the JSON has another shape than its type wants.
+pub fn wrong_shape(alloc: Global, sheet: &Sheet, path: Path) -> Result<Stop, Memory>
+    ensures { IfOk result (λ s. s ≡ stops.wrong_shape sheet.now path) }
+{
+    let place = path_text(alloc, sheet, &path)?;
+    let report = fault_line(alloc, "WrongShape", place.as_str())?;
+    Ok(Stop {
+        cause: Cause::Data(DataFault::Json(ValueFail::WrongShape(path))),
+        report: Text::from_string(report),
+    })
+}
+
+/// A value can't be packed.
+pub fn pack_fault(alloc: Global, sheet: &Sheet, fail: PackFail) -> Result<Stop, Memory>
+    ensures { IfOk result (λ s. s ≡ stops.pack_fault sheet.now fail.reason fail.path) }
+{
+    let place = path_text(alloc, sheet, &fail.path)?;
+    let report = fault_line(alloc, fail.reason.name(), place.as_str())?;
+    Ok(Stop {
+        cause: Cause::Data(DataFault::Pack(fail)),
         report: Text::from_string(report),
     })
 }

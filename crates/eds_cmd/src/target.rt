@@ -10,8 +10,8 @@ use crate::names::row_name;
 use crate::report::qualified;
 use crate::sheet::{Row, Sheet};
 use crate::stop::{Stop, not_flat, unresolved};
+use crate::tree::tree_of;
 use eds_base::{Fail, Memory, TypeId};
-use serde_json::Value;
 use std::alloc::Global;
 
 /// A type with its position among those of a sheet, and the word that names it.
@@ -27,15 +27,10 @@ pub struct Target<'a> {
 fn flat_sheet(alloc: Global, octets: &[u8]) -> Result<Sheet, Fail<NotFlat>>
     ensures { Gives (λ s. s) result (flat_in octets.now) }
 {
-    match Value::from_slice(alloc, octets) {
+    match tree_of(alloc, octets) {
         Ok(value) => sheet_of(alloc, &value),
-        Err(e) => {
-            if e.is_memory() {
-                Err(Fail::Memory)
-            } else {
-                Err(Fail::Named(NotFlat))
-            }
-        }
+        Err(Fail::Memory) => Err(Fail::Memory),
+        Err(Fail::Named(_)) => Err(Fail::Named(NotFlat)),
     }
 }
 

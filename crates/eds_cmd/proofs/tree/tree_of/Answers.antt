@@ -1,0 +1,19 @@
+use Rattle.std.proofs.Common.{◌≡◌, Bool, true, false, Option, None, if◌then◌else◌, refl}
+use Rattle.std.proofs.lemmas.Str.{IsUtf8-from_is_utf8, is_utf8-from_IsUtf8}
+use Rattle.std.specs.Str.{is_utf8}
+use Rattle.serde_json.specs.Data.{Data}
+use Rattle.serde_json.specs.Read.{read}
+use Rattle.eds_cmd.proofs.tree.tree_of.Goals as goal
+
+-- nothing where a test fails, or where it holds and there is no tree
+nothing_where : (b : Bool) (tree : Option Data) → (b ≡ true → tree ≡ None) → (if b then tree else None) ≡ None
+nothing_where true tree h = h refl
+nothing_where false tree h = refl
+
+pub returns-in-Ok : goal.returns-in-Ok
+returns-in-Ok c = rw (is_utf8-from_IsUtf8 c.args.text.now c.in-Ok.ensures.ok.0) c.in-Ok.ensures.ok.1
+
+pub returns-else-is_memory : goal.returns-else-is_memory
+returns-else-is_memory c =
+    let unread : is_utf8 c.args.text.now ≡ true → read c.args.text.now ≡ None = λ e. c.in-Err.ensures.err (λ m. cc (c.if-is_memory.false, c.is_memory.ensures.1 m)) (IsUtf8-from_is_utf8 c.args.text.now e) in
+    nothing_where (is_utf8 c.args.text.now) (read c.args.text.now) unread
