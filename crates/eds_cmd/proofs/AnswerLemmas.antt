@@ -7,7 +7,7 @@ use Rattle.eds_base.specs.declared.fault.Reason.TheVariants.{Short, Trailing}
 use Rattle.eds_bits.specs.Bits.{Bits, bits_of}
 use Rattle.eds_io.specs.Files.{Files}
 use Rattle.eds_cmd.specs.declared.command.Verb.{Verb}
-use Rattle.eds_cmd.specs.declared.command.Verb.TheVariants.{Unpack}
+use Rattle.eds_cmd.specs.declared.command.Verb.TheVariants.{Unpack, Pack}
 use Rattle.eds_cmd.specs.declared.status.Status.{Status}
 use Rattle.eds_cmd.specs.declared.status.Status.TheVariants as statuses
 use Rattle.eds_cmd.specs.declared.stop.Stop.{Stop}
@@ -20,6 +20,8 @@ use Rattle.eds_cmd.specs.Stops.{IsStop, frame_fault}
 use Rattle.eds_cmd.specs.Target.{TypeIn}
 use Rattle.eds_cmd.specs.Values.{Begins}
 use Rattle.eds_cmd.specs.Unpack.{IsUnpacked, IsTrailing, IsCutShort, Unpacks, UnpacksBits, UnpacksFrame, closed, frame_for, or_short, unpacked, unpacked_bits}
+use Rattle.eds_cmd.proofs.PackWork.{computed_packed, packed_one}
+use Rattle.eds_cmd.proofs.Results.{IsResult, stopped}
 use Rattle.eds_cmd.proofs.SpellingLemmas.{value_read, value_spelled, value_cut, cut_value, found}
 
 -- ---- what is computed is the answer
@@ -66,6 +68,7 @@ computed_frame type (Err stop) = record { status_is = refl; report_is = refl }
 
 pub computed_work : (verb : Verb) (type : TypeIn) (input : List ℕ) → Works verb type input (status_from (worked verb type input)) (report_from (worked verb type input))
 computed_work Unpack type input = computed_frame type (frame_for input)
+computed_work Pack type input = computed_packed type input
 
 computed_from : (verb : Verb) (job : Result (TypeIn × List ℕ) Stop)
     → let r = job >>= (λ job. worked verb job.0 job.1) in AnswersFrom verb job (status_from r) (report_from r)
@@ -83,13 +86,6 @@ pub computed_answer : (words : List (List ℕ)) (files : Files) → Answer words
 computed_answer words files = computed_answered (command_of words) files
 
 -- ---- the answer is what is computed
-
-abbrev pub IsResult : Result (List ℕ) Stop → Status → List ℕ → Type 0
-IsResult r status report = (status ≡ status_from r) × (report ≡ report_from r)
-
--- a stop
-stopped : (stop : Stop) (status : Status) (report : List ℕ) → IsStop stop status report → IsResult (Err stop) status report
-stopped stop status report s = (s.status_is, s.report_is)
 
 pub bits_one : (type : TypeIn) (bits : Bits) (status : Status) (report : List ℕ) → UnpacksBits type bits status report → IsResult (unpacked_bits type bits) status report
 unfolding unpacked_bits
@@ -109,6 +105,7 @@ frame_one type (Err stop) status report s = stopped stop status report s
 
 pub work_one : (verb : Verb) (type : TypeIn) (input : List ℕ) (status : Status) (report : List ℕ) → Works verb type input status report → IsResult (worked verb type input) status report
 work_one Unpack type input status report u = frame_one type (frame_for input) status report u
+work_one Pack type input status report p = packed_one type input status report p
 
 from_one : (verb : Verb) (job : Result (TypeIn × List ℕ) Stop) (status : Status) (report : List ℕ) → AnswersFrom verb job status report
     → IsResult (job >>= (λ job. worked verb job.0 job.1)) status report

@@ -9,3 +9,6 @@ pub mod AnswerLemmas
 pub mod ValidLemmas
 pub mod PackLemmas
 pub mod ShapeLemmas
+pub mod PackAnswer
+pub mod PackWork
+pub mod Results

@@ -4,17 +4,19 @@ use Rattle.std.proofs.lemmas.Bool.{le-leb, lt-leb}
 use Rattle.eds_bits.specs.Bits.{bits_of}
 use Rattle.eds_io.specs.Files.{Files}
 use Rattle.eds_cmd.specs.declared.command.Verb.{Verb}
-use Rattle.eds_cmd.specs.declared.command.Verb.TheVariants.{Unpack}
-use Rattle.eds_cmd.specs.Limits.{frame_octets, sheet_octets}
+use Rattle.eds_cmd.specs.declared.command.Verb.TheVariants.{Unpack, Pack}
+use Rattle.eds_cmd.specs.Limits.{frame_octets, sheet_octets, value_bits}
 use Rattle.eds_cmd.specs.declared.status.Status.{Status}
 use Rattle.eds_cmd.specs.declared.status.Status.TheVariants as statuses
 use Rattle.eds_cmd.specs.declared.stop.Stop.{Stop}
-use Rattle.eds_cmd.specs.Answer.{AnswersCommand, IsValid, IsValidFrame, IsValidInput, performed, status_from, worked}
+use Rattle.eds_cmd.specs.Answer.{AnswersCommand, IsValid, IsValidFrame, IsValidInput, IsValidJson, performed, status_from, worked}
 use Rattle.eds_cmd.specs.Command.{CommandWords, input_most}
+use Rattle.eds_cmd.specs.Pack.{packed, packed_report}
 use Rattle.eds_cmd.specs.Shown.{bits_report, value_text}
 use Rattle.eds_cmd.specs.Target.{TypeIn}
 use Rattle.eds_cmd.specs.Unpack.{frame_for, unpacked, unpacked_bits}
 use Rattle.eds_cmd.proofs.AnswerLemmas.{command_one}
+use Rattle.eds_cmd.proofs.PackWork.{packing_computed}
 use Rattle.eds_cmd.proofs.SpellingLemmas.{value_read}
 
 abbrev done : List ℕ → Result (List ℕ) Stop
@@ -35,10 +37,16 @@ valid_bits type text v =
       rw (value_read type.id type.row v.value v.front v.rest (bits_of v.frame) v.begins, few) refl,
     )
 
+valid_json : (type : TypeIn) (text : List ℕ) → IsValidJson type text → (report : List ℕ) × (packed type text ≡ done report)
+unfolding packed
+valid_json type text v =
+    (packed_report v.bits, rw (v.tree, v.shape, packing_computed type v.given v.value v.bits v.packing, le-leb (length v.bits) value_bits v.within) refl)
+
 valid_work : (verb : Verb) (type : TypeIn) (input : List ℕ) → IsValidInput verb type input → (report : List ℕ) × (worked verb type input ≡ done report)
 valid_work Unpack type input v =
     let bits = valid_bits type input v in
     (bits.0, rw (valid_frame type input v) bits.1)
+valid_work Pack type input v = valid_json type input v
 
 pub valid_performed : (files : Files) (c : CommandWords) → IsValid files c → (report : List ℕ) × (performed files c ≡ done report)
 valid_performed files c v =

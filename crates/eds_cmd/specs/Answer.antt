@@ -1,11 +1,13 @@
 -- What a command answers over files.
 use Rattle.std.specs.Prelude.{◌≡◌, ℕ, ◌≤◌, nat_le, List, length, if◌then◌else◌, Option, Some, None, Result, Ok, Err, IsOk, ◌⊎◌}
+use Rattle.serde_json.specs.Data.{Data}
 use Rattle.eds_base.specs.Answering.{◌>>=◌}
 use Rattle.eds_bits.specs.Bits.{Bits, bits_of}
 use Rattle.eds_io.specs.Files.{Files, file_named}
 use Rattle.eds_cmd.specs.declared.command.Verb.{Verb}
-use Rattle.eds_cmd.specs.declared.command.Verb.TheVariants.{Unpack}
-use Rattle.eds_cmd.specs.Limits.{frame_octets, sheet_octets}
+use Rattle.eds_cmd.specs.declared.command.Verb.TheVariants.{Unpack, Pack}
+use Rattle.eds_cmd.specs.Limits.{frame_octets, sheet_octets, value_bits}
+use Rattle.eds_cmd.specs.declared.shape.Given.{Given}
 use Rattle.eds_cmd.specs.declared.sheet.Sheet.{Sheet}
 use Rattle.eds_cmd.specs.declared.status.Status.{Status}
 use Rattle.eds_cmd.specs.declared.status.Status.TheVariants as statuses
@@ -15,9 +17,11 @@ use Rattle.eds_cmd.specs.declared.stop.Stop.{Stop}
 use Rattle.eds_cmd.specs.declared.value.FlatValue.{FlatValue}
 use Rattle.eds_cmd.specs.Command.{CommandWords, command_of, input_most}
 use Rattle.eds_cmd.specs.Hex.{hex_octets}
+use Rattle.eds_cmd.specs.Pack.{IsPacking, Packs, packed}
 use Rattle.eds_cmd.specs.Reports.{usage_line}
+use Rattle.eds_cmd.specs.Shape.{shape_of}
 use Rattle.eds_cmd.specs.Stops.{IsStop, limited, missing, status_of}
-use Rattle.eds_cmd.specs.Target.{TypeIn, flat_sheet, sheet_for, type_for, type_from}
+use Rattle.eds_cmd.specs.Target.{TypeIn, flat_sheet, sheet_for, tree_of, type_for, type_from}
 use Rattle.eds_cmd.specs.Unpack.{Unpacks, unpacked}
 use Rattle.eds_cmd.specs.Values.{Begins}
 
@@ -50,6 +54,7 @@ prepared files c = do
 -- what the command does with its input comes to this status and report
 abbrev pub Works : Verb → TypeIn → List ℕ → Status → List ℕ → Type 0
 Works Unpack type input status report = Unpacks type input status report
+Works Pack type input status report = Packs type input status report
 
 abbrev pub AnswersFrom : Verb → Result (TypeIn × List ℕ) Stop → Status → List ℕ → Type 0
 AnswersFrom verb (Ok job) status report = Works verb job.0 job.1 status report
@@ -67,6 +72,7 @@ Answer words files status report = AnswersCommand (command_of words) files statu
 
 abbrev pub worked : Verb → TypeIn → List ℕ → Result (List ℕ) Stop
 worked Unpack type input = unpacked type input
+worked Pack type input = packed type input
 
 -- the report of a command that is done, or the stop
 abbrev pub performed : Files → CommandWords → Result (List ℕ) Stop
@@ -104,8 +110,20 @@ pub record IsValidFrame (type : TypeIn) (text : List ℕ) : Type 0 where
   pub begins : Begins type.row value front rest (bits_of frame)
   pub few : length rest ≤ 7
 
+-- the text is JSON that gives a value of the type, whose bits are no more than a value may have
+pub record IsValidJson (type : TypeIn) (text : List ℕ) : Type 0 where
+  pub json : Data
+  pub tree : tree_of text ≡ Some json
+  pub given : Given
+  pub shape : shape_of type json ≡ Ok given
+  pub value : FlatValue
+  pub bits : Bits
+  pub packing : IsPacking type given value bits
+  pub within : length bits ≤ value_bits
+
 abbrev pub IsValidInput : Verb → TypeIn → List ℕ → Type 0
 IsValidInput Unpack type text = IsValidFrame type text
+IsValidInput Pack type text = IsValidJson type text
 
 -- the files of the command are there and within their limits, the sheet is accepted, and the input is valid
 pub record IsValid (files : Files) (c : CommandWords) : Type 0 where

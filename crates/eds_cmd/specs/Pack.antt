@@ -74,6 +74,7 @@ IsOfSize size Negative = ⊥
 
 -- the numbers before one are spelled by some bits, and that one is outside its size
 pub record IsOutAt (sizes : List ℕ) (numbers : List Whole) (i : ℕ) : Type 0 where
+  pub within : i < length sizes
   pub naturals : List ℕ
   pub bits : Bits
   pub before : take i numbers ≡ map Natural naturals

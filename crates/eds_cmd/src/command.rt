@@ -3,7 +3,7 @@
 ghost use Rattle.std.specs.Prelude.{◌≡◌, option_map};
 ghost use Rattle.eds_cmd.specs.Command.{command_of as command_in, input_most as most_input, verb_of as verb_in, words_of};
 
-use crate::limits::HEX_OCTETS;
+use crate::limits::{HEX_OCTETS, JSON_OCTETS};
 use eds_base::Text;
 
 /// What a command does with its input file.
@@ -11,6 +11,8 @@ use eds_base::Text;
 pub enum Verb {
     /// Reads the value of a frame.
     Unpack,
+    /// Writes the octets of a value.
+    Pack,
 }
 
 /// A command: what it does, the name of a type, and the names of the input file and of the sheet
@@ -28,6 +30,8 @@ fn verb_of(word: &str) -> Option<Verb>
 {
     if word == "unpack" {
         Some(Verb::Unpack)
+    } else if word == "pack" {
+        Some(Verb::Pack)
     } else {
         None
     }
@@ -61,5 +65,6 @@ pub fn input_most(verb: Verb) -> u64
 {
     match verb {
         Verb::Unpack => HEX_OCTETS,
+        Verb::Pack => JSON_OCTETS,
     }
 }

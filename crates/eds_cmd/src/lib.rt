@@ -24,7 +24,7 @@ mod unpack;
 mod value;
 mod words;
 
-pub use law::{answer_is_one, reading_is_exact};
+pub use law::{answer_is_one, packing_is_undone, reading_is_exact};
 pub use pack_fail::{PackFail, PackReason, ValueFail};
 pub use status::{DataFault, Status, What};
 pub use top::eds;

@@ -12,6 +12,7 @@ ghost use Rattle.eds_cmd.specs.Target.{type_in};
 use crate::command::{Command, Verb, input_most};
 use crate::halt::Halt;
 use crate::limits::SHEET_OCTETS;
+use crate::pack::packed;
 use crate::status::What;
 use crate::stop::{Stop, limited, missing};
 use crate::target::{Target, sheet_for, type_for};
@@ -53,6 +54,7 @@ fn worked(
 {
     match verb {
         Verb::Unpack => unpacked(alloc, target, input),
+        Verb::Pack => packed(alloc, target, input),
     }
 }
 
