@@ -84,35 +84,41 @@ OutFrom sizes numbers at k = (i : ℕ) × (k ≡ at + i) × IsOutAt sizes number
 
 out_here : (size : ℕ) (n : Whole) (sizes : List ℕ) (numbers : List Whole) (at k : ℕ) → is_of_size size n ≡ false → Some at ≡ Some k → OutFrom (size ∷ sizes) (n ∷ numbers) at k
 out_here size n sizes numbers at k past e =
-    let same : at ≡ k = cc e in
-    (0, omega arith, record {
-      within = omega arith;
-      naturals = [];
-      bits = [];
-      before = refl;
-      spelled = record { pieces = []; joined = refl; sizes_are = refl; numbers_are = refl };
-      number = n;
-      number_is = refl;
-      outside = outside size n past;
-    })
+    let same : at ≡ k = cc e in (
+      0,
+      omega arith,
+      record {
+        within = omega arith;
+        naturals = [];
+        bits = [];
+        before = refl;
+        spelled = record { pieces = []; joined = refl; sizes_are = refl; numbers_are = refl };
+        number = n;
+        number_is = refl;
+        outside = outside size n past;
+      },
+    )
 
 out_behind : (size : ℕ) (n : Whole) (sizes : List ℕ) (numbers : List Whole) (at k : ℕ) → is_of_size size n ≡ true → OutFrom sizes numbers (at + 1) k → OutFrom (size ∷ sizes) (n ∷ numbers) at k
-out_behind size (Natural n) sizes numbers at k within_size (i, is, later) =
-    (suc i, omega arith, record {
-      within = omega (arith, later.within);
-      naturals = n ∷ later.naturals;
-      bits = low_bits size n ++ later.bits;
-      before = ap (λ (l : List Whole). Natural n ∷ l) later.before;
-      spelled = record {
-        pieces = low_bits size n ∷ later.spelled.pieces;
-        joined = ap (λ (b : Bits). low_bits size n ++ b) later.spelled.joined;
-        sizes_are = rw (length-low, later.spelled.sizes_are) refl;
-        numbers_are = rw (unsigned_small size n (ltb-true n (2 ^ size) within_size), later.spelled.numbers_are) refl;
-      };
-      number = later.number;
-      number_is = later.number_is;
-      outside = later.outside;
-    })
+out_behind size (Natural n) sizes numbers at k within_size (i, is, later) = (
+  suc i,
+  omega arith,
+  record {
+    within = omega (arith, later.within);
+    naturals = n ∷ later.naturals;
+    bits = low_bits size n ++ later.bits;
+    before = ap (λ (l : List Whole). Natural n ∷ l) later.before;
+    spelled = record {
+      pieces = low_bits size n ∷ later.spelled.pieces;
+      joined = ap (λ (b : Bits). low_bits size n ++ b) later.spelled.joined;
+      sizes_are = rw (length-low, later.spelled.sizes_are) refl;
+      numbers_are = rw (unsigned_small size n (ltb-true n (2 ^ size) within_size), later.spelled.numbers_are) refl;
+    };
+    number = later.number;
+    number_is = later.number_is;
+    outside = later.outside;
+  },
+)
 out_behind size Negative sizes numbers at k within_size later = absurd (cc within_size)
 
 pub out_found : (sizes : List ℕ) (numbers : List Whole) (at k : ℕ) → first_out sizes numbers at ≡ Some k → OutFrom sizes numbers at k
@@ -122,8 +128,8 @@ out_found (s ∷ ss) (n ∷ ns) at k h =
     let later = first_out ss ns (at + 1) in
     let Case : Bool → Type 0 = λ t. is_of_size s n ≡ t → (if t then later else Some at) ≡ Some k → OutFrom (s ∷ ss) (n ∷ ns) at k in
     (elim (is_of_size s n) as Case [
-      true ↦ λ within_size e. out_behind s n ss ns at k within_size (out_found ss ns (at + 1) k e)
-    | false ↦ λ past e. out_here s n ss ns at k past e
+      | true ↦ λ within_size e. out_behind s n ss ns at k within_size (out_found ss ns (at + 1) k e)
+      | false ↦ λ past e. out_here s n ss ns at k past e
     ]) refl h
 
 not_of_size : (size : ℕ) (n : Whole) → (IsOfSize size n → ⊥) → is_of_size size n ≡ false

@@ -18,16 +18,16 @@ use Rattle.eds_cmd.specs.Values.{entry_sizes}
 pub shifted-away : (n d : ℕ) → 0 < d → nat_eq (n / d) 0 ≡ nat_lt n d
 shifted-away n d some = ⊎_elim
     (λ (below : n < d).
-      let none : n / d ≡ 0 = omega (arith, div_below n d 1 some (omega arith)) in
-      rw (lt-ltb n d below, none) refl)
+    let none : n / d ≡ 0 = omega (arith, div_below n d 1 some (omega arith)) in
+    rw (lt-ltb n d below, none) refl)
     (λ (past : d ≤ n).
-      let more : 1 ≤ n / d = le-div 1 n d some (omega arith) in
-      rw (le-ltb n d past) (not_zero (n / d) more))
+    let more : 1 ≤ n / d = le-div 1 n d some (omega arith) in
+    rw (le-ltb n d past) (not_zero (n / d) more))
     (cases_lt n d)
   where
-  not_zero : (k : ℕ) → 1 ≤ k → nat_eq k 0 ≡ false
-  not_zero zero h = absurd (omega arith)
-  not_zero (suc k) h = eqb-suc-zero k
+    not_zero : (k : ℕ) → 1 ≤ k → nat_eq k 0 ≡ false
+    not_zero zero h = absurd (omega arith)
+    not_zero (suc k) h = eqb-suc-zero k
 
 abbrev size_of : Unsigned → ℕ
 size_of e = e.size
@@ -78,9 +78,9 @@ first_out-more parts numbers i e n each within e_is n_is none =
     let more : drop i numbers ≡ n ∷ drop (i + 1) numbers = drop_more numbers i n (omega arith) ∙ ap (λ (w : Whole). w ∷ drop (i + 1) numbers) (sym n_is) in
     behind (is_of_size e.size n) (rw (left, more) at none)
   where
-  behind : (t : Bool) → (if t then first_out (entry_sizes (drop (i + 1) parts)) (drop (i + 1) numbers) (i + 1) else Some i) ≡ None → first_out (entry_sizes (drop (i + 1) parts)) (drop (i + 1) numbers) (i + 1) ≡ None
-  behind true h = h
-  behind false h = absurd (cc h)
+    behind : (t : Bool) → (if t then first_out (entry_sizes (drop (i + 1) parts)) (drop (i + 1) numbers) (i + 1) else Some i) ≡ None → first_out (entry_sizes (drop (i + 1) parts)) (drop (i + 1) numbers) (i + 1) ≡ None
+    behind true h = h
+    behind false h = absurd (cc h)
 
 -- ---- the octets of a room of zeros
 

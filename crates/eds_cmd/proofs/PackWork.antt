@@ -47,7 +47,9 @@ computed_parts type given own each (Some k) is =
     let found = out_found (part_sizes type.row) given.numbers 0 k is in
     let here : k ≡ found.0 = omega (arith, found.1) in
     inr (inr (inl (record {
-      own = own; i = found.0; out = found.2;
+      own = own;
+      i = found.0;
+      out = found.2;
       stop = record { status_is = ap (λ (i : ℕ). status_from (Err (pack_fault type.sheet OutOfRange (part_path type.row type.id i)))) here; report_is = ap (λ (i : ℕ). report_from (Err (pack_fault type.sheet OutOfRange (part_path type.row type.id i)))) here };
     })))
 computed_parts type given own each None is =

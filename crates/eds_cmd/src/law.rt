@@ -19,8 +19,7 @@ pub fn packing_is_undone()
     ensures one { OneSpelling }
     ensures read { PackedIsRead }
     ensures packed { ReadIsPacked }
-{
-}
+{}
 
 /// Words have exactly one answer over files, a status and a report.
 pub fn answer_is_one()

@@ -150,11 +150,7 @@ fn packed_bits(
 }
 
 // The report on numbers, of which none may be outside its part.
-fn packed_parts(
-    alloc: Global,
-    target: &Target<'_>,
-    numbers: &[Whole],
-) -> Result<String, Fail<Stop>>
+fn packed_parts(alloc: Global, target: &Target<'_>, numbers: &[Whole]) -> Result<String, Fail<Stop>>
     requires { length numbers.now ≡ length (part_sizes target.now.row.now) }
     ensures { Answers string_bytes result
         (packed_from_parts (type_in target.now) numbers.now (first_out_of (part_sizes target.now.row.now) numbers.now 0)) }

@@ -183,11 +183,7 @@ fn fields_for(
 }
 
 #[tactic(auto, unfolding(crate::specs::Shape::fields_given))]
-fn fields_given(
-    alloc: Global,
-    target: &Target<'_>,
-    value: &Value,
-) -> Result<Given, Fail<Path>>
+fn fields_given(alloc: Global, target: &Target<'_>, value: &Value) -> Result<Given, Fail<Path>>
     ensures { Answers (λ g. g) result (fields_in (type_in target.now) (view value.now)) }
 {
     let Some(container) = container_for(alloc, target, value)? else {

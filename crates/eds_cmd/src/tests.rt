@@ -12,6 +12,15 @@ const FLAT: &str = "[\"PackageFile\",[\"Package\",{\"name\":\"Flat\"},[\"DataTyp
 [\"IntegerDataType\",{\"name\":\"U12\"},[\"IntegerDataEncoding\",{\"sizeInBits\":\"12\",\"encoding\":\"unsigned\"}]],\
 [\"ContainerDataType\",{\"name\":\"Word\"},[\"EntryList\",[\"Entry\",{\"name\":\"a\",\"type\":\"U4\"}],[\"Entry\",{\"name\":\"b\",\"type\":\"U12\"}]]]]]]";
 
+// The same with two more containers and an integer type behind them.
+const MORE: &str = "[\"PackageFile\",[\"Package\",{\"name\":\"Flat\"},[\"DataTypeSet\",\
+[\"IntegerDataType\",{\"name\":\"U4\"},[\"IntegerDataEncoding\",{\"sizeInBits\":\"4\",\"encoding\":\"unsigned\"}]],\
+[\"IntegerDataType\",{\"name\":\"U12\"},[\"IntegerDataEncoding\",{\"sizeInBits\":\"12\",\"encoding\":\"unsigned\"}]],\
+[\"ContainerDataType\",{\"name\":\"Word\"},[\"EntryList\",[\"Entry\",{\"name\":\"a\",\"type\":\"U4\"}],[\"Entry\",{\"name\":\"b\",\"type\":\"U12\"}]]],\
+[\"ContainerDataType\",{\"name\":\"V\"},[\"EntryList\",[\"Entry\",{\"name\":\"c\",\"type\":\"U4\"}]]],\
+[\"ContainerDataType\",{\"name\":\"Long\"},[\"EntryList\",[\"Entry\",{\"name\":\"x\",\"type\":\"U64\"}]]],\
+[\"IntegerDataType\",{\"name\":\"U64\"},[\"IntegerDataEncoding\",{\"sizeInBits\":\"64\",\"encoding\":\"unsigned\"}]]]]]";
+
 const WORD: &str = "{\"$type\":\"Flat/Word\",\"a\":1,\"b\":564}\nbits 16\n";
 
 // How the shelf and the sink behave: the most octets of a read and of a write, and the number of the
@@ -93,7 +102,7 @@ fn run(
     let fails = one_number(alloc, outside.read_fails)?;
     let mut shelf = MemShelf::new(alloc, files, outside.read_most, fails)?;
     let fails = one_number(alloc, outside.write_fails)?;
-    let mut sink = MemSink::new(alloc, 4096, outside.write_most, fails)?;
+    let mut sink = MemSink::new(alloc, 262144, outside.write_most, fails)?;
     let words = words_in(alloc, words)?;
     let status = eds(alloc, &words, &mut shelf, &mut sink);
     Ok((status.number(), sink.written().to_vec(alloc)?))
@@ -234,6 +243,190 @@ fn commands_are_answered(rt: HostRuntime) -> Result<(), Fail> {
 }
 
 #[test]
+fn values_are_packed_and_read_again(rt: HostRuntime) -> Result<(), Fail> {
+    let alloc = rt.alloc();
+    let table = [
+        (
+            "Flat/Word",
+            "{\"$type\":\"Flat/Word\",\"a\":1,\"b\":564}",
+            "1234",
+            "16",
+        ),
+        (
+            "Flat/Word",
+            "{\"$type\":\"Flat/Word\",\"a\":0,\"b\":0}",
+            "0000",
+            "16",
+        ),
+        (
+            "Flat/Word",
+            "{\"$type\":\"Flat/Word\",\"a\":15,\"b\":4095}",
+            "ffff",
+            "16",
+        ),
+        ("Flat/V", "{\"$type\":\"Flat/V\",\"c\":9}", "90", "4"),
+        ("Flat/U12", "564", "2340", "12"),
+        ("Flat/U64", "18446744073709551615", "ffffffffffffffff", "64"),
+        (
+            "Flat/Long",
+            "{\"$type\":\"Flat/Long\",\"x\":18446744073709551615}",
+            "ffffffffffffffff",
+            "64",
+        ),
+    ];
+    for (name, value, digits, bits) in table {
+        let pack = format!(in alloc; "pack {name} input sheet")?;
+        let (packed, octets) = run(
+            alloc,
+            CALM,
+            pack.as_str(),
+            MORE.as_bytes(),
+            value.as_bytes(),
+        )?;
+        let want = format!(in alloc; "{digits}\nbits {bits}\n")?;
+        assert_eq!(rt; packed, 0, "{name} of {value}");
+        assert_eq!(rt; octets.as_slice(), want.as_bytes(), "{name} of {value}");
+        let unpack = format!(in alloc; "unpack {name} input sheet")?;
+        let (read, text) = run(
+            alloc,
+            CALM,
+            unpack.as_str(),
+            MORE.as_bytes(),
+            digits.as_bytes(),
+        )?;
+        let want = format!(in alloc; "{value}\nbits {bits}\n")?;
+        assert_eq!(rt; read, 0, "{name} of {digits}");
+        assert_eq!(rt; text.as_slice(), want.as_bytes(), "{name} of {digits}");
+    }
+    Ok(())
+}
+
+#[test]
+fn values_are_refused(rt: HostRuntime) -> Result<(), Fail> {
+    let alloc = rt.alloc();
+    let table = [
+        ("Flat/Word", "{\"a\":15,\"b\":4095}", 0, "ffff\nbits 16\n"),
+        ("Flat/Word", "{\"b\":564,\"a\":1}", 0, "1234\nbits 16\n"),
+        ("Flat/Word", "{\"a\":1}", 3, "fault WrongShape at $\n"),
+        (
+            "Flat/Word",
+            "{\"a\":1,\"b\":2,\"c\":3}",
+            3,
+            "fault WrongShape at $\n",
+        ),
+        (
+            "Flat/Word",
+            "{\"a\":1,\"c\":2}",
+            3,
+            "fault WrongShape at $\n",
+        ),
+        ("Flat/Word", "[1,2]", 3, "fault WrongShape at $\n"),
+        (
+            "Flat/Word",
+            "{\"a\":\"1\",\"b\":0}",
+            3,
+            "fault WrongShape at $.a\n",
+        ),
+        (
+            "Flat/Word",
+            "{\"a\":16,\"b\":1.0}",
+            3,
+            "fault WrongShape at $.b\n",
+        ),
+        (
+            "Flat/Word",
+            "{\"a\":1e0,\"b\":0}",
+            3,
+            "fault WrongShape at $.a\n",
+        ),
+        (
+            "Flat/Word",
+            "{\"a\":16,\"b\":0}",
+            3,
+            "fault OutOfRange at $.a\n",
+        ),
+        (
+            "Flat/Word",
+            "{\"a\":-1,\"b\":0}",
+            3,
+            "fault OutOfRange at $.a\n",
+        ),
+        (
+            "Flat/Word",
+            "{\"a\":0,\"b\":4096}",
+            3,
+            "fault OutOfRange at $.b\n",
+        ),
+        (
+            "Flat/Word",
+            "{\"$type\":\"Flat/V\",\"c\":1}",
+            3,
+            "fault NotDerived at $<Flat/V>\n",
+        ),
+        (
+            "Flat/Word",
+            "{\"$type\":\"Flat/V\",\"c\":16}",
+            3,
+            "fault NotDerived at $<Flat/V>\n",
+        ),
+        (
+            "Flat/Word",
+            "{\"$type\":\"Flat/V\",\"c\":true}",
+            3,
+            "fault WrongShape at $\n",
+        ),
+        (
+            "Flat/Word",
+            "{\"$type\":\"Flat/U4\",\"a\":1,\"b\":0}",
+            3,
+            "fault WrongShape at $\n",
+        ),
+        (
+            "Flat/Word",
+            "{\"$type\":\"Word\",\"a\":1,\"b\":0}",
+            3,
+            "fault WrongShape at $\n",
+        ),
+        (
+            "Flat/Word",
+            "{\"$type\":4,\"a\":1,\"b\":0}",
+            3,
+            "fault WrongShape at $\n",
+        ),
+        ("Flat/Word", "{\"a\":1,\"b\":0", 3, "fault NotJson at $\n"),
+        ("Flat/U12", "4096", 3, "fault OutOfRange at $\n"),
+        ("Flat/U12", "-1", 3, "fault OutOfRange at $\n"),
+        ("Flat/U12", "-0", 3, "fault WrongShape at $\n"),
+        ("Flat/U12", "true", 3, "fault WrongShape at $\n"),
+        (
+            "Flat/U64",
+            "18446744073709551616",
+            3,
+            "fault WrongShape at $\n",
+        ),
+        (
+            "Flat/None",
+            "1",
+            1,
+            "refused 10 Unresolved at 1:0 Flat/None\n",
+        ),
+    ];
+    for (name, value, number, report) in table {
+        let words = format!(in alloc; "pack {name} input sheet")?;
+        let (got, written) = run(
+            alloc,
+            CALM,
+            words.as_str(),
+            MORE.as_bytes(),
+            value.as_bytes(),
+        )?;
+        assert_eq!(rt; got, number, "{name} of {value}");
+        assert_eq!(rt; written.as_slice(), report.as_bytes(), "{name} of {value}");
+    }
+    Ok(())
+}
+
+#[test]
 fn faults_of_the_outside_are_told(rt: HostRuntime) -> Result<(), Fail> {
     let alloc = rt.alloc();
     let table = [
@@ -294,6 +487,45 @@ fn limits_are_kept(rt: HostRuntime) -> Result<(), Fail> {
         )?;
         assert_eq!(rt; got, number, "{report}");
         assert_eq!(rt; written.as_slice(), report.as_bytes());
+    }
+    Ok(())
+}
+
+// A sheet with a container of so many entries of 64 bits, and a value of it that is all zeros.
+fn wide(alloc: Global, count: u32) -> Result<(String, String), Memory> {
+    let mut sheet = String::from_str(
+        alloc,
+        "[\"PackageFile\",[\"Package\",{\"name\":\"P\"},[\"DataTypeSet\",[\"IntegerDataType\",{\"name\":\"U\"},[\"IntegerDataEncoding\",{\"sizeInBits\":\"64\",\"encoding\":\"unsigned\"}]],[\"ContainerDataType\",{\"name\":\"K\"},[\"EntryList\"",
+    )?;
+    let mut value = String::from_str(alloc, "{\"$type\":\"P/K\"")?;
+    for i in 0..count {
+        let entry = format!(in alloc; ",[\"Entry\",{{\"name\":\"e{i}\",\"type\":\"U\"}}]")?;
+        sheet.push_str(entry.as_str())?;
+        let member = format!(in alloc; ",\"e{i}\":0")?;
+        value.push_str(member.as_str())?;
+    }
+    sheet.push_str("]]]]]")?;
+    value.push_str("}")?;
+    Ok((sheet, value))
+}
+
+#[test]
+fn long_values_are_refused(rt: HostRuntime) -> Result<(), Fail> {
+    let alloc = rt.alloc();
+    let table = [(8192, 0), (8193, 3)];
+    for (count, number) in table {
+        let (sheet, value) = wide(alloc, count)?;
+        let (got, written) = run(
+            alloc,
+            CALM,
+            "pack P/K input sheet",
+            sheet.as_bytes(),
+            value.as_bytes(),
+        )?;
+        assert_eq!(rt; got, number, "{count} entries");
+        if number == 3 {
+            assert_eq!(rt; written.as_slice(), b"fault TooLong at $\n".as_slice());
+        }
     }
     Ok(())
 }
