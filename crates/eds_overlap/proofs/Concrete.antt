@@ -13,7 +13,7 @@ use Rattle.eds_types.specs.Rows.{Table, numbers, base_of, base_in, container_in,
 use Rattle.eds_types.specs.Rules.{AreDistinct, IsHollow, IsNested, name_of, is_length, SequenceKeeps}
 use Rattle.eds_types.proofs.ByRows.{AllFrom, by_row, sequence_past, distinct, distinct_is}
 use Rattle.eds_types.proofs.SameValues.{text_same}
-use Rattle.eds_types.proofs.Tests.{has_in}
+use Rattle.eds_types.proofs.ReadingTests.{has_in}
 
 -- ---- rows and numbers
 

@@ -14,7 +14,7 @@ use Rattle.eds_bits.specs.Style.{any}
 use Rattle.eds_types.proofs.ChainLaws.{chain_end, child_is, child_of, chain_length, under_in}
 use Rattle.eds_types.proofs.ExactReading.{same_ok, ok_err, Is}
 use Rattle.eds_types.proofs.PartReading.{PartGood, part_exact}
-use Rattle.eds_types.proofs.Tests.{holds_from, holds_in, found_is, none_is}
+use Rattle.eds_types.proofs.ReadingTests.{holds_from, holds_in, found_is, none_is}
 use Rattle.eds_types.specs.Failing.{Station, condition, entry, choice, end, later, own, course, Where, behind, path_steps, length_step, StationPasses, StationFails, PartFails}
 use Rattle.eds_types.specs.Fields.{IsUnder, IsCandidate}
 use Rattle.eds_types.specs.Plain.{Plain}

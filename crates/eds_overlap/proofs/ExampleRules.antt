@@ -23,7 +23,7 @@ use Rattle.eds_base.specs.declared.ids.TypeId.{TypeId}
 use Rattle.eds_types.specs.Rows.{id_of, base_in, base_of, container_in, constraints_in, constraints_of, chain, chain_within, list_has, derived, own_parts, sequence, Placed}
 use Rattle.eds_types.specs.Rules.{IsHollow, IsCounted, HoldsCheck, KindKeeps, HasKind, DerivesFrom, ItemsNest, PartKeeps, ConstraintKeeps, KeepsRules}
 use Rattle.eds_types.proofs.RuleFacts.{table_of}
-use Rattle.eds_types.proofs.Tests.{has_in}
+use Rattle.eds_types.proofs.ReadingTests.{has_in}
 use Rattle.eds_overlap.specs.Example.{example, flags, unsigned_form, any_number}
 use Rattle.eds_types.proofs.ByRows.{AllFrom, by_row, derived-le, none_hollow, not_hollow}
 use Rattle.eds_overlap.proofs.Concrete.{each_number, below, below_is, index_below, by_base, bases_pass, past_own, texts_distinct, numbers_distinct, all_nested, Nests, parts_nested, sequence_passes, sequences_keep}

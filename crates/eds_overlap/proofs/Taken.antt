@@ -13,7 +13,7 @@ use Rattle.eds_overlap.proofs.Course.{bind_assoc, seam_get, same_tail, Runs, tai
 use Rattle.eds_types.proofs.ChainLaws.{chain_end, same_chain, under_is, child_is, child_of, longer, under_in, itself_in, short_chain}
 use Rattle.eds_types.proofs.ExactReading.{done, failed}
 use Rattle.eds_types.proofs.PartReading.{part_exact}
-use Rattle.eds_types.proofs.Tests.{holds_from, holds_in, found_is, none_is}
+use Rattle.eds_types.proofs.ReadingTests.{holds_from, holds_in, found_is, none_is}
 use Rattle.eds_types.specs.Failing.{Station, condition, entry, choice, end, later, own, course, GoesOn, NoneUnder, Where, path_steps, length_step}
 use Rattle.eds_types.specs.Fields.{IsUnder, IsCandidate}
 use Rattle.eds_types.specs.Plain.{Plain}

@@ -21,7 +21,7 @@ use Rattle.eds_types.proofs.PackingLaws.{packs_within}
 use Rattle.eds_types.proofs.RuleFacts.{table_of, facts_of}
 use Rattle.eds_types.proofs.SpellingSizes.{canon_spells, same_size}
 use Rattle.eds_overlap.proofs.ReadingLaws.{exact}
-use Rattle.eds_overlap.specs.Laws.{IsReadable, read_type, IsRead, ReadingIsExact, OneOutcome, OneReading, FaultsStay, OneSize, HasCanonical, OneCanonical, SameValue, LeastIsLeast, PackingIsDecided}
+use Rattle.eds_overlap.specs.Laws.{IsReadable, read_type, IsRead, ReadingIsExact, OneOutcome, OneReading, FaultsStay, OneSize, HasCanonical, OneCanonical, SameValue, LeastIsLeast, PackingIsDecided, PackedIsRead, ReadIsPacked}
 
 all_of : (t : Table) (id : ℕ) → IsReadable t id → Exact (read_within 32 t id) (SpellsWithin 32 any t id) (FailsWithin 32 t id)
 all_of t id h = exact t (table_of t h.rules) 32 id (record { rank = (table_of t h.rules).nested id; there = h.there; clear = h.clear })
@@ -119,3 +119,14 @@ packing_is_decided t id h v = record { either = go d.either; one_place = one; no
     apart : (b : Bits) (g : PackWhere) → Canon t id v b → length b ≤ most_bits → PackFailsAt t id v g → ⊥
     apart b g s l (inl f) = d.apart b g s f
     apart b g s l (inr f) = let e = ap length (one_canonical t id h v b (f.0).spelling s (f.0).is) in let m = (f.0).long in omega arith
+
+-- ---- there and back
+
+pub packed_is_read : PackedIsRead
+packed_is_read t id h v b rest s = (reading_is_exact t id h (b ++ rest)).1 (Ok (v, rest)) (b, refl, canon_spells t 32 id v b s)
+
+pub read_is_packed : ReadIsPacked
+read_is_packed t id h v b s short =
+    let c = canon_within t (facts_of t h.rules) 32 id v b s in
+    let size = one_size t id h v c.0 b (canon_spells t 32 id v c.0 c.1) s in
+    record { spelling = c.0; is = c.1; size = size; no_fault = λ g f. (packing_is_decided t id h v).not_both c.0 g c.1 (omega arith) f }

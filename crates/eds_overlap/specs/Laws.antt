@@ -91,3 +91,19 @@ pub record PacksOrFails (t : Table) (id : ℕ) (v : Plain) : Type 0 where
 
 abbrev pub PackingIsDecided : Type 0
 PackingIsDecided = (t : Table) (id : ℕ) → IsThere t id → (v : Plain) → PacksOrFails t id v
+
+-- ---- there and back
+
+-- the canonical spelling of a value, whatever follows it, is read as the value, and what follows is left
+abbrev pub PackedIsRead : Type 0
+PackedIsRead = (t : Table) (id : ℕ) → IsReadable t id → (v : Plain) (b rest : Bits) → Canon t id v b → read_type t id (b ++ rest) ≡ Ok (v, rest)
+
+-- a value that is read packs, to as many bits
+pub record PacksAgain (t : Table) (id : ℕ) (v : Plain) (n : ℕ) : Type 0 where
+  pub spelling : Bits
+  pub is : Canon t id v spelling
+  pub size : length spelling ≡ n
+  pub no_fault : (g : PackWhere) → PackFailsAt t id v g → ⊥
+
+abbrev pub ReadIsPacked : Type 0
+ReadIsPacked = (t : Table) (id : ℕ) → IsThere t id → (v : Plain) (b : Bits) → Spells t id v b → length b ≤ most_bits → PacksAgain t id v (length b)

@@ -4,7 +4,7 @@ ghost use Rattle.std.specs.Prelude.{ℕ};
 ghost use Rattle.eds_types.specs.Overlap.{IsClear};
 ghost use Rattle.eds_types.specs.Rules.{KeepsRules};
 ghost use Rattle.eds_overlap.specs.Example.{example, WorkedFrames};
-ghost use Rattle.eds_overlap.specs.Laws.{ReadingIsExact, OneOutcome, OneReading, FaultsStay, OneSize, HasCanonical, OneCanonical, SameValue, LeastIsLeast, PackingIsDecided};
+ghost use Rattle.eds_overlap.specs.Laws.{ReadingIsExact, OneOutcome, OneReading, FaultsStay, OneSize, HasCanonical, OneCanonical, SameValue, LeastIsLeast, PackingIsDecided, PackedIsRead, ReadIsPacked};
 
 /// What the left-to-right reading function gives is a value with its spelling in front of the rest, or a fault that is
 /// there; and each such value and each such fault is what it gives.
@@ -49,6 +49,12 @@ pub fn least_size()
 /// and not both.
 pub fn packing_is_decided()
     ensures { PackingIsDecided }
+{}
+
+/// What is packed is read again, whatever bits follow; and what is read packs again, to as many bits.
+pub fn there_and_back()
+    ensures packed { PackedIsRead }
+    ensures read { ReadIsPacked }
 {}
 
 /// The table of the examples keeps the rules, and no two of its containers overlap: so each law speaks of some values.

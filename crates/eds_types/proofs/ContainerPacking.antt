@@ -20,7 +20,7 @@ use Rattle.eds_types.proofs.LengthChoices.{Choices, tell_all, NumbersDecided, To
 use Rattle.eds_types.proofs.TableFacts.{Facts, ListsFit}
 use Rattle.eds_types.proofs.PackingRuns.{count_by, paired_on, paired_past, At, TypesDecided, Supplies, IsFine, part_decides, part_one, Built, build, run_fine}
 use Rattle.eds_types.proofs.SpellingSizes.{canon_spells, same_size, parts_any, parts_size, all_sized, fields_by}
-use Rattle.eds_types.proofs.Tests.{cases_has, holds_from, holds_in, found_is, none_is}
+use Rattle.eds_types.proofs.ReadingTests.{cases_has, holds_from, holds_in, found_is, none_is}
 use Rattle.eds_types.specs.Failing.{Station, condition, entry, choice, end, later, own, course, length_step, path_steps}
 use Rattle.eds_types.specs.Fields.{Field, values_of, has_value, paired, type_by, Holds, IsUnder, constraints_along, IsCandidate}
 use Rattle.eds_types.specs.Packing.{Where, behind, here, valued, StationFails, FirstFails, HasFields, NoSizeFits, ContainerPackFails, PackFailsWithin}

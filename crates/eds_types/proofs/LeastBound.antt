@@ -30,7 +30,7 @@ use Rattle.eds_types.proofs.Grown.{part_grown}
 use Rattle.eds_types.proofs.ListCounts.{IsKnown, found_there, known_more, known_count, count_stands, told_by}
 use Rattle.eds_types.proofs.ScalarReading.{IsTextSize, size_of, text_form}
 use Rattle.eds_types.proofs.TableFacts.{Facts, ListFits, ListsFit}
-use Rattle.eds_types.proofs.Tests.{has_in}
+use Rattle.eds_types.proofs.ReadingTests.{has_in}
 
 -- ---- items and numbers
 

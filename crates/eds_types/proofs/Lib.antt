@@ -5,7 +5,7 @@ pub mod AllOf
 pub mod ChainLaws
 pub mod FieldKeys
 pub mod SameValues
-pub mod Tests
+pub mod ReadingTests
 pub mod ExactReading
 pub mod ScalarReading
 pub mod TextReading

@@ -29,7 +29,7 @@ use Rattle.eds_types.proofs.DecidedPacking.{Decided, spelled, refused, of_kind, 
 use Rattle.eds_types.proofs.SameValues.{same_text-is, text_same}
 use Rattle.eds_types.proofs.ScalarReading.{size_of, coded_from, coded_in}
 use Rattle.eds_types.proofs.SpellingSizes.{text_any}
-use Rattle.eds_types.proofs.Tests.{within_from, within_in, cases_has}
+use Rattle.eds_types.proofs.ReadingTests.{within_from, within_in, cases_has}
 
 -- ---- texts and binaries are judged
 

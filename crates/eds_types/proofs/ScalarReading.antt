@@ -21,7 +21,7 @@ use Rattle.eds_bits.specs.Scalars.{before_stop, IsCoded}
 use Rattle.eds_bits.specs.Style.{any}
 use Rattle.eds_types.proofs.ExactReading.{ok_err, Exact, exact_as, done, failed, ok_is, err_is, IsBits, IsShort, bits_exact, Judged, JudgeFails, judge_exact, Items, items_exact}
 use Rattle.eds_types.proofs.SameValues.{same_text-is, list_of-plains_of, plains_of-list_of}
-use Rattle.eds_types.proofs.Tests.{within_from, within_in}
+use Rattle.eds_types.proofs.ReadingTests.{within_from, within_in}
 use Rattle.eds_types.specs.Failing.{Where, here, ItemFails, KindFails, IsListed}
 use Rattle.eds_types.specs.Fields.{listed}
 use Rattle.eds_types.specs.Plain.{Plain, num, label, truth, text, bits, items, list_of, plains_of}

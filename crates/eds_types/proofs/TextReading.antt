@@ -14,7 +14,7 @@ use Rattle.eds_bits.specs.Scalars.{before_stop}
 use Rattle.eds_bits.specs.Style.{any}
 use Rattle.eds_types.proofs.ExactReading.{Is, Exact, done, failed}
 use Rattle.eds_types.proofs.ScalarReading.{IsTextSize, text_form, fixed_exact, coded_ok, ok_coded, coded_err, err_coded}
-use Rattle.eds_types.proofs.Tests.{has_from, has_in}
+use Rattle.eds_types.proofs.ReadingTests.{has_from, has_in}
 use Rattle.eds_types.specs.Failing.{Where, here, whole, KindFails}
 use Rattle.eds_types.specs.Plain.{Plain, text}
 use Rattle.eds_types.specs.Reading.{Read, judged, coded, stopped, unstopped, read_open_text, read_text}
