@@ -1,5 +1,5 @@
 -- The first in byte order of two lists.
-use Rattle.std.proofs.Common.{◌≡◌, ℕ, List, [], ◌∷◌, ◌++◌, Option, None, refl, ap, ◌∙◌}
+use Rattle.std.proofs.Common.{◌≡◌, ℕ, List, [], ◌∷◌, ◌++◌, Option, None, refl, ◌∙◌}
 use Rattle.eds_tree.specs.ByteOrder.{first_of, first_from, first_in_order}
 
 pub first_from-append : (found : Option (List ℕ)) (xs ys : List (List ℕ)) → first_from found (xs ++ ys) ≡ first_from (first_from found xs) ys

@@ -1,12 +1,11 @@
 -- Texts cut at separators, and numbers that digits spell.
-use Rattle.std.proofs.Common.{◌≡◌, ℕ, zero, suc, ◌+◌, ◌-◌, ◌*◌, ◌<◌, ◌≤◌, ◌^◌, Bool, true, false, not, ◌&&◌, nat_lt, nat_le, nat_eq, List, [], ◌∷◌, length, get_or, take, drop, Option, Some, None, refl, sym, ap, ◌∙◌, subst, arith}
+use Rattle.std.proofs.Common.{◌≡◌, ℕ, zero, suc, ◌+◌, ◌-◌, ◌*◌, ◌<◌, ◌≤◌, ◌^◌, Bool, true, false, ◌&&◌, nat_lt, nat_le, nat_eq, List, [], ◌∷◌, length, get_or, take, drop, Some, None, refl, sym, ap, ◌∙◌, arith}
 use Rattle.std.specs.Prelude.{position}
 use Rattle.std.specs.List.{list_all, position_or_len}
 use Rattle.std.proofs.lemmas.Bool.Decides.{nat_tests}
 use Rattle.std.proofs.lemmas.List.{take_rest}
 use Rattle.std.proofs.lemmas.List.Quantifiers.{position-Some}
-use Rattle.eds_base.specs.Reading.{only}
-use Rattle.eds_tree.specs.AttributeTexts.{put_front, parts, is_name, are_names, decimal_value, up_to_limit}
+use Rattle.eds_tree.specs.AttributeTexts.{parts, is_name, are_names, decimal_value, up_to_limit}
 
 parts-cut : (sep : ℕ) (xs : List ℕ) (i : ℕ) → i < length xs → nat_eq (get_or xs i 0) sep ≡ true → ((k : ℕ) → k < i → nat_eq (get_or xs k 0) sep ≡ false) → parts sep xs ≡ take i xs ∷ parts sep (drop (i + 1) xs)
 parts-cut sep [] i lt h none = absurd (omega arith)

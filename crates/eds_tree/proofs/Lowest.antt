@@ -1,10 +1,9 @@
 -- The least break among numbered ones.
-use Rattle.std.proofs.Common.{◌≡◌, ℕ, ◌+◌, ◌<◌, Bool, true, false, nat_lt, nat_eq, List, [], ◌∷◌, ◌++◌, length, map, get_or, drop, drop-cons, add-one, Option, Some, None, refl, sym, ap, ◌∙◌, arith}
+use Rattle.std.proofs.Common.{◌≡◌, ℕ, ◌+◌, ◌<◌, Bool, true, false, nat_lt, List, [], ◌∷◌, ◌++◌, length, map, get_or, drop, drop-cons, add-one, Option, Some, None, refl, sym, ap, ◌∙◌, arith}
 use Rattle.std.specs.Prelude.{option_map}
 use Rattle.std.specs.List.{flat_map}
 use Rattle.std.proofs.lemmas.Bool.Decides.{nat_tests}
-use Rattle.eds_base.specs.declared.refusal.Refusal.{Refusal}
-use Rattle.eds_base.specs.Refusals.{phase_by, lexicographic, comes_before, earlier, first_of, least}
+use Rattle.eds_base.specs.Refusals.{phase_by, lexicographic, comes_before, first_of, least}
 use Rattle.eds_base.proofs.LeastLaws.{first_assoc}
 use Rattle.eds_tree.specs.declared.tree.Node.{Node}
 use Rattle.eds_tree.specs.Unknown.{unknown_at, lower, lowest_from}

@@ -1,6 +1,5 @@
 -- The forms of attributes' texts.
-use Prim.Native.String.{String}
-use Rattle.std.specs.Prelude.{ℕ, ◌+◌, ◌-◌, ◌*◌, ◌^◌, ℤ, pos, neg_ℤ, int_lt, ◌&&◌, ◌||◌, not, nat_eq, nat_lt, nat_le, List, [], ◌∷◌, length, map, take, drop, codes, Bool, true, false, if◌then◌else◌, Option, Some, None, option_map, is_some}
+use Rattle.std.specs.Prelude.{ℕ, ◌+◌, ◌-◌, ◌*◌, ◌^◌, ℤ, pos, neg_ℤ, int_lt, ◌&&◌, ◌||◌, not, nat_eq, nat_lt, nat_le, List, [], ◌∷◌, length, take, drop, codes, Bool, true, false, if◌then◌else◌, Option, Some, None, option_map, is_some}
 use Rattle.std.specs.Char.{is_ascii_digit, is_ascii_alphabetic, is_ascii_alphanumeric}
 use Rattle.std.specs.List.{list_all, prefix_len}
 use Rattle.eds_base.specs.Reading.{same, only}
@@ -22,6 +21,7 @@ abbrev pub is_name : List ℕ → Bool
 is_name [] = false
 is_name (c ∷ cs) = begins_name c && (list_all continues_name cs && nat_lt (length cs) 255)
 
+-- a character before the first part
 abbrev pub put_front : ℕ → List (List ℕ) → List (List ℕ)
 put_front c [] = []
 put_front c (part ∷ parts) = (c ∷ part) ∷ parts
@@ -42,9 +42,11 @@ abbrev pub decimal_value : (before : ℕ) → List ℕ → ℕ
 decimal_value before [] = before
 decimal_value before (c ∷ cs) = decimal_value (10 * before + (c - 48)) cs
 
+-- the digit 0
 abbrev pub is_zero : ℕ → Bool
 is_zero c = nat_eq c 48
 
+-- one or more zeros
 abbrev pub are_zeros : List ℕ → Bool
 are_zeros [] = false
 are_zeros (c ∷ cs) = list_all is_zero (c ∷ cs)
@@ -54,9 +56,11 @@ abbrev pub is_empty_fraction : List ℕ → Bool
 is_empty_fraction [] = true
 is_empty_fraction (c ∷ cs) = nat_eq c 46 && are_zeros cs
 
+-- a number, where it is at most 2^64
 abbrev pub up_to_limit : ℕ → Option ℕ
 up_to_limit n = only (nat_le n (2 ^ 64)) n
 
+-- the same, where the text begins with so many digits
 abbrev pub magnitude_by : (digits : ℕ) → List ℕ → Option ℕ
 magnitude_by digits text = if nat_lt 0 digits && (nat_le digits 20 && is_empty_fraction (drop digits text)) then up_to_limit (decimal_value 0 (take digits text)) else None
 
@@ -77,15 +81,18 @@ abbrev pub is_open_fraction : List ℕ → Bool
 is_open_fraction [] = false
 is_open_fraction (c ∷ cs) = nat_eq c 46 && (list_all is_ascii_digit cs && not (list_all is_zero cs))
 
+-- digits, a point, and digits of which some is not 0
 abbrev pub is_fraction : List ℕ → Bool
 is_fraction text = nat_lt 0 (prefix_len is_ascii_digit text) && is_open_fraction (drop (prefix_len is_ascii_digit text) text)
 
+-- the same, which may stand behind a sign
 abbrev pub is_decimal_fraction : List ℕ → Bool
 is_decimal_fraction [] = false
 is_decimal_fraction (c ∷ cs) = if nat_eq c 43 || nat_eq c 45 then is_fraction cs else is_fraction (c ∷ cs)
 
 -- ---- flags
 
+-- the truth value that a text spells
 abbrev pub flag_value : List ℕ → Option Bool
 flag_value text =
     if same text (codes "true") || same text (codes "1") then Some true else
@@ -93,10 +100,12 @@ flag_value text =
 
 -- ---- forms
 
+-- a whole number not below another
 abbrev pub is_at_least : (low : ℕ) → Option ℤ → Bool
 is_at_least low None = false
 is_at_least low (Some z) = not (int_lt z (pos low))
 
+-- a whole number from one to another
 abbrev pub is_between : (low high : ℕ) → Option ℤ → Bool
 is_between low high None = false
 is_between low high (Some z) = not (int_lt z (pos low)) && not (int_lt (pos high) z)

@@ -1,6 +1,6 @@
 -- The elements of the profile.
 use Prim.Native.String.{String}
-use Rattle.std.specs.Prelude.{ℕ, List, [], ◌∷◌, ◌++◌, map, codes}
+use Rattle.std.specs.Prelude.{List, [], ◌∷◌, ◌++◌, map, codes}
 use Rattle.eds_tree.specs.declared.row.Mark.TheVariants.{Any, AtMostOne, One, AtLeastOne, Two}
 use Rattle.eds_tree.specs.Rows.{TextForm, Name, PackageName, Reference, Path, Whole, AtLeast, Between, Flag, Word, Text, AttributeRow, ChildRow, ElementShape, ElementRow}
 

@@ -1,5 +1,5 @@
 -- The elements of a file's data, in document order.
-use Rattle.std.specs.Prelude.{ℕ, suc, ◌+◌, ◌&&◌, ◌||◌, not, List, [], ◌∷◌, ◌++◌, map, flat_map, codes, Bool, true, false, if◌then◌else◌, Option, Some, None, nat_eq, Result, Ok, Err, decimal}
+use Rattle.std.specs.Prelude.{ℕ, suc, ◌+◌, ◌&&◌, ◌||◌, not, List, [], ◌∷◌, ◌++◌, map, codes, Bool, true, false, if◌then◌else◌, Option, Some, None, is_some, nat_eq, Result, Ok, Err, decimal}
 use Rattle.std.specs.Fmt.{signed_decimal}
 use Rattle.std.specs.Cmp.Lexicographic.{pointwise}
 use Rattle.std.specs.List.{list_any, after_last}
@@ -11,6 +11,7 @@ use Rattle.eds_tree.specs.Shapes.{shape_named, lists}
 
 -- ---- texts of attributes
 
+-- a whole number as its JSON text
 abbrev pub whole_text : Num → Option (List ℕ)
 whole_text (unsigned n) = Some (decimal n)
 whole_text (negative z) = Some (signed_decimal z)
@@ -29,16 +30,11 @@ text_of (object ms) = None
 abbrev pub is_foreign : List ℕ → Bool
 is_foreign name = list_any (nat_eq 58) name || pointwise nat_eq name (codes "xmlns")
 
+-- what an attribute may be: a string, a truth value or a whole number
 abbrev pub has_text : Data → Bool
-has_text null = false
-has_text (boolean b) = true
-has_text (number (unsigned n)) = true
-has_text (number (negative z)) = true
-has_text (number (float x)) = false
-has_text (string s) = true
-has_text (array ds) = false
-has_text (object ms) = false
+has_text d = is_some (text_of d)
 
+-- all members may be attributes
 abbrev pub have_texts : Members → Bool
 have_texts no_members = true
 have_texts (member k d ms) = has_text d && have_texts ms
@@ -56,12 +52,14 @@ abbrev pub attribute_from : Option ElementShape → List ℕ → Option (List �
 attribute_from shape name None = []
 attribute_from shape name (Some text) = if is_kept shape name then (name, text) ∷ [] else []
 
+-- the members that are kept as attributes
 abbrev pub attributes_from : Option ElementShape → Members → List (List ℕ × List ℕ)
 attributes_from shape no_members = []
 attributes_from shape (member k d ms) = attribute_from shape k (text_of d) ++ attributes_from shape ms
 
 -- ---- an element by itself
 
+-- a string or an array
 abbrev pub is_child_or_text : Data → Bool
 is_child_or_text null = false
 is_child_or_text (boolean b) = false
@@ -70,6 +68,7 @@ is_child_or_text (string s) = true
 is_child_or_text (array ds) = true
 is_child_or_text (object ms) = false
 
+-- all items are
 abbrev pub are_children_or_texts : Items → Bool
 are_children_or_texts no_items = true
 are_children_or_texts (item d ds) = is_child_or_text d && are_children_or_texts ds
@@ -94,6 +93,7 @@ is_element (item (string name) ds) = is_content ds
 is_element (item (array es) ds) = false
 is_element (item (object ms) ds) = false
 
+-- what ends a prefix
 abbrev pub is_colon : ℕ → Bool
 is_colon c = nat_eq c 58
 
@@ -101,6 +101,7 @@ is_colon c = nat_eq c 58
 abbrev pub local_name : List ℕ → List ℕ
 local_name name = after_last is_colon name
 
+-- the name of an element, which is its first item
 abbrev pub name_in : Items → List ℕ
 name_in no_items = []
 name_in (item null ds) = []
@@ -110,6 +111,7 @@ name_in (item (string name) ds) = local_name name
 name_in (item (array es) ds) = []
 name_in (item (object ms) ds) = []
 
+-- the attributes that an item has, if it is an object
 abbrev pub attributes_of_data : Option ElementShape → Data → List (List ℕ × List ℕ)
 attributes_of_data shape null = []
 attributes_of_data shape (boolean b) = []
@@ -118,6 +120,7 @@ attributes_of_data shape (string s) = []
 attributes_of_data shape (array ds) = []
 attributes_of_data shape (object ms) = attributes_from shape ms
 
+-- those of the first of some items
 abbrev pub first_attributes : Option ElementShape → Items → List (List ℕ × List ℕ)
 first_attributes shape no_items = []
 first_attributes shape (item d ds) = attributes_of_data shape d
@@ -163,6 +166,7 @@ abbrev mutual
   openings_in parent at no_items = []
   openings_in parent at (item d ds) = openings parent at d ++ openings_in parent (at + size d) ds
 
+-- the number of an array
 abbrev pub child_number : ℕ → Data → List ℕ
 child_number at null = []
 child_number at (boolean b) = []
@@ -176,6 +180,7 @@ abbrev pub child_numbers : ℕ → Items → List ℕ
 child_numbers at no_items = []
 child_numbers at (item d ds) = child_number at d ++ child_numbers (at + size d) ds
 
+-- the element that an array is
 abbrev pub node_of : Opening → Node
 node_of o = record { name = name_in o.items; attributes = attributes_in (shape_named o.parent (name_in o.items)) o.items; children = child_numbers (o.number + 1) o.items }
 

@@ -1,6 +1,5 @@
 -- How many elements of a kind there may be.
-use Prim.Native.String.{String}
-use Rattle.std.specs.Prelude.{ℕ, zero, suc, ◌+◌, ◌&&◌, List, [], ◌∷◌, ◌++◌, length, map, filter, codes, Bool, if◌then◌else◌, Option, Some, None, Result, Ok, Err, slice_get}
+use Rattle.std.specs.Prelude.{ℕ, zero, suc, ◌+◌, ◌&&◌, List, [], ◌∷◌, ◌++◌, map, filter, codes, Bool, if◌then◌else◌, Option, Some, None, Result, Ok, Err, slice_get}
 use Rattle.std.specs.List.{flat_map}
 use Rattle.eds_base.specs.Reading.{same}
 use Rattle.eds_base.specs.declared.ids.Place.{Place}
@@ -18,6 +17,7 @@ use Rattle.eds_tree.specs.Breaks.{Judgement, refusal_at, breaks_of}
 abbrev pub stands_under : List Node → (parent row : List ℕ) → Link → Bool
 stands_under t parent row link = same (name_at t link.parent) parent && is_member row (name_at t link.node)
 
+-- where an element stands
 abbrev pub place_at : (file : ℕ) → Link → Place
 place_at file link = record { file = file; node = link.node }
 
@@ -36,6 +36,7 @@ count_links [] left = Ok left
 count_links (link ∷ links) zero = Err link.node
 count_links (link ∷ links) (suc left) = count_links links left
 
+-- a limit is passed at a place, if there is one
 abbrev pub limit_at : (word : List ℕ) → Option Place → List Refusal
 limit_at word None = []
 limit_at word (Some p) = refusal_at Limit p.file p.node word ∷ []
@@ -46,6 +47,7 @@ breaks_count word parent row most ts = limit_at word (slice_get (places_from par
 
 -- ---- in one element
 
+-- a limit is passed at an element of a file, if there is one
 abbrev pub limit_in : (file : ℕ) → (word : List ℕ) → Option ℕ → List Refusal
 limit_in file word None = []
 limit_in file word (Some node) = refusal_at Limit file node word ∷ []
@@ -56,6 +58,7 @@ machines_of t component =
     flat_map (λ set. children_named t set (codes "StateMachine"))
     (flat_map (λ implementation. children_named t implementation (codes "StateMachineSet")) (children_named t component (codes "Implementation")))
 
+-- the 17th state machine of a component
 abbrev pub surplus_machine : List Node → ℕ → Option ℕ
 surplus_machine t node = if same (name_at t node) (codes "Component") then slice_get (machines_of t node) 16 else None
 

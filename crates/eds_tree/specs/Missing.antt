@@ -1,13 +1,13 @@
 -- An element has each attribute and each child that it needs.
-use Rattle.std.specs.Prelude.{ℕ, List, [], ◌∷◌, ◌++◌, length, map, filter, codes, Bool, not, nat_lt, if◌then◌else◌, Option, Some, None, is_some}
+use Rattle.std.specs.Prelude.{ℕ, List, [], ◌∷◌, ◌++◌, length, map, filter, codes, Bool, not, nat_lt, if◌then◌else◌, Option, Some, None}
 use Rattle.eds_base.specs.Reading.{same}
 use Rattle.eds_base.specs.declared.rule.Rule.TheVariants.{MissingAttribute}
 use Rattle.eds_tree.specs.declared.tree.Node.{Node}
 use Rattle.eds_tree.specs.declared.link.Link.{Link}
 use Rattle.eds_tree.specs.declared.row.Mark.{Mark}
 use Rattle.eds_tree.specs.declared.row.Mark.TheVariants.{Any, AtMostOne, One, AtLeastOne, Two}
-use Rattle.eds_tree.specs.ByteOrder.{first_from, first_in_order}
-use Rattle.eds_tree.specs.Rows.{AttributeRow, ChildRow, ElementShape}
+use Rattle.eds_tree.specs.ByteOrder.{first_in_order}
+use Rattle.eds_tree.specs.Rows.{ChildRow, ElementShape}
 use Rattle.eds_tree.specs.Trees.{name_at, attributes_at, text_among, children_of}
 use Rattle.eds_tree.specs.Shapes.{is_among, shape_at}
 use Rattle.eds_tree.specs.Groups.{is_member}
@@ -48,9 +48,11 @@ fewest Two = 2
 abbrev pub members_of : List Node → List ℕ → List ℕ → List ℕ
 members_of t row children = filter (λ child. is_member row (name_at t child)) children
 
+-- there are fewer children of a row than there must be
 abbrev pub lacks : List Node → List ℕ → ChildRow → Bool
 lacks t children row = nat_lt (length (members_of t row.name children)) (fewest row.mark)
 
+-- the child's or the group's name
 abbrev pub child_name : ChildRow → List ℕ
 child_name row = row.name
 
@@ -65,6 +67,7 @@ abbrev pub attribute_or_child : Option (List ℕ) → List (List ℕ) → Option
 attribute_or_child (Some name) children = Some name
 attribute_or_child None children = first_in_order children
 
+-- what an element of a description lacks first
 abbrev pub missing_in : List Node → Link → Option ElementShape → Option (List ℕ)
 missing_in t link None = None
 missing_in t link (Some shape) =

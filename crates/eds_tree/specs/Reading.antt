@@ -10,6 +10,7 @@ use Rattle.eds_base.specs.declared.rule.Rule.TheVariants.{NotJson, NotElement}
 use Rattle.eds_tree.specs.declared.tree.Node.{Node}
 use Rattle.eds_tree.specs.Elements.{not_elements, tree_of}
 
+-- a rule is broken at an element, and nothing is kept
 abbrev pub plain_refusal : Rule → ℕ → ℕ → Refusal
 plain_refusal rule file node = record { rule = rule; place = record { file = file; node = node }; kept = Nothing }
 
@@ -18,6 +19,7 @@ abbrev pub tree_unless : ℕ → List ℕ → Data → Result (List Node) Refusa
 tree_unless file [] d = Ok (tree_of d)
 tree_unless file (p ∷ ps) d = Err (plain_refusal NotElement file p)
 
+-- the tree of an array, unless some array is no element; other data are no element
 abbrev pub tree_from : ℕ → Data → Result (List Node) Refusal
 tree_from file null = Err (plain_refusal NotElement file 0)
 tree_from file (boolean b) = Err (plain_refusal NotElement file 0)
@@ -30,6 +32,7 @@ tree_from file (object ms) = Err (plain_refusal NotElement file 0)
 abbrev pub data_in : List ℕ → Option Data
 data_in octets = if is_utf8 octets then read octets else None
 
+-- the tree of what was read, where the text is JSON
 abbrev pub tree_of_data : ℕ → Option Data → Result (List Node) Refusal
 tree_of_data file None = Err (plain_refusal NotJson file 0)
 tree_of_data file (Some d) = tree_from file d

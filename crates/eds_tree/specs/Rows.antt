@@ -1,6 +1,6 @@
 -- What the profile says of elements, as plain data.
 use denote.Ref.{Bor}
-use Rattle.std.specs.Prelude.{ℕ, List, [], ◌∷◌, ◌++◌, map, Bool, true, ◌&&◌, Option, Some, None, position, slice_get}
+use Rattle.std.specs.Prelude.{ℕ, List, [], ◌∷◌, ◌++◌, map, Bool, true, ◌&&◌, Option, position, slice_get}
 use Rattle.eds_base.specs.Reading.{same, ◌>>=◌}
 use Rattle.eds_tree.specs.ByteOrder.{precedes}
 use Rattle.eds_tree.specs.declared.row.Attribute.{Attribute}
@@ -48,6 +48,7 @@ pub record ElementRow : Type 0 where
 
 -- ---- what the rows of the program say
 
+-- a form
 abbrev pub form_of : Form → TextForm
 form_of code.Name = Name
 form_of code.PackageName = PackageName
@@ -60,15 +61,19 @@ form_of code.Flag = Flag
 form_of (code.Word words) = Word (map (λ w. w.now) words.now)
 form_of code.Text = Text
 
+-- an attribute
 abbrev pub attribute_of : Attribute → AttributeRow
 attribute_of a = record { name = a.name.now; form = form_of a.form }
 
+-- a child
 abbrev pub child_of : Child → ChildRow
 child_of c = record { name = c.name.now; mark = c.mark }
 
+-- a description
 abbrev pub shape_of : Shape → ElementShape
 shape_of s = record { parents = map (λ p. p.now) s.parents.now; required = map attribute_of s.required.now; optional = map attribute_of s.optional.now; children = map child_of s.children.now }
 
+-- an element
 abbrev pub row_of : Row → ElementRow
 row_of r = record { name = r.name.now; shapes = map shape_of r.shapes.now }
 
@@ -79,6 +84,7 @@ rows_of (p ∷ ps) = map row_of p.now ++ rows_of ps
 
 -- ---- names in byte order
 
+-- each name is before the next, and the first is behind this one
 abbrev pub rises_from : List ℕ → List ElementRow → Bool
 rises_from low [] = true
 rises_from low (r ∷ rs) = precedes low r.name && rises_from r.name rs
@@ -90,6 +96,7 @@ rising (r ∷ rs) = rises_from r.name rs
 
 -- ---- looking up
 
+-- a row has a name
 abbrev pub has_name : List ℕ → ElementRow → Bool
 has_name name r = same r.name name
 

@@ -21,6 +21,7 @@ shape_breaks ts =
     ++ breaks_of breaks_name ts
     ++ breaks_limit ts
 
+-- nothing, unless there is a break
 abbrev pub unless_broken : Option Refusal → Result (Unit {0}) Refusal
 unless_broken None = Ok tt
 unless_broken (Some r) = Err r

@@ -22,6 +22,7 @@ abbrev pub shape_for : List ElementShape → List ℕ → Option ElementShape
 shape_for [] parent = None
 shape_for (s ∷ ss) parent = if fits_under s.parents parent then Some s else shape_for ss parent
 
+-- the descriptions of an element that is in the table
 abbrev pub shapes_of : Option ElementRow → List ElementShape
 shapes_of None = []
 shapes_of (Some r) = r.shapes
@@ -34,6 +35,7 @@ shape_named parent name = shape_for (shapes_of (row_named element_table name)) p
 abbrev pub shape_at : List Node → Link → Option ElementShape
 shape_at t link = shape_named (name_at t link.parent) (name_at t link.node)
 
+-- an attribute has a name
 abbrev pub is_attribute : List ℕ → AttributeRow → Bool
 is_attribute name row = same row.name name
 

@@ -11,6 +11,7 @@ use Rattle.eds_tree.specs.declared.link.Link.{Link}
 abbrev pub node_at : List Node → ℕ → Option Node
 node_at t i = slice_get t i
 
+-- the name of an element that is there
 abbrev pub node_name : Option Node → List ℕ
 node_name None = []
 node_name (Some n) = n.name
@@ -19,6 +20,7 @@ node_name (Some n) = n.name
 abbrev pub name_at : List Node → ℕ → List ℕ
 name_at t i = node_name (node_at t i)
 
+-- the attributes of an element that is there
 abbrev pub node_attributes : Option Node → List (List ℕ × List ℕ)
 node_attributes None = []
 node_attributes (Some n) = n.attributes
@@ -27,6 +29,7 @@ node_attributes (Some n) = n.attributes
 abbrev pub attributes_at : List Node → ℕ → List (List ℕ × List ℕ)
 attributes_at t i = node_attributes (node_at t i)
 
+-- the children of an element that is there
 abbrev pub node_children : Option Node → List ℕ
 node_children None = []
 node_children (Some n) = n.children
@@ -64,6 +67,7 @@ counted t children = filter (λ child. not (is_passed_over (name_at t child))) c
 abbrev pub children_of : List Node → ℕ → List ℕ
 children_of t i = counted t (children_at t i)
 
+-- an element has a name
 abbrev pub is_named : List Node → List ℕ → ℕ → Bool
 is_named t name i = same (name_at t i) name
 

@@ -17,6 +17,7 @@ use Rattle.eds_tree.specs.Breaks.{Judgement, refusal_at, refusal_if}
 
 -- ---- the root
 
+-- the names of roots
 abbrev pub is_root_name : List ℕ → Bool
 is_root_name name = is_among (map codes ("DataSheet" ∷ "PackageFile" ∷ [])) name
 
@@ -34,6 +35,7 @@ surplus One children = drop 1 children
 surplus AtLeastOne children = []
 surplus Two children = drop 2 children
 
+-- a row lists an element of a name
 abbrev pub is_listed : List ChildRow → List ℕ → Bool
 is_listed rows name = list_any (λ row. is_member row.name name) rows
 
@@ -49,6 +51,7 @@ too_many t children row = surplus row.mark (members_of t row.name children)
 abbrev pub is_supported : List Node → (parent : ℕ) → ℕ → Bool
 is_supported t parent child = not (is_unsupported t (record { parent = parent; node = child }))
 
+-- the children that no row lists and those that are too many, unless they aren't supported; of an element without a description none are judged
 abbrev pub unknown_children : List Node → Link → Option ElementShape → List ℕ
 unknown_children t link None = []
 unknown_children t link (Some shape) =
@@ -57,6 +60,7 @@ unknown_children t link (Some shape) =
 
 -- ---- the rule
 
+-- an element is unknown, and its name is kept
 abbrev pub unknown_at : (file : ℕ) → List Node → ℕ → Refusal
 unknown_at file t node = refusal_at UnknownElement file node (name_at t node)
 
@@ -66,6 +70,7 @@ breaks_unknown file t link = refusal_if UnknownElement file link.node (unknown_r
 
 -- ---- the least of some numbers
 
+-- the lower of two numbers, of which the one may not be there
 abbrev pub lower : Option ℕ → ℕ → Option ℕ
 lower None n = Some n
 lower (Some m) n = if nat_lt n m then Some n else Some m

@@ -1,5 +1,4 @@
 -- Elements that the profile names and doesn't support.
-use Prim.Native.String.{String}
 use Rattle.std.specs.Prelude.{ℕ, ℤ, pos, ◌&&◌, ◌||◌, not, nat_eq, List, [], ◌∷◌, ◌++◌, map, codes, Bool, true, false, if◌then◌else◌, Option, Some, None, is_some}
 use Rattle.std.specs.Ordering.{int_eq}
 use Rattle.eds_base.specs.Reading.{same}
@@ -15,6 +14,7 @@ use Rattle.eds_tree.specs.Breaks.{Judgement, refusal_if}
 
 -- ---- by the element's name
 
+-- an element that the profile leaves out, and a calibrator anywhere but in a length entry
 abbrev pub is_named_unsupported : (parent name : List ℕ) → Bool
 is_named_unsupported parent name =
     is_among (map codes ("FloatDataType" ∷ "FloatDataEncoding" ∷ "SplineCalibrator" ∷ "Calibration" ∷ "ParameterActivityMap" ∷ "ParameterActivityMapSet" ∷ "AlternateSet" ∷ "OverArray" ∷ "PrecisionRange" ∷ "EnumeratedRange" ∷ [])) name
@@ -22,6 +22,7 @@ is_named_unsupported parent name =
 
 -- ---- by the text of an attribute
 
+-- the numbers 0 and 1
 abbrev pub is_zero_or_one : Option ℤ → Bool
 is_zero_or_one None = false
 is_zero_or_one (Some z) = int_eq z (pos 0) || int_eq z (pos 1)
@@ -31,6 +32,7 @@ abbrev pub is_other_exponent : Option (List ℕ) → Bool
 is_other_exponent None = false
 is_other_exponent (Some text) = not (is_zero_or_one (whole_number text))
 
+-- a text that is there and is a decimal fraction
 abbrev pub is_fractional : Option (List ℕ) → Bool
 is_fractional None = false
 is_fractional (Some text) = is_decimal_fraction text
@@ -49,15 +51,18 @@ has_unsupported_text name held =
 
 -- ---- by an attribute
 
+-- the truth value that is wanted
 abbrev pub is_flag : Bool → Option Bool → Bool
 is_flag wanted None = false
 is_flag true (Some b) = b
 is_flag false (Some b) = not b
 
+-- a text that is there and spells it
 abbrev pub spells_flag : Bool → Option (List ℕ) → Bool
 spells_flag wanted None = false
 spells_flag wanted (Some text) = is_flag wanted (flag_value text)
 
+-- the events, and transitions
 abbrev pub may_fail : (name : List ℕ) → Bool
 may_fail name = is_among (map codes ("OnCommandPrimitive" ∷ "OnParameterPrimitive" ∷ "OnTimer" ∷ "Transition" ∷ [])) name
 
@@ -73,14 +78,17 @@ has_open_size held = spells_flag false (text_among held (codes "fixedSize"))
 abbrev pub has_fixed_value : (name : List ℕ) → List (List ℕ × List ℕ) → Bool
 has_fixed_value name held = same name (codes "GenericTypeMap") && has_attribute held (codes "fixedValue")
 
+-- a primitive of a transaction
 abbrev pub has_transaction : List (List ℕ × List ℕ) → Bool
 has_transaction held = has_attribute held (codes "transaction")
 
 -- ---- the rule
 
+-- a word, where a test holds
 abbrev pub word_if : Bool → List ℕ → List (List ℕ)
 word_if b word = if b then word ∷ [] else []
 
+-- the element itself isn't supported
 abbrev pub is_element_unsupported : (parent name : List ℕ) → List (List ℕ × List ℕ) → Bool
 is_element_unsupported parent name held = is_named_unsupported parent name || has_unsupported_text name held
 
@@ -97,6 +105,7 @@ unsupported_words parent name held =
 abbrev pub unsupported_word : List Node → Link → Option (List ℕ)
 unsupported_word t link = if nat_eq link.node 0 then None else first_in_order (unsupported_words (name_at t link.parent) (name_at t link.node) (attributes_at t link.node))
 
+-- something of an element isn't supported
 abbrev pub is_unsupported : List Node → Link → Bool
 is_unsupported t link = is_some (unsupported_word t link)
 

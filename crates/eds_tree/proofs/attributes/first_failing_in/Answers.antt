@@ -1,4 +1,4 @@
-use Rattle.std.proofs.Common.{◌≡◌, ◌∙◌, sym, map, None}
+use Rattle.std.proofs.Common.{◌∙◌, sym, map, None}
 use Rattle.eds_tree.specs.Rows.{attribute_of}
 use Rattle.eds_tree.specs.Attributes.{failing}
 use Rattle.eds_tree.proofs.ByteFirst.{first_from-append}

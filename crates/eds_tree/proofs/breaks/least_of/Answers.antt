@@ -1,4 +1,4 @@
-use Rattle.std.proofs.Common.{◌≡◌, arith, sym, ◌∙◌}
+use Rattle.std.proofs.Common.{arith, ◌∙◌}
 use Rattle.eds_tree.proofs.Least.{least-next_file, walk-at}
 use Rattle.eds_tree.proofs.breaks.least_of.Goals as goal
 

@@ -1,4 +1,4 @@
-use Rattle.std.proofs.Common.{◌≡◌, arith}
+use Rattle.std.proofs.Common.{arith}
 use Rattle.eds_tree.proofs.Least.{least-next}
 use Rattle.eds_tree.proofs.breaks.least_over.Goals as goal
 

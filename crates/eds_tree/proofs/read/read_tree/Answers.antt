@@ -1,4 +1,4 @@
-use Rattle.std.proofs.Common.{◌≡◌, ◌≤◌, length, sym, ap, Err, rules, arith}
+use Rattle.std.proofs.Common.{◌≤◌, length, sym, ap, Err, rules, arith}
 use Rattle.serde_json.specs.View.{view}
 use Rattle.serde_json.specs.Errors.{IsMemory}
 use Rattle.eds_tree.specs.Elements.{size}

@@ -1,5 +1,4 @@
-use Rattle.std.proofs.Common.{◌≡◌, ◌∙◌, sym, arith}
-use Rattle.eds_tree.proofs.Least.{walk-at}
+use Rattle.std.proofs.Common.{◌∙◌, sym, arith}
 use Rattle.eds_tree.proofs.Counting.{place-here, place-next}
 use Rattle.eds_tree.proofs.rule_limit.surplus_place.Goals as goal
 

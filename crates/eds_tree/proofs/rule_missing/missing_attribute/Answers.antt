@@ -1,4 +1,4 @@
-use Rattle.std.proofs.Common.{◌≡◌, ◌∙◌, sym, not, map, filter, None}
+use Rattle.std.proofs.Common.{◌∙◌, sym, not, map, filter, None}
 use Rattle.eds_tree.specs.Rows.{attribute_of}
 use Rattle.eds_tree.specs.Missing.{asked_for}
 use Rattle.eds_tree.specs.Attributes.{has_attribute, failing, lacks_attribute}

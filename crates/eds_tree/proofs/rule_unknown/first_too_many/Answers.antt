@@ -1,4 +1,4 @@
-use Rattle.std.proofs.Common.{◌≡◌, filter, arith}
+use Rattle.std.proofs.Common.{filter, arith}
 use Rattle.eds_tree.specs.Rows.{child_of}
 use Rattle.eds_tree.specs.Trees.{children_of}
 use Rattle.eds_tree.specs.Unknown.{is_supported, too_many}

@@ -1,4 +1,4 @@
-use Rattle.std.proofs.Common.{◌≡◌, ◌∙◌, sym, map, filter, None}
+use Rattle.std.proofs.Common.{◌∙◌, sym, map, filter, None}
 use Rattle.std.specs.List.{flat_map}
 use Rattle.eds_tree.specs.Rows.{child_of}
 use Rattle.eds_tree.specs.Trees.{children_of}

@@ -1,4 +1,4 @@
-use Rattle.std.proofs.Common.{◌≡◌, ◌∙◌, sym, codes}
+use Rattle.std.proofs.Common.{◌∙◌, sym, codes}
 use Rattle.eds_tree.specs.Unsupported.{is_element_unsupported, has_failed, has_open_size, has_fixed_value, has_transaction, word_if}
 use Rattle.eds_tree.proofs.ByteFirst.{first_of_five}
 use Rattle.eds_tree.proofs.rule_unsupported.first_unsupported.Goals as goal

@@ -1,4 +1,4 @@
-use Rattle.std.proofs.Common.{◌≡◌, ◌∙◌, sym, ap, map}
+use Rattle.std.proofs.Common.{◌∙◌, sym, ap, map}
 use Rattle.eds_base.specs.declared.rule.Rule.TheVariants.{UnknownElement}
 use Rattle.eds_base.specs.Refusals.{first_of, least}
 use Rattle.eds_base.proofs.LeastLaws.{least-append}
