@@ -1,0 +1,4 @@
+pub mod Standings
+pub mod Repeats
+pub mod Declarations
+pub mod LookUp

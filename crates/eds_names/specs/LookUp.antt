@@ -1,0 +1,71 @@
+-- The names of a sheet, and what a reference finds.
+use Rattle.std.specs.Prelude.{ℕ, List, [], ◌∷◌, ◌++◌, map, if◌then◌else◌, nat_eq, Option, Some, None, slice_get, Result, Ok, Err}
+use Rattle.eds_base.specs.Reading.{same, ◌>>=◌}
+use Rattle.eds_base.specs.declared.ids.Place.{Place}
+use Rattle.eds_base.specs.declared.refusal.Refusal.{Refusal}
+use Rattle.eds_base.specs.Refusals.{least}
+use Rattle.eds_tree.specs.declared.tree.Node.{Node}
+use Rattle.eds_names.specs.declared.declared.Item.{Item}
+use Rattle.eds_names.specs.declared.declared.Declared.{Declared}
+use Rattle.eds_names.specs.Standings.{joined, arounds_of}
+use Rattle.eds_names.specs.Repeats.{repeats, repeats_from}
+use Rattle.eds_names.specs.Declarations.{declarations_from, named_of, numbered, none_counted}
+
+-- the declared items of a sheet in order, and for each file and element the name around it
+pub record Names : Type 0 where
+  pub declared : List Declared
+  pub arounds : List (List (Option (List ℕ)))
+
+-- ---- the names under which a reference is looked up
+
+-- the fronts of a name that end before a slash, the longest first
+abbrev pub fronts : List ℕ → List (List ℕ)
+fronts [] = []
+fronts (c ∷ cs) = map (λ front. c ∷ front) (fronts cs) ++ (if nat_eq c 47 then [] ∷ [] else [])
+
+-- A reference below the name around it: below the component, where it stands in one, below the package, below each
+-- shorter front of the package's name, and by itself.
+abbrev pub candidates : Option (List ℕ) → List ℕ → List (List ℕ)
+candidates None text = text ∷ []
+candidates (Some around) text = map (λ front. joined front text) (around ∷ fronts around) ++ text ∷ []
+
+-- ---- what is found
+
+-- the first declared item of a name
+abbrev pub item_named : List Declared → List ℕ → Option Item
+item_named [] name = None
+item_named (d ∷ ds) name = if same d.name name then Some d.item else item_named ds name
+
+abbrev pub or_else : Option Item → Option Item → Option Item
+or_else None other = other
+or_else (Some i) other = Some i
+
+-- the item of the first of some names that is declared
+abbrev pub first_found : List Declared → List (List ℕ) → Option Item
+first_found declared [] = None
+first_found declared (name ∷ names) = or_else (item_named declared name) (first_found declared names)
+
+-- the name around the element at a place
+abbrev pub around_at : Names → Place → Option (List ℕ)
+around_at names place = slice_get names.arounds place.file >>= (λ file. slice_get file place.node >>= (λ around. around))
+
+-- what a reference from a place finds; from a place where no element is it is looked up by itself
+unfoldable pub look_up : Names → Place → List ℕ → Option Item
+look_up names from text = first_found names.declared (candidates (around_at names from) text)
+
+-- ---- the names of a sheet
+
+-- all names that are given twice
+abbrev pub duplicates : List (List Node) → List Refusal
+duplicates trees = repeats [] (map named_of (declarations_from 0 trees)) ++ repeats_from 0 trees
+
+abbrev pub names_of : List (List Node) → Names
+names_of trees = record { declared = numbered none_counted (declarations_from 0 trees); arounds = map arounds_of trees }
+
+abbrev pub unless : Option Refusal → Names → Result Names Refusal
+unless None names = Ok names
+unless (Some r) names = Err r
+
+-- the names of a sheet, or the first that is given twice
+unfoldable pub names_in : List (List Node) → Result Names Refusal
+names_in trees = unless (least (duplicates trees)) (names_of trees)
