@@ -42,8 +42,8 @@ first_of-none (Some r) = refl
 pub inserted : {A : Type 0} (f : A → List ℕ) (old new : List A) (x : A) (key : List ℕ) → f x ≡ key → is_among (map f old) key ≡ false → new ≡ cond (list_any (λ y. same (f x) (f y)) old) old (old ++ x ∷ []) → map f new ≡ with_name (map f old) key
 inserted f old new x key is absent e =
     let none : list_any (λ y. same (f x) (f y)) old ≡ false = sym (among-map f old (f x)) ∙ ap (is_among (map f old)) is ∙ absent in
-      let last : new ≡ old ++ x ∷ [] = e ∙ ap (λ b. cond b old (old ++ x ∷ [])) none in
-        ap (map f) last ∙ map-append f old (x ∷ []) ∙ ap (λ k. map f old ++ k ∷ []) is ∙ sym (with_name-absent (map f old) key absent)
+    let last : new ≡ old ++ x ∷ [] = e ∙ ap (λ b. cond b old (old ++ x ∷ [])) none in
+    ap (map f) last ∙ map-append f old (x ∷ []) ∙ ap (λ k. map f old ++ k ∷ []) is ∙ sym (with_name-absent (map f old) key absent)
 
 -- ---- over a list
 
@@ -64,8 +64,8 @@ pub least-next_item : {A B : Type 0} (f : B → List Refusal) (g : A → B) (xs 
     → first_of next (least (flat_map f (map g (drop (i + 1) xs)))) ≡ whole
 least-next_item f g xs i x d found here next whole lt is now more all =
     let rest = flat_map f (map g (drop (i + 1) xs)) in
-      let split : least (flat_map f (map g (drop i xs))) ≡ first_of here (least rest) = ap (λ ys. least (flat_map f ys)) (opened g xs i x d lt is) ∙ least-append (f (g x)) rest ∙ ap (λ o. first_of o (least rest)) (sym now) in
-        ap (λ o. first_of o (least rest)) more ∙ first_assoc found here (least rest) ∙ ap (first_of found) (sym split) ∙ all
+    let split : least (flat_map f (map g (drop i xs))) ≡ first_of here (least rest) = ap (λ ys. least (flat_map f ys)) (opened g xs i x d lt is) ∙ least-append (f (g x)) rest ∙ ap (λ o. first_of o (least rest)) (sym now) in
+    ap (λ o. first_of o (least rest)) more ∙ first_assoc found here (least rest) ∙ ap (first_of found) (sym split) ∙ all
 
 pub map-same : {A : Type 0} (xs : List A) → map (λ x. x) xs ≡ xs
 map-same [] = refl

@@ -1,5 +1,5 @@
 -- The types, interfaces and components that a sheet declares.
-use Rattle.std.specs.Prelude.{ℕ, ◌+◌, List, [], ◌∷◌, ◌++◌, map, codes, if◌then◌else◌, nat_eq, Option, Some, None}
+use Rattle.std.specs.Prelude.{ℕ, ◌+◌, List, [], ◌∷◌, ◌++◌, map, codes, if◌then◌else◌, nat_eq, Bool, true, false, Option, Some, None}
 use Rattle.std.specs.List.{flat_map, ends_with}
 use Rattle.eds_base.specs.Reading.{same}
 use Rattle.eds_base.specs.declared.ids.Place.{Place}
@@ -57,9 +57,6 @@ abbrev pub declarations_from : ℕ → List (List Node) → List Declaration
 declarations_from file [] = []
 declarations_from file (t ∷ ts) = declarations_in file t ++ declarations_from (file + 1) ts
 
-abbrev pub named_of : Declaration → Named
-named_of d = record { key = d.name; own = d.own; place = d.place }
-
 -- ---- their numbers
 
 -- the next item of a kind, where so many of each kind come before it
@@ -80,3 +77,21 @@ numbered c (d ∷ ds) = record { name = d.name; own = d.own; place = d.place; it
 
 abbrev pub none_counted : Counts
 none_counted = record { types = 0; faces = 0; comps = 0 }
+
+-- the counts after some declared items
+abbrev pub counted_all : Counts → List Declaration → Counts
+counted_all c [] = c
+counted_all c (d ∷ ds) = counted_all (counted c d.kind) ds
+
+-- all that some files declare
+abbrev pub declared_in : List (List Node) → List Declared
+declared_in trees = numbered none_counted (declarations_from 0 trees)
+
+-- a declared item by its qualified name
+abbrev pub named_of : Declared → Named
+named_of d = record { key = d.name; own = d.own; place = d.place }
+
+abbrev pub is_sort : Item → Bool
+is_sort (item.Sort id) = true
+is_sort (item.Face id) = false
+is_sort (item.Comp id) = false

@@ -1,4 +1,5 @@
 pub mod Standings
 pub mod Repeats
 pub mod Declarations
+pub mod Around
 pub mod LookUp

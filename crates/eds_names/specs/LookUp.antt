@@ -1,6 +1,6 @@
 -- The names of a sheet, and what a reference finds.
 use Rattle.std.specs.Prelude.{ℕ, List, [], ◌∷◌, ◌++◌, map, if◌then◌else◌, nat_eq, Option, Some, None, slice_get, Result, Ok, Err}
-use Rattle.eds_base.specs.Reading.{same, ◌>>=◌}
+use Rattle.eds_base.specs.Reading.{same}
 use Rattle.eds_base.specs.declared.ids.Place.{Place}
 use Rattle.eds_base.specs.declared.refusal.Refusal.{Refusal}
 use Rattle.eds_base.specs.Refusals.{least}
@@ -8,8 +8,9 @@ use Rattle.eds_tree.specs.declared.tree.Node.{Node}
 use Rattle.eds_names.specs.declared.declared.Item.{Item}
 use Rattle.eds_names.specs.declared.declared.Declared.{Declared}
 use Rattle.eds_names.specs.Standings.{joined, arounds_of}
+use Rattle.eds_names.specs.Around.{name_by}
 use Rattle.eds_names.specs.Repeats.{repeats, repeats_from}
-use Rattle.eds_names.specs.Declarations.{declarations_from, named_of, numbered, none_counted}
+use Rattle.eds_names.specs.Declarations.{declared_in, named_of}
 
 -- the declared items of a sheet in order, and for each file and element the name around it
 pub record Names : Type 0 where
@@ -31,14 +32,18 @@ candidates (Some around) text = map (λ front. joined front text) (around ∷ fr
 
 -- ---- what is found
 
--- the first declared item of a name
-abbrev pub item_named : List Declared → List ℕ → Option Item
-item_named [] name = None
-item_named (d ∷ ds) name = if same d.name name then Some d.item else item_named ds name
-
 abbrev pub or_else : Option Item → Option Item → Option Item
 or_else None other = other
 or_else (Some i) other = Some i
+
+-- a declared item, where this is its name
+abbrev pub entry_named : Declared → List ℕ → Option Item
+entry_named d name = if same name d.name then Some d.item else None
+
+-- the first declared item of a name
+abbrev pub item_named : List Declared → List ℕ → Option Item
+item_named [] name = None
+item_named (d ∷ ds) name = or_else (entry_named d name) (item_named ds name)
 
 -- the item of the first of some names that is declared
 abbrev pub first_found : List Declared → List (List ℕ) → Option Item
@@ -47,7 +52,7 @@ first_found declared (name ∷ names) = or_else (item_named declared name) (firs
 
 -- the name around the element at a place
 abbrev pub around_at : Names → Place → Option (List ℕ)
-around_at names place = slice_get names.arounds place.file >>= (λ file. slice_get file place.node >>= (λ around. around))
+around_at names place = name_by (slice_get names.arounds place.file) place.node
 
 -- what a reference from a place finds; from a place where no element is it is looked up by itself
 unfoldable pub look_up : Names → Place → List ℕ → Option Item
@@ -57,10 +62,10 @@ look_up names from text = first_found names.declared (candidates (around_at name
 
 -- all names that are given twice
 abbrev pub duplicates : List (List Node) → List Refusal
-duplicates trees = repeats [] (map named_of (declarations_from 0 trees)) ++ repeats_from 0 trees
+duplicates trees = repeats [] (map named_of (declared_in trees)) ++ repeats_from 0 trees
 
 abbrev pub names_of : List (List Node) → Names
-names_of trees = record { declared = numbered none_counted (declarations_from 0 trees); arounds = map arounds_of trees }
+names_of trees = record { declared = declared_in trees; arounds = map arounds_of trees }
 
 abbrev pub unless : Option Refusal → Names → Result Names Refusal
 unless None names = Ok names

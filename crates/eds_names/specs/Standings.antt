@@ -1,5 +1,5 @@
 -- Elements with the package and the component around them, and the names that these have.
-use Rattle.std.specs.Prelude.{ℕ, zero, suc, List, [], ◌∷◌, ◌++◌, length, map, slice_set, codes, if◌then◌else◌, nat_eq, Option, Some, None, unwrap_or}
+use Rattle.std.specs.Prelude.{ℕ, zero, suc, List, [], ◌∷◌, ◌++◌, length, map, replicate, slice_set, codes, if◌then◌else◌, nat_eq, Option, Some, None, unwrap_or}
 use Rattle.std.specs.List.{flat_map}
 use Rattle.eds_base.specs.Reading.{same}
 use Rattle.eds_tree.specs.declared.tree.Node.{Node}
@@ -40,12 +40,16 @@ standings_of t = standings_from t (length t) (record { parent = 0; node = 0; in_
 abbrev pub joined : List ℕ → List ℕ → List ℕ
 joined first second = first ++ 47 ∷ second
 
-abbrev pub package_around : List Node → ℕ → Option (List ℕ)
-package_around t n = if nat_eq n 0 then None else Some (own_name t n)
+abbrev pub package_name : List Node → ℕ → Option (List ℕ)
+package_name t n = if nat_eq n 0 then None else Some (own_name t n)
+
+-- the qualified name of a component, or of its package where there is no component
+abbrev pub name_around : List Node → ℕ → ℕ → Option (List ℕ)
+name_around t in_package in_component = if nat_eq in_component 0 then package_name t in_package else Some (joined (own_name t in_package) (own_name t in_component))
 
 -- the qualified name of the component around an element, or of its package where it stands in no component
 abbrev pub around : List Node → Standing → Option (List ℕ)
-around t s = if nat_eq s.in_component 0 then package_around t s.in_package else Some (joined (own_name t s.in_package) (own_name t s.in_component))
+around t s = name_around t s.in_package s.in_component
 
 -- a name below the one around it
 abbrev pub qualified : Option (List ℕ) → List ℕ → List ℕ
@@ -62,4 +66,4 @@ around_entry t s = (s.node, around t s)
 
 -- for each element the name around it: none for the root, outside packages, and for what is passed over
 abbrev pub arounds_of : List Node → List (Option (List ℕ))
-arounds_of t = written (map (λ n. None) t) (map (around_entry t) (standings_of t))
+arounds_of t = written (replicate (length t) None) (map (around_entry t) (standings_of t))

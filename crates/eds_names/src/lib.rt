@@ -1,9 +1,12 @@
 //! Names: what a sheet declares, and what a reference finds.
 #![tactic(auto)]
 
+mod around;
 mod declared;
 mod owned;
 mod repeat;
+mod space;
 mod standing;
 
 pub use declared::{Declared, Item};
+pub use space::Space;

@@ -6,12 +6,12 @@ use Rattle.eds_names.proofs.repeat.note_name.Goals as goal
 pub returns-then-contains-clause-found : goal.returns-then-contains-clause-found
 returns-then-contains-clause-found c =
     let among : is_among (map string_bytes c.args.before.now.keys) c.args.key.now ≡ true = among-map string_bytes c.args.before.now.keys c.args.key.now ∙ sym c.contains.ensures ∙ c.if-contains.true in
-      rw (repeat_of-present _ (record { key = c.args.key.now; own = c.args.own.now; place = c.args.place }) among) (rw c.in_ok-of.ensures at c.first.ensures.first)
+    rw (repeat_of-present _ (record { key = c.args.key.now; own = c.args.own.now; place = c.args.place }) among) (rw c.in_ok-of.ensures at c.first.ensures.first)
 
 pub returns-then-contains-clause-before : goal.returns-then-contains-clause-before
 returns-then-contains-clause-before c =
     let among : is_among (map string_bytes c.args.before.now.keys) c.args.key.now ≡ true = among-map string_bytes c.args.before.now.keys c.args.key.now ∙ sym c.contains.ensures ∙ c.if-contains.true in
-      sym (with_name-present _ _ among)
+    sym (with_name-present _ _ among)
 
 -- the name is not among those before it
 absent : (c : goal.In_ok-_added) → is_among (map string_bytes c.args.before.now.keys) c.args.key.now ≡ false
