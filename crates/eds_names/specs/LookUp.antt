@@ -24,6 +24,10 @@ abbrev pub fronts : List ℕ → List (List ℕ)
 fronts [] = []
 fronts (c ∷ cs) = map (λ front. c ∷ front) (fronts cs) ++ (if nat_eq c 47 then [] ∷ [] else [])
 
+abbrev pub longest : List (List ℕ) → Option (List ℕ)
+longest [] = None
+longest (front ∷ fronts) = Some front
+
 -- A reference below the name around it: below the component, where it stands in one, below the package, below each
 -- shorter front of the package's name, and by itself.
 abbrev pub candidates : Option (List ℕ) → List ℕ → List (List ℕ)

@@ -1,13 +1,14 @@
 //! The names of a sheet, and what a reference finds.
 
-ghost use Rattle.std.specs.Prelude.{◌≡◌, ◌+◌, ◌≤◌, ◌++◌, ℕ, List, [], ◌∷◌, map, count_by, length, option_map, string_bytes, IfOk, OnOk};
+ghost use Rattle.std.specs.Prelude.{◌≡◌, ◌+◌, ◌≤◌, ◌++◌, ℕ, List, [], ◌∷◌, map, count_by, length, option_map, string_bytes, IfOk, IfSome, OnOk};
+ghost use Rattle.std.specs.Str.{IsUtf8};
 ghost use Rattle.std.specs.HashMap.{get_by_text};
 ghost use Rattle.eds_base.specs.Answering.{Answers};
 ghost use Rattle.eds_base.specs.Refusals.{least, first_of};
 ghost use Rattle.eds_names.specs.Repeats.{repeats, repeats_in, repeats_from};
 ghost use Rattle.eds_names.specs.Declarations.{declared_in, named_of, numbered, counted_all, declarations_in, is_sort};
 ghost use Rattle.eds_names.specs.Standings.{arounds_of};
-ghost use Rattle.eds_names.specs.LookUp.{item_named, entry_named, or_else, candidates, first_found, around_at, look_up, names_in};
+ghost use Rattle.eds_names.specs.LookUp.{item_named, entry_named, or_else, fronts, longest, candidates, first_found, around_at, look_up, names_in};
 
 use crate::around::{Around, around_of};
 use crate::declared::{Counts, Declared, Item, declare_all, join};
@@ -84,6 +85,17 @@ fn index_of(alloc: Global, declared: &[Declared]) -> Result<IndexMap<String, Ite
         note_item(alloc, &mut index, one)?;
     }
     Ok(index)
+}
+
+// The longest front of a name that ends before a slash.
+fn shorter(name: &str) -> Option<&str>
+    ensures longest { option_map (λ f. f.now) result ≡ longest (fronts name.now) }
+    ensures text { IfSome result (λ f. IsUtf8 f.now) }
+{
+    match name.rsplit_once('/') {
+        Some((front, _)) => Some(front),
+        None => None,
+    }
 }
 
 // What is read of the files so far.
@@ -218,14 +230,14 @@ impl Space {
         ensures { IfOk result (λ i. i ≡ first_found self.now.declared (candidates (Some around.now) text.now)) }
     {
         let mut front = around;
-        loop {
+        'fronts: loop {
             let name = join(alloc, front, text)?;
             let found = self.item(name.as_str());
             if found.is_some() {
                 return Ok(found);
             }
-            match front.rsplit_once('/') {
-                Some((shorter, _)) => front = shorter,
+            match shorter(front) {
+                Some(next) => front = next,
                 None => return Ok(self.item(text)),
             }
         }
