@@ -20,9 +20,9 @@ pub declared-next : (ts : List (List Node)) (i : ℕ) (t d : List Node) (c more 
     → old ++ numbered c (declarations_from i (drop i ts)) ≡ whole → new ++ numbered more (declarations_from (i + 1) (drop (i + 1) ts)) ≡ whole
 declared-next ts i t d c more old new whole lt is n m all =
     let rest = declarations_from (i + 1) (drop (i + 1) ts) in
-      ap (λ ys. ys ++ numbered more rest) n ∙ append_assoc old (numbered c (declarations_in i t)) (numbered more rest)
-      ∙ ap (λ k. old ++ (numbered c (declarations_in i t) ++ numbered k rest)) m ∙ ap (λ ys. old ++ ys) (sym (numbered-append c (declarations_in i t) rest))
-      ∙ ap (λ us. old ++ numbered c (declarations_from i us)) (sym (opened ts i t d lt is)) ∙ all
+    ap (λ ys. ys ++ numbered more rest) n ∙ append_assoc old (numbered c (declarations_in i t)) (numbered more rest)
+    ∙ ap (λ k. old ++ (numbered c (declarations_in i t) ++ numbered k rest)) m ∙ ap (λ ys. old ++ ys) (sym (numbered-append c (declarations_in i t) rest))
+    ∙ ap (λ us. old ++ numbered c (declarations_from i us)) (sym (opened ts i t d lt is)) ∙ all
 
 pub arounds-next : (ts : List (List Node)) (i : ℕ) (t d : List Node) (old new whole : List (List (Option (List ℕ))))
     → i < length ts → t ≡ get_or ts i d → new ≡ old ++ arounds_of t ∷ []
@@ -36,8 +36,8 @@ pub found-next : (ts : List (List Node)) (i : ℕ) (t d : List Node) (found next
     → first_of found (least (repeats_from i (drop i ts))) ≡ whole → first_of next (least (repeats_from (i + 1) (drop (i + 1) ts))) ≡ whole
 found-next ts i t d found next whole lt is n all =
     let rest = repeats_from (i + 1) (drop (i + 1) ts) in
-      ap (λ o. first_of o (least rest)) n ∙ first_assoc found (least (repeats_in i t)) (least rest)
-      ∙ ap (first_of found) (sym (least-append (repeats_in i t) rest)) ∙ ap (λ us. first_of found (least (repeats_from i us))) (sym (opened ts i t d lt is)) ∙ all
+    ap (λ o. first_of o (least rest)) n ∙ first_assoc found (least (repeats_in i t)) (least rest)
+    ∙ ap (first_of found) (sym (least-append (repeats_in i t) rest)) ∙ ap (λ us. first_of found (least (repeats_from i us))) (sym (opened ts i t d lt is)) ∙ all
 
 -- ---- the names of a sheet
 

@@ -46,8 +46,8 @@ pub fronts-none : (s : List ℕ) → NoSlash s → fronts s ≡ []
 fronts-none [] h = refl
 fronts-none (c ∷ cs) h =
     let rest : fronts cs ≡ [] = fronts-none cs (λ i lt. h (suc i) (omega (arith, lt))) in
-      let other : nat_eq c 47 ≡ false = differs c (h 0 (omega arith)) in
-        rw (rest, other) refl
+    let other : nat_eq c 47 ≡ false = differs c (h 0 (omega arith)) in
+    rw (rest, other) refl
   where
     differs : (c : ℕ) → c ≢ 47 → nat_eq c 47 ≡ false
     differs c h = grind (arith, nat_tests)
@@ -60,7 +60,7 @@ fronts-split (c ∷ a) b h = rw (fronts-split a b h) refl
 pub longest-split : (s : List ℕ) (i j : ℕ) → drop i s ≡ 47 ∷ drop j s → NoSlash (drop j s) → longest (fronts s) ≡ Some (take i s)
 longest-split s i j split h =
     let parts : s ≡ take i s ++ 47 ∷ drop j s = sym (take-append-drop i s) ∙ ap (λ d. take i s ++ d) split in
-      ap (λ t. longest (fronts t)) parts ∙ ap longest (fronts-split (take i s) (drop j s) h)
+    ap (λ t. longest (fronts t)) parts ∙ ap longest (fronts-split (take i s) (drop j s) h)
 
 -- the longest front goes before those of its own
 pub fronts-longest : (s front : List ℕ) → longest (fronts s) ≡ Some front → fronts s ≡ front ∷ fronts front
@@ -70,12 +70,13 @@ fronts-longest (c ∷ cs) front h = go (fronts cs) refl (fronts-longest cs)
     at_slash : (b : Bool) → longest (if b then [] ∷ [] else []) ≡ Some front → (if b then [] ∷ [] else []) ≡ front ∷ fronts front
     at_slash true k = let e : front ≡ [] = cc in rw e refl
     at_slash false k = cc
+
     go : (fs : List (List ℕ)) → fronts cs ≡ fs → ((f : List ℕ) → longest (fronts cs) ≡ Some f → fronts cs ≡ f ∷ fronts f) → fronts (c ∷ cs) ≡ front ∷ fronts front
     go [] e deeper = rw e (at_slash (nat_eq c 47) (rw e at h))
     go (f ∷ fs) e deeper =
         let first : c ∷ f ≡ front = cc (rw e at h) in
-          let below : fronts cs ≡ f ∷ fronts f = deeper f (ap longest e) in
-            rw (below, ← first) refl
+        let below : fronts cs ≡ f ∷ fronts f = deeper f (ap longest e) in
+        rw (below, ← first) refl
 
 pub longest-shorter : (s front : List ℕ) → longest (fronts s) ≡ Some front → length front < length s
 longest-shorter [] front h = cc
@@ -84,17 +85,18 @@ longest-shorter (c ∷ cs) front h = go (fronts cs) refl (longest-shorter cs)
     at_slash : (b : Bool) → longest (if b then [] ∷ [] else []) ≡ Some front → length front < suc (length cs)
     at_slash true k = let e : front ≡ [] = cc in rw e (omega arith)
     at_slash false k = cc
+
     go : (fs : List (List ℕ)) → fronts cs ≡ fs → ((f : List ℕ) → longest (fronts cs) ≡ Some f → length f < length cs) → length front < suc (length cs)
     go [] e deeper = at_slash (nat_eq c 47) (rw e at h)
     go (f ∷ fs) e deeper =
         let first : c ∷ f ≡ front = cc (rw e at h) in
-          let below : length f < length cs = deeper f (ap longest e) in
-            rw (← first) (omega (arith, below))
+        let below : length f < length cs = deeper f (ap longest e) in
+        rw (← first) (omega (arith, below))
 
 -- where nothing is found below a name, what is found below its longest front is found
 pub found-next : (declared : List Declared) (front next name text : List ℕ) (found : Option Item) (whole : Option Item) → longest (fronts front) ≡ Some next → name ≡ joined front text → found ≡ item_named declared name → is_some found ≡ false
     → first_found declared (candidates (Some front) text) ≡ whole → first_found declared (candidates (Some next) text) ≡ whole
 found-next declared front next name text found whole longer is here none all =
     let nothing : item_named declared (joined front text) ≡ None = ap (item_named declared) (sym is) ∙ sym here ∙ none_of found none in
-      let more : fronts front ≡ next ∷ fronts next = fronts-longest front next longer in
-        sym (ap (λ fs. first_found declared (map (λ f. joined f text) (front ∷ fs) ++ text ∷ [])) more ∙ rw nothing refl) ∙ all
+    let more : fronts front ≡ next ∷ fronts next = fronts-longest front next longer in
+    sym (ap (λ fs. first_found declared (map (λ f. joined f text) (front ∷ fs) ++ text ∷ [])) more ∙ rw nothing refl) ∙ all

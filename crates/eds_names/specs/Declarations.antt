@@ -91,7 +91,19 @@ declared_in trees = numbered none_counted (declarations_from 0 trees)
 abbrev pub named_of : Declared → Named
 named_of d = record { key = d.name; own = d.own; place = d.place }
 
+-- ---- their kinds
+
 abbrev pub is_sort : Item → Bool
 is_sort (item.Sort id) = true
 is_sort (item.Face id) = false
 is_sort (item.Comp id) = false
+
+abbrev pub is_face : Item → Bool
+is_face (item.Sort id) = false
+is_face (item.Face id) = true
+is_face (item.Comp id) = false
+
+abbrev pub is_comp : Item → Bool
+is_comp (item.Sort id) = false
+is_comp (item.Face id) = false
+is_comp (item.Comp id) = true

@@ -3,7 +3,7 @@
 ghost use Rattle.std.specs.Prelude.{◌≡◌, ◌+◌, ◌++◌, option_map, IfOk, OnOk};
 ghost use Rattle.std.specs.List.{flat_map};
 ghost use Rattle.eds_names.specs.Standings.{joined, name_around, qualified as qualified_in};
-ghost use Rattle.eds_names.specs.Declarations.{is_sort, kind_of as kind_in, item_of, counted, counted_all, numbered, declaration_at};
+ghost use Rattle.eds_names.specs.Declarations.{is_sort, is_face, is_comp, kind_of as kind_in, item_of, counted, counted_all, numbered, declaration_at};
 
 use crate::standing::{Standing, own_name};
 use eds_base::{CompId, FaceId, Memory, Place, Text, TypeId};
@@ -27,6 +27,28 @@ impl Item {
             Item::Sort(_) => true,
             Item::Face(_) => false,
             Item::Comp(_) => false,
+        }
+    }
+
+    /// Whether it is an interface.
+    pub fn is_face(self) -> bool
+        ensures { result ≡ is_face self }
+    {
+        match self {
+            Item::Sort(_) => false,
+            Item::Face(_) => true,
+            Item::Comp(_) => false,
+        }
+    }
+
+    /// Whether it is a component.
+    pub fn is_comp(self) -> bool
+        ensures { result ≡ is_comp self }
+    {
+        match self {
+            Item::Sort(_) => false,
+            Item::Face(_) => false,
+            Item::Comp(_) => true,
         }
     }
 }

@@ -10,3 +10,6 @@ mod standing;
 
 pub use declared::{Declared, Item};
 pub use space::Space;
+
+#[cfg(test)]
+mod tests;

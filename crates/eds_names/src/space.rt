@@ -6,7 +6,7 @@ ghost use Rattle.std.specs.HashMap.{get_by_text};
 ghost use Rattle.eds_base.specs.Answering.{Answers};
 ghost use Rattle.eds_base.specs.Refusals.{least, first_of};
 ghost use Rattle.eds_names.specs.Repeats.{repeats, repeats_in, repeats_from};
-ghost use Rattle.eds_names.specs.Declarations.{declared_in, named_of, numbered, counted_all, declarations_in, is_sort};
+ghost use Rattle.eds_names.specs.Declarations.{declared_in, named_of, numbered, counted_all, declarations_in, is_sort, is_face, is_comp};
 ghost use Rattle.eds_names.specs.Standings.{arounds_of};
 ghost use Rattle.eds_names.specs.LookUp.{item_named, entry_named, or_else, fronts, longest, candidates, first_found, around_at, look_up, names_in};
 
@@ -198,6 +198,28 @@ impl Space {
             .as_slice()
             .iter()
             .filter(|one| one.item.is_sort())
+            .count()
+    }
+
+    /// How many interfaces are declared.
+    pub fn faces(&self) -> usize
+        ensures { result ≡ count_by (λ d. is_face d.item) self.now.declared }
+    {
+        self.declared
+            .as_slice()
+            .iter()
+            .filter(|one| one.item.is_face())
+            .count()
+    }
+
+    /// How many components are declared.
+    pub fn comps(&self) -> usize
+        ensures { result ≡ count_by (λ d. is_comp d.item) self.now.declared }
+    {
+        self.declared
+            .as_slice()
+            .iter()
+            .filter(|one| one.item.is_comp())
             .count()
     }
 

@@ -9,5 +9,5 @@ abbrev pub invariant-loop-file : goal.invariant-loop-file
 invariant-loop-file l = record {
   declared : l.register.declared.items ++ numbered l.register.counts (declarations_from l.file (drop l.file l.trees)) ≡ declared_in l.trees;
   arounds : l.register.arounds ++ map arounds_of (drop l.file l.trees) ≡ map arounds_of l.trees;
-  found : first_of l.register.found (least (repeats_from l.file (drop l.file l.trees))) ≡ least (repeats_from 0 l.trees)
+  found : first_of l.register.found (least (repeats_from l.file (drop l.file l.trees))) ≡ least (repeats_from 0 l.trees);
 }

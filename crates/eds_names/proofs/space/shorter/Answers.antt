@@ -11,4 +11,4 @@ returns-in-None-clause-longest c = sym (ap longest (fronts-none c.args.name.now 
 pub returns-in-Some-clause-longest : goal.returns-in-Some-clause-longest
 returns-in-Some-clause-longest c =
     let h = c.in-Some.ensures.cases in
-      ap Some h.3 ∙ sym (longest-split c.args.name.now h.0 h.1 (h.2.1.split ∙ ap (λ one. one ++ drop h.1 c.args.name.now) (encode_ascii 47 (lit< tt))) (λ i lt. NoCharPasses-char 47 (drop h.1 c.args.name.now) i h.2.0 (lit< tt) lt))
+    ap Some h.3 ∙ sym (longest-split c.args.name.now h.0 h.1 (h.2.1.split ∙ ap (λ one. one ++ drop h.1 c.args.name.now) (encode_ascii 47 (lit< tt))) (λ i lt. NoCharPasses-char 47 (drop h.1 c.args.name.now) i h.2.0 (lit< tt) lt))

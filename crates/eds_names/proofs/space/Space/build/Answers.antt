@@ -9,16 +9,16 @@ use Rattle.eds_names.proofs.space.Space.build.Goals as goal
 pub returns-in-Some : goal.returns-in-Some
 returns-in-Some c =
     names-refused c.args.trees.now c.in_ok-register.register.declared.items c.in_ok-repeated.repeated c.in_ok-register.register.found c.in-Some.refusal
-      (c.in_ok-register.ensures.declared ∙ ap declared_in c.as_slice.ensures)
-      (c.in_ok-repeated.ensures ∙ ap (λ ds. least (repeats [] (map named_of ds))) c.deref.ensures.value)
-      (c.in_ok-register.ensures.found ∙ ap (λ ts. least (repeats_from 0 ts)) c.as_slice.ensures)
-      c.in-Some.ensures.first
+    (c.in_ok-register.ensures.declared ∙ ap declared_in c.as_slice.ensures)
+    (c.in_ok-repeated.ensures ∙ ap (λ ds. least (repeats [] (map named_of ds))) c.deref.ensures.value)
+    (c.in_ok-register.ensures.found ∙ ap (λ ts. least (repeats_from 0 ts)) c.as_slice.ensures)
+    c.in-Some.ensures.first
 
 pub returns-in_ok-index-in-None : goal.returns-in_ok-index-in-None
 returns-in_ok-index-in-None c =
     names-taken c.args.trees.now c.from_vec.result c.in_ok-register.register.arounds c.in_ok-repeated.repeated c.in_ok-register.register.found
-      (c.from_vec.ensures ∙ c.in_ok-register.ensures.declared ∙ ap declared_in c.as_slice.ensures)
-      (c.in_ok-repeated.ensures ∙ ap (λ ds. least (repeats [] (map named_of ds))) (c.deref.ensures.value ∙ sym c.from_vec.ensures))
-      (c.in_ok-register.ensures.found ∙ ap (λ ts. least (repeats_from 0 ts)) c.as_slice.ensures)
-      (c.in_ok-register.ensures.arounds ∙ ap (map arounds_of) c.as_slice.ensures)
-      c.in-None.ensures.first
+    (c.from_vec.ensures ∙ c.in_ok-register.ensures.declared ∙ ap declared_in c.as_slice.ensures)
+    (c.in_ok-repeated.ensures ∙ ap (λ ds. least (repeats [] (map named_of ds))) (c.deref.ensures.value ∙ sym c.from_vec.ensures))
+    (c.in_ok-register.ensures.found ∙ ap (λ ts. least (repeats_from 0 ts)) c.as_slice.ensures)
+    (c.in_ok-register.ensures.arounds ∙ ap (map arounds_of) c.as_slice.ensures)
+    c.in-None.ensures.first

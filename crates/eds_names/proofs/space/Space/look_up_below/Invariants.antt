@@ -6,7 +6,7 @@ use Rattle.eds_names.proofs.space.Space.look_up_below.Given as goal
 abbrev pub invariant-fronts : goal.invariant-fronts
 invariant-fronts l = record {
   text : IsUtf8 l.front;
-  found : first_found l.self.declared (candidates (Some l.front) l.text) ≡ first_found l.self.declared (candidates (Some l.around) l.text)
+  found : first_found l.self.declared (candidates (Some l.front) l.text) ≡ first_found l.self.declared (candidates (Some l.around) l.text);
 }
 
 abbrev pub decreases-fronts : goal.decreases-fronts
