@@ -1,4 +1,6 @@
-use crate::{Item, Space};
+ghost use Rattle.std.specs.Prelude.{◌<◌, length, IsTrue};
+
+use crate::{Declared, Item, Space};
 use eds_base::{CompId, FaceId, Fail, Items, Kept, Memory, Place, Refusal, Rule, TypeId};
 use eds_tree::{Tree, read_tree};
 use std::alloc::Global;
@@ -42,6 +44,19 @@ const INTERFACE: Option<Item> = Some(Item::Face(FaceId(0)));
 
 const COMPONENT: Option<Item> = Some(Item::Comp(CompId(0)));
 
+// Whether an item is declared first.
+fn is_first(declared: &[Declared], name: &str, own: &str, place: Place, item: Option<Item>) -> bool
+    ensures { IsTrue result → 0 < length declared.now }
+{
+    match declared {
+        [] => false,
+        [first, ..] => first.name.as_str() == name
+            && first.own.as_str() == own
+            && first.place == place
+            && Some(first.item) == item,
+    }
+}
+
 #[test]
 fn declared_items_are_numbered_in_the_order_of_files_and_elements(
     rt: HostRuntime,
@@ -58,13 +73,15 @@ fn declared_items_are_numbered_in_the_order_of_files_and_elements(
         ("A/W", "W", 1, 9, sort(5)),
         ("A/A/T", "T", 1, 12, sort(6)),
     ];
-    assert_eq!(rt; space.declared().len(), table.len());
-    for (one, (name, own, file, node, item)) in space.declared().iter().zip(table) {
-        assert_eq!(rt; one.name.as_str(), name);
-        assert_eq!(rt; one.own.as_str(), own);
-        assert_eq!(rt; one.place, Place { file, node });
-        assert_eq!(rt; Some(one.item), item, "{name}");
+    let mut rest = space.declared();
+    for (name, own, file, node, item) in table {
+        assert!(rt;
+            is_first(rest, name, own, Place { file, node }, item),
+            "{name}"
+        );
+        rest = &rest[1..];
     }
+    assert!(rt; rest.is_empty());
     assert_eq!(rt; space.types(), 7);
     assert_eq!(rt; space.faces(), 1);
     assert_eq!(rt; space.comps(), 1);
