@@ -31,14 +31,10 @@ duplicate n = record { rule = Duplicate; place = n.place; kept = Word n.own }
 abbrev pub repeat_of : List (List ℕ) → Named → List Refusal
 repeat_of before n = if is_among before n.key then duplicate n ∷ [] else []
 
--- the names before an element, with its own
-abbrev pub with_name : List (List ℕ) → List ℕ → List (List ℕ)
-with_name before key = if is_among before key then before else before ++ key ∷ []
-
 -- each element whose name an earlier one has, or is among some names before them
 abbrev pub repeats : List (List ℕ) → List Named → List Refusal
 repeats before [] = []
-repeats before (n ∷ ns) = repeat_of before n ++ repeats (with_name before n.key) ns
+repeats before (n ∷ ns) = repeat_of before n ++ repeats (n.key ∷ before) ns
 
 -- ---- what one owner holds
 

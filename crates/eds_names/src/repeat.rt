@@ -1,8 +1,8 @@
 //! Names that come a second time.
 
-ghost use Rattle.std.specs.Prelude.{◌≡◌, map, IfOk, OnOk, string_bytes};
+ghost use Rattle.std.specs.Prelude.{◌≡◌, ◌∷◌, ℕ, List, map, IfOk, OnOk, string_bytes};
 ghost use Rattle.eds_base.specs.Refusals.{least, first_of};
-ghost use Rattle.eds_names.specs.Repeats.{repeat_of, with_name};
+ghost use Rattle.eds_names.specs.Repeats.{is_among, repeat_of};
 
 use eds_base::{Kept, Memory, Place, Refusal, Rule, Text};
 use indexmap::IndexSet;
@@ -19,7 +19,7 @@ pub(crate) fn note_name(
     place: Place,
 ) -> Result<Option<Refusal>, Memory>
     ensures found { IfOk result (λ r. r ≡ first_of found (least (repeat_of (map string_bytes before.old.keys) (record { key = key.now; own = own.now; place = place })))) }
-    ensures before { OnOk result (map string_bytes before.new.keys ≡ with_name (map string_bytes before.old.keys) key.now) }
+    ensures before { OnOk result ((q : List ℕ) → is_among (map string_bytes before.new.keys) q ≡ is_among (key.now ∷ map string_bytes before.old.keys) q) }
 {
     if before.contains(key) {
         let refusal = Refusal {

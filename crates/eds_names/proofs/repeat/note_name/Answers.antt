@@ -1,6 +1,6 @@
 use Rattle.std.proofs.Common.{rules, ◌≡◌, ◌++◌, [], ◌∷◌, map, true, false, sym, ap, ◌∙◌, string_bytes, not}
-use Rattle.eds_names.specs.Repeats.{is_among, repeat_of, with_name}
-use Rattle.eds_names.proofs.RepeatsLemmas.{among-map, repeat_of-present, repeat_of-absent, with_name-present, first_of-none, inserted}
+use Rattle.eds_names.specs.Repeats.{is_among, repeat_of}
+use Rattle.eds_names.proofs.RepeatsLemmas.{among-map, repeat_of-present, repeat_of-absent, names-present, first_of-none, inserted}
 use Rattle.eds_names.proofs.repeat.note_name.Goals as goal
 
 pub returns-then-contains-clause-found : goal.returns-then-contains-clause-found
@@ -11,7 +11,7 @@ returns-then-contains-clause-found c =
 pub returns-then-contains-clause-before : goal.returns-then-contains-clause-before
 returns-then-contains-clause-before c =
     let among : is_among (map string_bytes c.args.before.now.keys) c.args.key.now ≡ true = among-map string_bytes c.args.before.now.keys c.args.key.now ∙ sym c.contains.ensures ∙ c.if-contains.true in
-    sym (with_name-present _ _ among)
+    names-present _ _ among
 
 -- the name is not among those before it
 absent : (c : goal.In_ok-_added) → is_among (map string_bytes c.args.before.now.keys) c.args.key.now ≡ false
