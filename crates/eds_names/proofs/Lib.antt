@@ -4,3 +4,4 @@ pub mod DeclarationsLemmas
 pub mod AroundLemmas
 pub mod LookUpLemmas
 pub mod FilesLemmas
+pub mod Differing

@@ -20,7 +20,7 @@ none_of : (o : Option Item) → is_some o ≡ false → o ≡ None
 none_of None h = refl
 none_of (Some i) h = cc
 
-bytes_eq-sym : (x y : List ℕ) → bytes_eq x y ≡ bytes_eq y x
+pub bytes_eq-sym : (x y : List ℕ) → bytes_eq x y ≡ bytes_eq y x
 bytes_eq-sym x y = one_answer {P = x ≡ y} (bytes_eq x y) (bytes_eq y x) (bytes_eq-Decides x y) (λ h. sym ((bytes_eq-Decides y x).0 h), λ p. (bytes_eq-Decides y x).1 (sym p))
 
 -- an item put under a name that nothing had

@@ -1,5 +1,5 @@
 -- The names of a sheet, and what a reference finds.
-use Rattle.std.specs.Prelude.{ℕ, List, [], ◌∷◌, ◌++◌, map, if◌then◌else◌, nat_eq, Option, Some, None, slice_get, Result, Ok, Err}
+use Rattle.std.specs.Prelude.{◌≡◌, ℕ, false, List, [], ◌∷◌, ◌++◌, map, if◌then◌else◌, nat_eq, Option, Some, None, slice_get, Result, Ok, Err}
 use Rattle.eds_base.specs.Reading.{same}
 use Rattle.eds_base.specs.declared.ids.Place.{Place}
 use Rattle.eds_base.specs.declared.refusal.Refusal.{Refusal}
@@ -9,13 +9,22 @@ use Rattle.eds_names.specs.declared.declared.Item.{Item}
 use Rattle.eds_names.specs.declared.declared.Declared.{Declared}
 use Rattle.eds_names.specs.Standings.{joined, arounds_of}
 use Rattle.eds_names.specs.Around.{name_by}
-use Rattle.eds_names.specs.Repeats.{repeats, repeats_from}
+use Rattle.eds_names.specs.Repeats.{is_among, repeats, repeats_from}
 use Rattle.eds_names.specs.Declarations.{declared_in, named_of}
 
 -- the declared items of a sheet in order, and for each file and element the name around it
 pub record Names : Type 0 where
   pub declared : List Declared
   pub arounds : List (List (Option (List ℕ)))
+
+-- no name stands twice
+abbrev pub AreApart : List (List ℕ) → Type 0
+AreApart [] = Unit {0}
+AreApart (name ∷ names) = (is_among names name ≡ false) × AreApart names
+
+-- no two declared items have one qualified name
+abbrev pub NamesDiffer : List Declared → Type 0
+NamesDiffer declared = AreApart (map (λ d. d.name) declared)
 
 -- ---- the names under which a reference is looked up
 

@@ -3,6 +3,7 @@
 
 mod around;
 mod declared;
+pub mod law;
 mod owned;
 mod repeat;
 mod space;

@@ -8,7 +8,7 @@ ghost use Rattle.eds_base.specs.Refusals.{least, first_of};
 ghost use Rattle.eds_names.specs.Repeats.{repeats, repeats_in, repeats_from};
 ghost use Rattle.eds_names.specs.Declarations.{declared_in, named_of, numbered, counted_all, declarations_in, is_sort, is_face, is_comp};
 ghost use Rattle.eds_names.specs.Standings.{arounds_of};
-ghost use Rattle.eds_names.specs.LookUp.{item_named, entry_named, or_else, fronts, longest, candidates, first_found, around_at, look_up, names_in};
+ghost use Rattle.eds_names.specs.LookUp.{NamesDiffer, item_named, entry_named, or_else, fronts, longest, candidates, first_found, around_at, look_up, names_in};
 
 use crate::around::{Around, around_of};
 use crate::declared::{Counts, Declared, Item, declare_all, join};
@@ -32,13 +32,13 @@ pub struct Space {
 impl Model for Space {
     ghost use Rattle.std.specs.Prelude.{◌≡◌, ℕ, List};
     ghost use Rattle.std.specs.HashMap.{get_by_text};
-    ghost use Rattle.eds_names.specs.LookUp.{Names, item_named};
+    ghost use Rattle.eds_names.specs.LookUp.{Names, NamesDiffer, item_named};
 
     ghost Value = { Names };
 
     ghost view = { λ s. record { declared = s.declared; arounds = s.arounds } };
 
-    ghost invariant = { λ s. (q : List ℕ) → get_by_text s.index q ≡ item_named s.declared q };
+    ghost invariant = { λ s. ((q : List ℕ) → get_by_text s.index q ≡ item_named s.declared q) × NamesDiffer s.declared };
 }
 
 // The first of the names that are declared twice.
@@ -183,9 +183,10 @@ impl Space {
         }
     }
 
-    /// All that is declared, in the order of files and elements.
+    /// All that is declared, in the order of files and elements. No two items have one qualified name.
     pub fn declared(&self) -> &[Declared]
-        ensures { result.now ≡ self.now.declared }
+        ensures declared { result.now ≡ self.now.declared }
+        ensures differ { NamesDiffer self.now.declared }
     {
         self.declared.as_slice()
     }
