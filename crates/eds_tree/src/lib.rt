@@ -24,7 +24,7 @@ mod table;
 mod texts;
 mod tree;
 
-pub use link::Link;
+pub use link::{Link, is_passed_over};
 pub use read::read_tree;
 pub use row::{Attribute, Child, Form, Mark, Row, Shape};
 pub use rows::Rows;

@@ -59,7 +59,7 @@ pub(crate) fn text_among<'a>(attributes: &'a [(Text, Text)], name: &str) -> Opti
 }
 
 /// Whether an element of this name is passed over with all that it holds.
-pub(crate) fn is_passed_over(name: &str) -> bool
+pub fn is_passed_over(name: &str) -> bool
     ensures { result ≡ passed_over name.now }
 {
     name == "Device"
