@@ -16,7 +16,7 @@ use crate::owned::least_owned;
 use crate::repeat::note_name;
 use crate::standing::standings_in;
 use eds_base::{Fail, Items, Memory, Place, Refusal, Text};
-use eds_tree::Tree;
+use eds_tree::{Tree, Trees};
 use indexmap::{IndexMap, IndexSet};
 use std::alloc::Global;
 use std::marker::Model;
@@ -158,7 +158,7 @@ impl Space {
     /// name, or of a second generic, parameter or command, argument, end, variable, activity, machine, state or generic
     /// map of one name in one owner. The refusal stands at the later element and keeps the name that this gives itself.
     #[tactic(auto, unfolding(crate::specs::LookUp::names_in))]
-    pub fn build(alloc: Global, trees: &Items<Tree>) -> Result<Space, Fail<Refusal>>
+    pub fn build(alloc: Global, trees: &Trees) -> Result<Space, Fail<Refusal>>
         requires { length trees.now ≤ 64 }
         ensures { Answers (λ s. s) result (names_in trees.now) }
     {

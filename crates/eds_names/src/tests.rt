@@ -2,11 +2,11 @@ ghost use Rattle.std.specs.Prelude.{◌<◌, length, IsTrue};
 
 use crate::{Declared, Item, Space};
 use eds_base::{CompId, FaceId, Fail, Items, Kept, Memory, Place, Refusal, Rule, TypeId};
-use eds_tree::{Tree, read_tree};
+use eds_tree::{Trees, read_tree};
 use std::alloc::Global;
 
 // The trees of some files.
-fn trees_of(alloc: Global, files: &[&str]) -> Result<Items<Tree>, Fail<Refusal>> {
+fn trees_of(alloc: Global, files: &[&str]) -> Result<Trees, Fail<Refusal>> {
     let mut trees = Items::new(alloc);
     for (file, text) in files.iter().enumerate() {
         if file < 64 && text.len() < 1_000_000 {
