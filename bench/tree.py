@@ -4,15 +4,14 @@
   bench/tree.py [PROGRAM]
 
 Makes a sheet of about 4 MiB with more than 60,000 elements, runs `PROGRAM check SHEET` on it (by default ./eds), and
-`python3 -c "import json; json.load(open(SHEET))"` in the same run. Prints the least time of some turns of each, their ratio,
-and how many times its own size the sheet takes in memory.
+`python3 -c "import json; json.load(open(SHEET))"` in the same run. Prints the least processor time of some turns of each,
+which other work on the machine hardly changes, their ratio, and how many times its own size the sheet takes in memory.
 """
 
 import os
 import subprocess
 import sys
 import tempfile
-import time
 
 LIMIT = 4_194_304
 TURNS = 5
@@ -46,12 +45,10 @@ def sheet():
 
 
 def run(words):
-    """The time that a command takes, in seconds, and the most memory, in octets."""
-    start = time.perf_counter()
+    """The processor time that a command takes, in seconds, the most memory, in octets, and its status."""
     child = subprocess.Popen(words, stdout=subprocess.DEVNULL)
     _, status, usage = os.wait4(child.pid, 0)
-    took = time.perf_counter() - start
-    return took, usage.ru_maxrss * 1024, os.waitstatus_to_exitcode(status)
+    return usage.ru_utime + usage.ru_stime, usage.ru_maxrss * 1024, os.waitstatus_to_exitcode(status)
 
 
 def least(words):
