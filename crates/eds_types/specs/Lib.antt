@@ -12,3 +12,4 @@ pub mod Rules
 pub mod Stored
 pub mod Tables
 pub mod Sample
+pub mod FlatTables
