@@ -87,13 +87,13 @@ pub each-weaker : (P Q : Refusal → Type 0) → ((r : Refusal) → P r → Q r)
 each-weaker P Q f [] h = tt
 each-weaker P Q f (x ∷ xs) h = (f x h.0, each-weaker P Q f xs h.1)
 
+break-before : (file : ℕ) (read : Result (List Node) Refusal) (later : List Refusal) → IfSome (stop_of read) (InFile file) → AllByRecursion (IsFrom (file + 1)) later → AllByRecursion (IsFrom file) (break_in read ++ later)
+break-before file (Ok t) later h k = each-weaker (IsFrom (file + 1)) (IsFrom file) (from-later file) later k
+break-before file (Err r) later h k = (from-in file r h, each-weaker (IsFrom (file + 1)) (IsFrom file) (from-later file) later k)
+
 breaks-from : (file : ℕ) (files : List (List ℕ)) → AllByRecursion (IsFrom file) (breaks_from file files)
 breaks-from file [] = tt
-breaks-from file (octets ∷ rest) = go (tree_in file octets) (file-in file octets)
-  where
-    go : (read : Result (List Node) Refusal) → IfSome (stop_of read) (InFile file) → AllByRecursion (IsFrom file) (break_in read ++ breaks_from (file + 1) rest)
-    go (Ok t) h = each-weaker (IsFrom (file + 1)) (IsFrom file) (from-later file) (breaks_from (file + 1) rest) (breaks-from (file + 1) rest)
-    go (Err r) h = (from-in file r h, each-weaker (IsFrom (file + 1)) (IsFrom file) (from-later file) (breaks_from (file + 1) rest) (breaks-from (file + 1) rest))
+breaks-from file (octets ∷ rest) = break-before file (tree_in file octets) (breaks_from (file + 1) rest) (file-in file octets) (breaks-from (file + 1) rest)
 
 later_number : (a b c d : ℕ) (later : Bool) → a ≡ b → d < c → lexicographic a b (lexicographic c d later) ≡ false
 later_number a b c d later e h = grind (arith, nat_tests)

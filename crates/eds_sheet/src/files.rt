@@ -1,6 +1,6 @@
 //! The element trees of all files of a sheet.
 
-ghost use Rattle.std.specs.Prelude.{◌≤◌, ◌<◌, ◌^◌, length};
+ghost use Rattle.std.specs.Prelude.{◌≡◌, ◌≤◌, ◌<◌, ◌^◌, length, IfOk};
 ghost use Rattle.std.specs.List.{All};
 ghost use Rattle.eds_base.specs.Answering.{Answers};
 ghost use Rattle.eds_sheet.specs.Files.{trees_in};
@@ -16,7 +16,8 @@ pub type Files = Items<Octets>;
 pub(crate) fn read_trees(alloc: Global, files: &Files) -> Result<Trees, Fail<Refusal>>
     requires few { length files.now ≤ 64 }
     requires short { All (λ octets. length octets < 2 ^ 32) files.now }
-    ensures { Answers (λ trees. trees) result (trees_in files.now) }
+    ensures trees { Answers (λ trees. trees) result (trees_in files.now) }
+    ensures number { IfOk result (λ trees. length trees ≡ length files.now) }
 {
     let mut trees = Items::new(alloc);
     for (file, octets) in files.as_slice().iter().enumerate() {

@@ -2,4 +2,12 @@
 #![tactic(auto)]
 
 mod files;
+pub mod law;
 mod pending;
+mod sheet;
+
+pub use files::Files;
+pub use sheet::{Counts, Sheet, compile};
+
+#[cfg(test)]
+mod tests;
