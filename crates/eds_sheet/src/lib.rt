@@ -1,0 +1,13 @@
+//! Sheets: from the files of a sheet to its types, or to the first rule that they break.
+#![tactic(auto)]
+
+mod files;
+pub mod law;
+mod pending;
+mod sheet;
+
+pub use files::Files;
+pub use sheet::{Counts, Sheet, compile};
+
+#[cfg(test)]
+mod tests;
