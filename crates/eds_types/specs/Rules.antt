@@ -8,9 +8,9 @@ use Rattle.eds_base.specs.Spans.{IsWithin}
 use Rattle.eds_bits.specs.declared.forms.IntForm.{IntForm}
 use Rattle.eds_bits.specs.declared.forms.Encoding.TheVariants.{Unsigned}
 use Rattle.eds_bits.specs.declared.forms.CheckKind.{CheckKind}
-use Rattle.eds_bits.specs.declared.forms.CheckKind.TheVariants.{Checksum, Longitudinal, Crc8, Crc16Ccitt}
 use Rattle.eds_bits.specs.Lists.{Has}
 use Rattle.eds_bits.specs.IntForms.{HasNumber}
+use Rattle.eds_bits.specs.Scalars.{check_bits}
 use Rattle.eds_types.specs.declared.row.TypeRow.{TypeRow}
 use Rattle.eds_types.specs.declared.row.Kind.{Kind}
 use Rattle.eds_types.specs.declared.row.Kind.TheVariants as kind
@@ -140,13 +140,6 @@ pub record IsCounted (t : Table) (list : Placed) (container place : ℕ) : Type 
   pub id : TypeId
   pub before : IsBefore (sequence t list.container) (record { container = container; place = place; part = part.Plain name id }) list
   pub counts : IsInt t id.0 (λ form spans. (n : ℤ) → IsWithin spans n → pos 0 ≤ℤ n)
-
--- how many bits a check has
-abbrev pub check_bits : CheckKind → ℕ
-check_bits Checksum = 8
-check_bits Longitudinal = 8
-check_bits Crc8 = 8
-check_bits Crc16Ccitt = 16
 
 -- an unsigned form of the check's size, with all its numbers (ErrorControl)
 pub record HoldsCheck (check : CheckKind) (form : IntForm) (spans : List Span) : Type 0 where

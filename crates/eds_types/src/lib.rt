@@ -8,6 +8,7 @@ mod row;
 mod sample;
 mod sequence;
 mod sizes;
+pub mod slow;
 mod table;
 mod value;
 

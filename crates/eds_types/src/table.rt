@@ -73,6 +73,13 @@ impl TypeTable {
         &self.rows.as_slice()[id.0 as usize]
     }
 
+    /// The rows, each at the number of its type.
+    pub(crate) fn rows(&self) -> &[TypeRow]
+        ensures { result.now ≡ self.now }
+    {
+        self.rows.as_slice()
+    }
+
     /// The container of a type, None exactly where the type is no container.
     pub fn container_of(&self, id: TypeId) -> Option<&Container>
         ensures { option_copied result ≡ container_of self.now id.0 }

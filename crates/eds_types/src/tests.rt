@@ -1,3 +1,5 @@
+mod slow;
+
 use crate::{Chain, Part, Sequence, TypeTable, sample_table};
 use eds_base::{Memory, TypeId};
 
