@@ -133,7 +133,7 @@ fn push_numbers(domain: &Spans, values: &mut Vec<Value>) -> Result<(), Memory> {
     Ok(())
 }
 
-// Without texts, and those of one character of ASCII.
+// The empty text, and those of one character of ASCII.
 fn push_texts(alloc: Global, values: &mut Vec<Value>) -> Result<(), Memory> {
     values.push(Value::Text(Text::new(alloc)))?;
     for octet in 0..128u8 {

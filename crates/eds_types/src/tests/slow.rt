@@ -1,5 +1,7 @@
 //! The plain program against the forms of numbers, a table of small types, and frames that are known from outside.
 
+ghost use Rattle.std.specs.Prelude.{◌≤◌};
+
 use crate::slow::{Slow, Spelling, bits_of, check_of, is_pattern, is_truth, numbers_of, pattern};
 use crate::{
     Constraint, Constraints, Container, EntryPath, Kind, Listing, Part, Parts, TypeRow, TypeRows,
@@ -50,37 +52,43 @@ fn has_one_number_at_most(rt: &impl Abort, form: IntForm, raw: u64, bits: &[bool
     }
 }
 
+// Tries the patterns of a form: all of at most eight bits, and two of sixteen.
+fn try_patterns(rt: &impl Abort, alloc: Global, form: IntForm) -> Result<(), Fail> {
+    let (least, greatest) = numbers_of(form);
+    assert_eq!(rt; bounds_of(form).least, least, "{form:?}");
+    assert_eq!(rt; bounds_of(form).greatest, greatest, "{form:?}");
+    let size = form.bits as usize;
+    for raw in 0..patterns(size) {
+        if size <= 8 || raw == 0x1234 || raw == 0x9876 {
+            let bits = pattern(alloc, size, raw)?;
+            has_one_number_at_most(rt, form, raw, bits.as_slice());
+        }
+    }
+    Ok(())
+}
+
 #[test]
 fn numbers_and_patterns_are_those_of_the_forms(rt: HostRuntime) -> Result<(), Fail> {
     let alloc = rt.alloc();
     let mut forms = 0u32;
     for encoding in ENCODINGS {
-        for (bits, order, step) in [
-            (1u32, ByteOrder::Big, 1),
-            (2, ByteOrder::Big, 1),
-            (4, ByteOrder::Big, 1),
-            (7, ByteOrder::Big, 1),
-            (8, ByteOrder::Big, 1),
-            (8, ByteOrder::Little, 1),
-            (16, ByteOrder::Big, 9973),
-            (16, ByteOrder::Little, 9973),
+        for (bits, order) in [
+            (1, ByteOrder::Big),
+            (2, ByteOrder::Big),
+            (4, ByteOrder::Big),
+            (7, ByteOrder::Big),
+            (8, ByteOrder::Big),
+            (16, ByteOrder::Big),
+            (16, ByteOrder::Little),
         ] {
             if let Some(form) = IntForm::of(bits, encoding, order) {
                 forms = forms.wrapping_add(1);
-                let (least, greatest) = numbers_of(form);
-                assert_eq!(rt; bounds_of(form).least, least, "{form:?}");
-                assert_eq!(rt; bounds_of(form).greatest, greatest, "{form:?}");
-                let mut raw = 0u64;
-                for _ in 0..patterns(bits as usize) / step {
-                    let bits = pattern(alloc, bits as usize, raw)?;
-                    has_one_number_at_most(&rt, form, raw, bits.as_slice());
-                    raw = raw.wrapping_add(step);
-                }
+                try_patterns(&rt, alloc, form)?;
             }
         }
     }
     // Four binary encodings with all sizes and orders, packed digits from 4 bits on, other digits from 8.
-    assert_eq!(rt; forms, 32 + 5 + 4);
+    assert_eq!(rt; forms, 28 + 4 + 3);
     Ok(())
 }
 
@@ -144,7 +152,8 @@ fn patterns_are_those_of_the_table_of_encodings(rt: HostRuntime) -> Result<(), F
         ),
     ] {
         let bits = bits_of(alloc, octets)?;
-        let form = IntForm::of(bits.len() as u32, encoding, order).ok_or("no form")?;
+        let size = u32::try_from(bits.len())?;
+        let form = IntForm::of(size, encoding, order).ok_or("no form")?;
         assert!(rt; is_pattern(form, number, bits.as_slice()), "{number}");
         assert!(rt; !is_pattern(form, number + 1, bits.as_slice()), "{number}");
     }
@@ -243,202 +252,247 @@ fn entries(alloc: Global, ids: &[u32]) -> Result<Parts, Fail> {
     Ok(parts)
 }
 
-fn push_scalars(alloc: Global, rows: &mut TypeRows) -> Result<(), Fail> {
-    unnamed(
-        alloc,
-        rows,
-        None,
-        integer(alloc, 2, Encoding::Unsigned, 0, 3)?,
-    )?;
-    unnamed(
-        alloc,
-        rows,
-        None,
-        integer(alloc, 3, Encoding::SignMagnitude, -3, 3)?,
-    )?;
-    unnamed(
-        alloc,
-        rows,
-        None,
-        integer(alloc, 3, Encoding::OnesComplement, -3, 3)?,
-    )?;
-    unnamed(
-        alloc,
-        rows,
-        None,
-        integer(alloc, 4, Encoding::PackedBcd, 0, 9)?,
-    )?;
-    unnamed(
-        alloc,
-        rows,
-        None,
-        integer(alloc, 3, Encoding::TwosComplement, -2, 1)?,
-    )?;
-    for zero_is_false in [true, false] {
-        let form = BoolForm {
-            bits: 2,
-            zero_is_false,
-        };
-        unnamed(alloc, rows, None, Kind::Bool(form))?;
+// A text of ASCII of at most one octet.
+fn octet_or_none(fixed: bool, stop: u8) -> TextForm
+    requires { stop ≤ 127 }
+{
+    TextForm {
+        length: 1,
+        fixed,
+        ascii: true,
+        stop,
     }
-    let form = IntForm::of(2, Encoding::Unsigned, ByteOrder::Big).ok_or("no form")?;
-    let mut listing = Listing::new(alloc);
-    listing.push((Text::of(alloc, "LOW")?, 0))?;
-    listing.push((Text::of(alloc, "HIGH")?, 2))?;
-    unnamed(alloc, rows, None, Kind::Enum(form, listing))?;
-    for (fixed, stop) in [(true, 0), (false, 13)] {
-        let form = TextForm {
-            length: 1,
-            fixed,
-            ascii: true,
-            stop,
-        };
-        unnamed(alloc, rows, None, Kind::Str(form))?;
-    }
-    unnamed(alloc, rows, None, Kind::Bin(3))?;
-    unnamed(alloc, rows, None, Kind::Arr(TypeId(0), 2))
 }
 
-// A family of three, which an entry tells apart; and a container with an entry of that family, from which one derives
-// that holds the second of the three.
-fn push_families(alloc: Global, rows: &mut TypeRows) -> Result<(), Fail> {
-    let mut trailers = Parts::new(alloc);
-    trailers.push(Part::Pad(1))?;
-    let base = container(alloc, false, entries(alloc, &[0])?, trailers);
-    unnamed(alloc, rows, None, base)?;
-    let one = told_apart(alloc, &[(12, 0)], 1, 1, entries(alloc, &[5])?)?;
-    unnamed(alloc, rows, Some(12), one)?;
-    let two = told_apart(alloc, &[(12, 0)], 2, 3, entries(alloc, &[1])?)?;
-    unnamed(alloc, rows, Some(12), two)?;
-    let holder = container(alloc, false, entries(alloc, &[12])?, Parts::new(alloc));
-    unnamed(alloc, rows, None, holder)?;
-    let derived = told_apart(alloc, &[(15, 0)], 13, 13, entries(alloc, &[23])?)?;
-    unnamed(alloc, rows, Some(15), derived)?;
-    let hidden = container(alloc, true, entries(alloc, &[12])?, Parts::new(alloc));
-    unnamed(alloc, rows, None, hidden)?;
-    let deep = told_apart(alloc, &[(17, 0), (12, 0)], 0, 1, entries(alloc, &[])?)?;
-    unnamed(alloc, rows, Some(17), deep)
+// Integers of some sizes and encodings, with the numbers from one to another.
+fn push_integers(
+    alloc: Global,
+    rows: &mut TypeRows,
+    integers: &[(u32, Encoding, i128, i128)],
+) -> Result<(), Fail> {
+    for (bits, encoding, low, high) in integers {
+        let kind = integer(alloc, *bits, *encoding, *low, *high)?;
+        unnamed(alloc, rows, None, kind)?;
+    }
+    Ok(())
 }
 
-// A list and its count; a fixed value with two spellings and a length entry; and a check.
-fn push_others(alloc: Global, rows: &mut TypeRows) -> Result<(), Fail> {
-    let mut list = entries(alloc, &[0])?;
-    list.push(Part::List(Text::new(alloc), TypeId(23), TypeId(19), 0))?;
-    unnamed(
-        alloc,
-        rows,
-        None,
-        container(alloc, false, list, Parts::new(alloc)),
-    )?;
-    let mut sized = Parts::new(alloc);
-    sized.push(Part::Fixed(None, TypeId(1), Value::Num(0)))?;
-    sized.push(Part::Plain(Text::new(alloc), TypeId(7)))?;
-    sized.push(Part::Length(Text::new(alloc), TypeId(0), -1, 1))?;
-    unnamed(
-        alloc,
-        rows,
-        None,
-        container(alloc, false, sized, Parts::new(alloc)),
-    )?;
-    let mut trailers = Parts::new(alloc);
-    trailers.push(Part::Check(Text::new(alloc), TypeId(22), CheckKind::Checksum))?;
-    unnamed(
-        alloc,
-        rows,
-        None,
-        container(alloc, false, entries(alloc, &[0])?, trailers),
-    )?;
-    unnamed(
-        alloc,
-        rows,
-        None,
-        integer(alloc, 8, Encoding::Unsigned, 0, 255)?,
-    )?;
+fn push_truth(
+    alloc: Global,
+    rows: &mut TypeRows,
+    bits: u32,
+    zero_is_false: bool,
+) -> Result<(), Fail>
+    requires some { 1 ≤ bits }
+    requires few { bits ≤ 64 }
+{
     let form = BoolForm {
-        bits: 1,
-        zero_is_false: true,
+        bits,
+        zero_is_false,
     };
     unnamed(alloc, rows, None, Kind::Bool(form))
 }
 
+fn push_labels(alloc: Global, rows: &mut TypeRows) -> Result<(), Fail> {
+    let form = IntForm::of(2, Encoding::Unsigned, ByteOrder::Big).ok_or("no form")?;
+    let mut listing = Listing::new(alloc);
+    for (name, number) in [("LOW", 0), ("HIGH", 2)] {
+        let label = Text::of(alloc, name)?;
+        listing.push((label, number))?;
+    }
+    unnamed(alloc, rows, None, Kind::Enum(form, listing))
+}
+
+// Two truth values, labels, texts, a binary and an array.
+fn push_scalars(alloc: Global, rows: &mut TypeRows) -> Result<(), Fail> {
+    push_truth(alloc, rows, 2, true)?;
+    push_truth(alloc, rows, 2, false)?;
+    push_labels(alloc, rows)?;
+    unnamed(alloc, rows, None, Kind::Str(octet_or_none(true, 0)))?;
+    unnamed(alloc, rows, None, Kind::Str(octet_or_none(false, 13)))?;
+    unnamed(alloc, rows, None, Kind::Bin(3))?;
+    unnamed(alloc, rows, None, Kind::Arr(TypeId(0), 2))
+}
+
+// A container of some entries.
+fn push_holder(alloc: Global, rows: &mut TypeRows, hidden: bool, ids: &[u32]) -> Result<(), Fail> {
+    let parts = entries(alloc, ids)?;
+    let kind = container(alloc, hidden, parts, Parts::new(alloc));
+    unnamed(alloc, rows, None, kind)
+}
+
+// A container that derives from another one, where the number on the path is one from low to high.
+fn push_derived(
+    alloc: Global,
+    rows: &mut TypeRows,
+    path: &[(u32, u16)],
+    low: u32,
+    high: u32,
+    ids: &[u32],
+) -> Result<(), Fail> {
+    let base = path.first().map(|name| name.0);
+    let parts = entries(alloc, ids)?;
+    let kind = told_apart(alloc, path, low, high, parts)?;
+    unnamed(alloc, rows, base, kind)
+}
+
+// A number and, behind all that derives from it, a bit of padding.
+fn push_padded(alloc: Global, rows: &mut TypeRows) -> Result<(), Fail> {
+    let mut trailers = Parts::new(alloc);
+    trailers.push(Part::Pad(1))?;
+    let parts = entries(alloc, &[0])?;
+    let kind = container(alloc, false, parts, trailers);
+    unnamed(alloc, rows, None, kind)
+}
+
+// A family of three, which an entry tells apart; a container with an entry of that family, from which one derives that
+// holds the second of the three; and an abstract one, from which one derives that holds one of the first two.
+fn push_families(alloc: Global, rows: &mut TypeRows) -> Result<(), Fail> {
+    push_padded(alloc, rows)?;
+    push_derived(alloc, rows, &[(12, 0)], 1, 1, &[5])?;
+    push_derived(alloc, rows, &[(12, 0)], 2, 3, &[1])?;
+    push_holder(alloc, rows, false, &[12])?;
+    push_derived(alloc, rows, &[(15, 0)], 13, 13, &[23])?;
+    push_holder(alloc, rows, true, &[12])?;
+    push_derived(alloc, rows, &[(17, 0), (12, 0)], 0, 1, &[])
+}
+
+// A list and its count.
+fn push_list(alloc: Global, rows: &mut TypeRows) -> Result<(), Fail> {
+    let mut parts = entries(alloc, &[0])?;
+    parts.push(Part::List(Text::new(alloc), TypeId(23), TypeId(19), 0))?;
+    let kind = container(alloc, false, parts, Parts::new(alloc));
+    unnamed(alloc, rows, None, kind)
+}
+
+// A fixed value with two spellings, a label, and a length entry.
+fn push_sized(alloc: Global, rows: &mut TypeRows) -> Result<(), Fail> {
+    let mut parts = Parts::new(alloc);
+    parts.push(Part::Fixed(None, TypeId(1), Value::Num(0)))?;
+    parts.push(Part::Plain(Text::new(alloc), TypeId(7)))?;
+    parts.push(Part::Length(Text::new(alloc), TypeId(0), -1, 1))?;
+    let kind = container(alloc, false, parts, Parts::new(alloc));
+    unnamed(alloc, rows, None, kind)
+}
+
+// A number and its check.
+fn push_checked(alloc: Global, rows: &mut TypeRows) -> Result<(), Fail> {
+    let mut trailers = Parts::new(alloc);
+    trailers.push(Part::Check(Text::new(alloc), TypeId(22), CheckKind::Checksum))?;
+    let parts = entries(alloc, &[0])?;
+    let kind = container(alloc, false, parts, trailers);
+    unnamed(alloc, rows, None, kind)
+}
+
 fn small_rows(alloc: Global) -> Result<TypeRows, Fail> {
     let mut rows = TypeRows::new(alloc);
+    let integers = [
+        (2, Encoding::Unsigned, 0, 3),
+        (3, Encoding::SignMagnitude, -3, 3),
+        (3, Encoding::OnesComplement, -3, 3),
+        (4, Encoding::PackedBcd, 0, 9),
+        (3, Encoding::TwosComplement, -2, 1),
+    ];
+    push_integers(alloc, &mut rows, &integers)?;
     push_scalars(alloc, &mut rows)?;
     push_families(alloc, &mut rows)?;
-    push_others(alloc, &mut rows)?;
+    push_list(alloc, &mut rows)?;
+    push_sized(alloc, &mut rows)?;
+    push_checked(alloc, &mut rows)?;
+    push_integers(alloc, &mut rows, &[(8, Encoding::Unsigned, 0, 255)])?;
+    push_truth(alloc, &mut rows, 1, true)?;
     Ok(rows)
 }
 
-// How many bit strings of at most so many bits spell a value of the type: each spells one at most.
-fn spelled(
-    rt: &impl Abort,
-    slow: &Slow,
-    alloc: Global,
-    id: TypeId,
-    most: usize,
-) -> Result<u64, Fail> {
-    let values = slow.values(id)?;
-    let mut count = 0u64;
-    for size in 0..most.wrapping_add(1) {
-        for number in 0..patterns(size) {
-            let bits = pattern(alloc, size, number)?;
-            let mut is_spelled = false;
-            for value in values.iter() {
-                if slow.spells(id, value, bits.as_slice())? {
-                    assert!(rt; !is_spelled, "{id:?} {size} {number}");
-                    is_spelled = true;
-                }
-            }
-            if is_spelled {
-                count = count.wrapping_add(1);
-            }
-        }
-    }
-    Ok(count)
+// What was seen of a value: the size of its spellings, and how many of them are canonical.
+#[derive(Clone, Copy)]
+struct Seen {
+    size: Option<usize>,
+    canonical: u32,
 }
 
-// How many bit strings of at most so many bits spell the value: all have one size.
-fn spellings_of(
+// Notes that the bits spell a value; all spellings of a value have one size.
+fn note(
     rt: &impl Abort,
-    slow: &Slow,
-    alloc: Global,
+    canonical: &Slow,
     id: TypeId,
     value: &Value,
-    most: usize,
+    bits: &[bool],
+    seen: &mut Seen,
+) -> Result<(), Fail> {
+    assert!(rt;
+        seen.size.is_none() || seen.size == Some(bits.len()),
+        "{id:?}"
+    );
+    seen.size = Some(bits.len());
+    if canonical.spells(id, value, bits)? {
+        seen.canonical = seen.canonical.wrapping_add(1);
+    }
+    Ok(())
+}
+
+// How many of the values the bits spell, and notes them.
+fn spelled_by(
+    rt: &impl Abort,
+    rows: &[TypeRow],
+    alloc: Global,
+    id: TypeId,
+    bits: &[bool],
+    values: &[Value],
+    seen: &mut [Seen],
 ) -> Result<u64, Fail> {
+    let any = Slow::of_rows(alloc, rows, Spelling::Any);
+    let canonical = Slow::of_rows(alloc, rows, Spelling::Canonical);
     let mut count = 0u64;
-    let mut first = None;
-    for size in 0..most.wrapping_add(1) {
-        for number in 0..patterns(size) {
-            let bits = pattern(alloc, size, number)?;
-            if slow.spells(id, value, bits.as_slice())? {
-                assert!(rt; first.is_none() || first == Some(size), "{id:?} {size}");
-                first = Some(size);
-                count = count.wrapping_add(1);
+    for (place, value) in values.iter().enumerate() {
+        if any.spells(id, value, bits)? {
+            count = count.wrapping_add(1);
+            if let Some(one) = seen.get_mut(place) {
+                note(rt, &canonical, id, value, bits, one)?;
             }
         }
     }
     Ok(count)
 }
 
-// Each value of the type that is spelled has one canonical spelling, and no other value has any.
-fn spelled_values(
+// How many values of the type are spelled by at most so many bits, and how many strings of bits spell one. Each string
+// spells one value at most, and each value that is spelled has one canonical spelling.
+fn census(
     rt: &impl Abort,
     rows: &[TypeRow],
     alloc: Global,
     id: TypeId,
     most: usize,
-) -> Result<u64, Fail> {
-    let any = Slow::of_rows(alloc, rows, Spelling::Any);
-    let canonical = Slow::of_rows(alloc, rows, Spelling::Canonical);
-    let mut count = 0u64;
-    for value in any.values(id)?.iter() {
-        let all = spellings_of(rt, &any, alloc, id, value, most)?;
-        let one = spellings_of(rt, &canonical, alloc, id, value, most)?;
-        assert_eq!(rt; one, all.min(1), "{id:?}");
-        count = count.wrapping_add(one);
+) -> Result<(u64, u64), Fail> {
+    let values = Slow::of_rows(alloc, rows, Spelling::Any).values(id)?;
+    let none = Seen {
+        size: None,
+        canonical: 0,
+    };
+    let mut seen = vec![in alloc; none; values.len()]?;
+    let mut strings = 0u64;
+    for size in 0..most.wrapping_add(1) {
+        for number in 0..patterns(size) {
+            let bits = pattern(alloc, size, number)?;
+            let count = spelled_by(
+                rt,
+                rows,
+                alloc,
+                id,
+                bits.as_slice(),
+                values.as_slice(),
+                &mut seen,
+            )?;
+            assert!(rt; count <= 1, "{id:?} {size} {number}");
+            strings = strings.wrapping_add(count);
+        }
     }
-    Ok(count)
+    let mut spelled = 0u64;
+    for one in seen.iter() {
+        assert_eq!(rt; one.canonical == 1, one.size.is_some(), "{id:?}");
+        spelled = spelled.wrapping_add(u64::from(one.canonical));
+    }
+    Ok((spelled, strings))
 }
 
 #[test]
@@ -474,11 +528,8 @@ fn bits_spell_one_value_at_most_and_values_have_one_canonical_spelling(
         (20, 8, 2, 4),
         (21, 10, 4, 4),
     ] {
-        let id = TypeId(id);
-        let any = Slow::of_rows(alloc, rows.as_slice(), Spelling::Any);
-        assert_eq!(rt; spelled(&rt, &any, alloc, id, most)?, strings, "{id:?}");
-        let found = spelled_values(&rt, rows.as_slice(), alloc, id, most)?;
-        assert_eq!(rt; found, values, "{id:?}");
+        let found = census(&rt, rows.as_slice(), alloc, TypeId(id), most)?;
+        assert_eq!(rt; found, (values, strings), "{id}");
     }
     Ok(())
 }
@@ -570,75 +621,73 @@ fn frame(
     Ok(any)
 }
 
+#[derive(Clone, Copy, Debug, PartialEq, Eq)]
+enum Known {
+    // packets of the application 291 and of another one, and one that is no more than the packet
+    Housekeeping,
+    Other,
+    Hidden,
+    // of a container that derives from another one, with trailers
+    Derived,
+    Checked,
+    // a list of three items, and one that has two in place of three
+    Three,
+    Two,
+}
+
+fn value_of(alloc: Global, which: Known) -> Result<Value, Fail> {
+    match which {
+        Known::Housekeeping => packet(alloc, 7, 291, &[5, 48879]),
+        Known::Other => packet(alloc, 7, 292, &[5, 48879]),
+        Known::Hidden => packet(alloc, 6, 291, &[5]),
+        Known::Derived => fields(alloc, 12, &[1, 2, 3, 4]),
+        Known::Checked => text(alloc, 10, "123456789"),
+        Known::Three => list(alloc, 3, &[10, 11, 12]),
+        Known::Two => list(alloc, 3, &[10, 11]),
+    }
+}
+
+const PACKET: &[u8] = &[0x01, 0x23, 0xC0, 0x05, 0x00, 0x01, 0xBE, 0xEF];
+
+// seven octets and two more are not eight
+const LONGER: &[u8] = &[0x01, 0x23, 0xC0, 0x05, 0x00, 0x02, 0xBE, 0xEF];
+
+// the application is one whose packets no container describes
+const STRANGE: &[u8] = &[0x01, 0x24, 0xC0, 0x05, 0x00, 0x01, 0xBE, 0xEF];
+
+// three items of four bits, and four bits that are left
+const ITEMS: &[u8] = &[0x03, 0xAB, 0xC0];
+
 #[test]
 fn known_frames_spell_the_known_values(rt: HostRuntime) -> Result<(), Fail> {
     let alloc = rt.alloc();
     let table = sample_table(alloc)?;
-    let housekeeping = packet(alloc, 7, 291, &[5, 48879])?;
-    let other = packet(alloc, 7, 292, &[5, 48879])?;
-    let hidden = packet(alloc, 6, 291, &[5])?;
-    let derived = fields(alloc, 12, &[1, 2, 3, 4])?;
-    let checked = text(alloc, 10, "123456789")?;
-    let three = list(alloc, 3, &[10, 11, 12])?;
-    let two = list(alloc, 3, &[10, 11])?;
-    for (id, value, octets, left, spells) in [
+    for (id, which, octets, left, spells) in [
+        (6, Known::Housekeeping, PACKET, 0, true),
+        (7, Known::Housekeeping, PACKET, 0, true),
+        (6, Known::Housekeeping, LONGER, 0, false),
+        (6, Known::Other, STRANGE, 0, false),
+        (7, Known::Other, STRANGE, 0, false),
         (
             6,
-            &housekeeping,
-            [0x01u8, 0x23, 0xC0, 0x05, 0x00, 0x01, 0xBE, 0xEF].as_slice(),
-            0,
-            true,
-        ),
-        (
-            7,
-            &housekeeping,
-            [0x01, 0x23, 0xC0, 0x05, 0x00, 0x01, 0xBE, 0xEF].as_slice(),
-            0,
-            true,
-        ),
-        // seven octets and two more are not eight
-        (
-            6,
-            &housekeeping,
-            [0x01, 0x23, 0xC0, 0x05, 0x00, 0x02, 0xBE, 0xEF].as_slice(),
+            Known::Hidden,
+            &[0x01, 0x23, 0xC0, 0x05, 0x00, 0x00],
             0,
             false,
         ),
-        // the application is another one, whose packets no container describes
-        (
-            6,
-            &other,
-            [0x01, 0x24, 0xC0, 0x05, 0x00, 0x01, 0xBE, 0xEF].as_slice(),
-            0,
-            false,
-        ),
-        (
-            7,
-            &other,
-            [0x01, 0x24, 0xC0, 0x05, 0x00, 0x01, 0xBE, 0xEF].as_slice(),
-            0,
-            false,
-        ),
-        (
-            6,
-            &hidden,
-            [0x01, 0x23, 0xC0, 0x05, 0x00, 0x00].as_slice(),
-            0,
-            false,
-        ),
-        (6, &housekeeping, [].as_slice(), 0, false),
+        (6, Known::Housekeeping, &[], 0, false),
         // the trailer of the derived container comes before that of its base
-        (11, &derived, [1, 2, 3, 4].as_slice(), 0, true),
-        (11, &derived, [1, 2, 4, 3].as_slice(), 0, false),
-        (10, &checked, b"123456789\x29\xB1".as_slice(), 0, true),
-        (10, &checked, b"123456789\x29\xB2".as_slice(), 0, false),
-        // three items of four bits, and four bits that are left
-        (14, &three, [0x03, 0xAB, 0xC0].as_slice(), 4, true),
-        (14, &three, [0x03, 0xAB, 0xC0].as_slice(), 0, false),
-        (14, &two, [0x03, 0xAB].as_slice(), 0, false),
+        (11, Known::Derived, &[1, 2, 3, 4], 0, true),
+        (11, Known::Derived, &[1, 2, 4, 3], 0, false),
+        (10, Known::Checked, b"123456789\x29\xB1", 0, true),
+        (10, Known::Checked, b"123456789\x29\xB2", 0, false),
+        (14, Known::Three, ITEMS, 4, true),
+        (14, Known::Three, ITEMS, 0, false),
+        (14, Known::Two, &[0x03, 0xAB], 0, false),
     ] {
-        let found = frame(&rt, table.rows(), alloc, id, value, octets, left)?;
-        assert_eq!(rt; found, spells, "{id} {octets:?}");
+        let value = value_of(alloc, which)?;
+        let found = frame(&rt, table.rows(), alloc, id, &value, octets, left)?;
+        assert_eq!(rt; found, spells, "{id} {which:?} {octets:?}");
     }
     Ok(())
 }
@@ -686,16 +735,12 @@ fn a_table_has_the_same_chains_sequences_and_least_sizes(rt: HostRuntime) -> Res
             assert_eq!(rt; placed.place, place.1 as usize, "{number}");
         }
     }
-    for (id, bits) in [(0u32, 3usize), (1, 1), (5, 2), (13, 4)] {
-        assert_eq!(rt; table.min_bits(TypeId(id)) as usize, bits);
-        assert_eq!(rt;
-            spelled(&rt, &slow, alloc, TypeId(id), bits.saturating_sub(1))?,
-            0
-        );
-        assert_eq!(rt;
-            spelled(&rt, &slow, alloc, TypeId(id), bits)?,
-            patterns(bits)
-        );
+    for (id, bits) in [(0, 3), (1, 1), (5, 2), (13, 4)] {
+        assert_eq!(rt; table.min_bits(TypeId(id)) as usize, bits, "{id}");
+        let found = census(&rt, table.rows(), alloc, TypeId(id), bits)?;
+        assert_eq!(rt; found, (patterns(bits), patterns(bits)), "{id}");
+        let shorter = census(&rt, table.rows(), alloc, TypeId(id), bits.saturating_sub(1))?;
+        assert_eq!(rt; shorter, (0, 0), "{id}");
     }
     Ok(())
 }
