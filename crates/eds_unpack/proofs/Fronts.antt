@@ -1,5 +1,5 @@
 -- What the reading function gives is the one value that the bits begin with, or the one fault.
-use Rattle.std.proofs.Common.{◌≡◌, ℕ, ◌+◌, ◌-◌, ◌<◌, ◌≤◌, List, ◌++◌, length, take, Result, Ok, Err, refl, sym, ap, subst, ◌∙◌, arith}
+use Rattle.std.proofs.Common.{◌≡◌, ℕ, ◌+◌, ◌-◌, ◌<◌, ◌≤◌, List, [], ◌∷◌, ◌++◌, length, take, Result, Ok, Err, refl, sym, ap, subst, ◌∙◌, arith}
 use Rattle.std.specs.Prelude.{IfOk}
 use Rattle.std.proofs.lemmas.List.{length-append}
 use Rattle.eds_base.specs.declared.fail.Fail.{Fail}
@@ -15,7 +15,7 @@ use Rattle.eds_types.specs.Reading.{Read}
 use Rattle.eds_types.specs.Rows.{Table}
 use Rattle.eds_types.specs.Rules.{KeepsRules}
 use Rattle.eds_types.specs.Spelling.{Spells}
-use Rattle.eds_types.proofs.ExactReading.{err_is, ok_err, same_ok}
+use Rattle.eds_types.proofs.ExactReading.{done, failed, err_is, ok_err, same_ok}
 use Rattle.eds_unpack.specs.Answers.{where_of, Stops, Gives, StopWithin, FaultWithin, IsOfReading, IsMemory, IsValue, StopsAt, IsFault, IfNamed, IfFault, sized}
 use Rattle.eds_unpack.proofs.FlatContainers.{flat_clear}
 
@@ -51,15 +51,17 @@ module _ (law : ReadingIsExact) (t : Table) (id : ℕ) (is : IsReadable t id) (b
   is_sized v n e = go (read_type t id b) refl e
     where
       go : (r : Read Plain) → read_type t id b ≡ r → sized b r ≡ Ok (v, n) → IsSized v n
-      go (Err g) p e = absurd cc
-      go (Ok x) p e = let q : x.0 ≡ v = cc in let s : length b - length x.1 ≡ n = cc in record { rest = x.1; read = p ∙ ap (λ w. Ok (w, x.1)) q; size = sym s }
+      go (Err g) p e = absurd (ok_err (sized b (Err g)) (v, n) g e refl)
+      go (Ok x) p e =
+          let q = same_ok (sized b (Ok x)) (x.0, length b - length x.1) (v, n) refl e in
+          record { rest = x.1; read = p ∙ ap (λ w. done (w, x.1)) (ap (λ y. y.0) q); size = sym (ap (λ y. y.1) q) }
 
   sized_err : (g : Where) → sized b (read_type t id b) ≡ Err g → read_type t id b ≡ Err g
   sized_err g e = go (read_type t id b) refl e
     where
       go : (r : Read Plain) → read_type t id b ≡ r → sized b r ≡ Err g → read_type t id b ≡ Err g
-      go (Err h) p e = p ∙ e
-      go (Ok x) p e = absurd cc
+      go (Err h) p e = p ∙ ap (failed (Plain × Bits)) (err_is (Plain × ℕ) h g e)
+      go (Ok x) p e = absurd (ok_err (sized b (Ok x)) (x.0, length b - length x.1) g refl e)
 
   spelled : (v : Plain) (n : ℕ) → IsSized v n → (n ≤ length b) × Spells t id v (take n b)
   spelled v n s =

@@ -7,4 +7,3 @@ mod scalar;
 mod whole;
 
 pub use whole::unpack;
-

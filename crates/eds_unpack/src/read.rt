@@ -81,7 +81,15 @@ fn read_container(
     ensures near { FaultWithin (depth + 1) result }
 {
     let mut values = Vec::new(alloc);
-    read_all(alloc, table, depth, id, table.entries_of(id), &mut values, reader)?;
+    read_all(
+        alloc,
+        table,
+        depth,
+        id,
+        table.entries_of(id),
+        &mut values,
+        reader,
+    )?;
     Ok(Value::Fields(id, values))
 }
 

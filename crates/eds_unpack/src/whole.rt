@@ -29,7 +29,7 @@ fn read_front(
 ) -> Result<(Value, u32), Fail<Fault>>
     requires known { id.0 < length table.now }
     requires flat { IsFlatTable table.now }
-    requires most { length (view_bits view.entry) ≤ 524288 }
+    requires most { length (view_bits view) ≤ 524288 }
     ensures gives { Gives (λ x. (plain x.0, x.1)) result (sized (view_bits view.entry) (read_type table.now id.0 (view_bits view.entry))) }
     ensures near { FaultWithin 32 result }
 {
@@ -52,7 +52,7 @@ pub fn unpack(
 ) -> Result<(Value, u32), Fail<Fault>>
     requires known { id.0 < length table.now }
     requires flat { IsFlatTable table.now }
-    requires most { length (view_bits view.entry) ≤ 524288 }
+    requires most { length (view_bits view) ≤ 524288 }
     ensures size { IfOk result (λ x. x.1 ≤ length (view_bits view.entry)) }
     ensures value { IfOk result (λ x. Spells table.now id.0 (plain x.0) (take x.1 (view_bits view.entry))) }
     ensures only_value { (v : Plain) (c rest : Bits) → view_bits view.entry ≡ c ++ rest → Spells table.now id.0 v c → IsValue v (length c) result }
