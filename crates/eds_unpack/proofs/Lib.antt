@@ -3,3 +3,4 @@ pub mod Numbers
 pub mod Labels
 pub mod FlatContainers
 pub mod Fronts
+pub mod FlatSampleKeeps

@@ -7,3 +7,6 @@ mod scalar;
 mod whole;
 
 pub use whole::unpack;
+
+#[cfg(test)]
+mod tests;

@@ -81,7 +81,7 @@ fn read_container(
     ensures near { FaultWithin (depth + 1) result }
 {
     let mut values = Vec::new(alloc);
-    read_all(
+    read_entries(
         alloc,
         table,
         depth,
@@ -95,7 +95,7 @@ fn read_container(
 
 /// Reads the entries of a container, and puts their values last.
 #[cycle(read)]
-fn read_all(
+fn read_entries(
     alloc: Global,
     table: &TypeTable,
     depth: u32,

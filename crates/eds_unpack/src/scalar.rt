@@ -7,8 +7,7 @@ ghost use Rattle.eds_bits.specs.IntForms.{number_of};
 ghost use Rattle.eds_bits.specs.Reader.{bits_left};
 ghost use Rattle.eds_types.specs.Fields.{listed};
 ghost use Rattle.eds_types.specs.Plain.{plain, truth};
-ghost use Rattle.eds_types.specs.Reading as reading;
-ghost use Rattle.eds_types.specs.Reading.{judge, read_bits, ranged, named, truth_of};
+ghost use Rattle.eds_types.specs.Reading.{judge, read_bits, ranged, named, label_of, truth_of};
 ghost use Rattle.eds_unpack.specs.Answers.{Gives, FaultWithin};
 ghost use Rattle.eds_unpack.specs.Entries.{read_number};
 
@@ -53,7 +52,7 @@ pub(crate) fn read_integer(
 /// The label that is listed with a number, where each label is listed once.
 fn label_of(listing: &Listing, number: i128) -> Option<&Text>
     requires { AllByRecursion (λ e. listed listing.now e.0 ≡ Some e.1) listing.now }
-    ensures { option_copied result ≡ reading.label_of listing.now listing.now number }
+    ensures { option_copied result ≡ label_of listing.now listing.now number }
 {
     let mut rest = listing.as_slice();
     while let [(label, n), after @ ..] = rest {
