@@ -1,5 +1,5 @@
 -- A flat container is read by its entries alone, and no two containers of a flat table overlap.
-use Rattle.std.proofs.Common.{◌≡◌, ℕ, zero, suc, ◌+◌, ◌-◌, ℤ, Bool, true, false, cond, List, [], ◌∷◌, ◌++◌, length, map, reverse, Option, Some, None, Result, Ok, Err, refl, sym, ap, subst, ◌∙◌, append-nil, arith}
+use Rattle.std.proofs.Common.{◌≡◌, ℕ, zero, suc, ◌+◌, ◌-◌, ℤ, true, cond, List, [], ◌∷◌, ◌++◌, length, reverse, Option, Some, None, Result, Ok, Err, refl, sym, ap, subst, ◌∙◌, arith}
 use Rattle.std.specs.Prelude.{slice_get, not}
 use Rattle.std.specs.List.{AllByRecursion, flat_map}
 use Rattle.std.proofs.lemmas.List.{length-append}
@@ -15,15 +15,15 @@ use Rattle.eds_types.specs.declared.row.Part.{Part}
 use Rattle.eds_types.specs.declared.row.Part.TheVariants as part
 use Rattle.eds_types.specs.FlatTables.{IsScalarEntry, IsFlat, IsFlatKind, IsFlatTable}
 use Rattle.eds_types.specs.Failing.{Where, here, course, length_step}
-use Rattle.eds_types.specs.Fields.{Field, values_of, IsCandidate}
-use Rattle.eds_types.specs.Overlap.{Overlapping, IsClear}
-use Rattle.eds_types.specs.Plain.{Plain, fields, plains_of}
-use Rattle.eds_types.specs.Reading.{Read, Ends, ◌>>=◌, inside, advance, front, read_parts, read_chain, read_own, read_under, read_to_end, go_on, ended, finish, read_kind, read_row, read_within, next, next_of, stay, nowhere, size_fits, candidate_under, check_all}
-use Rattle.eds_types.specs.Rows.{Table, id_of, base_of, container_of, container_in, container_by, entries_of, trailers_of, trailers_in, entries_in, constraints_of, is_concrete, concrete_in, chain, chain_before, chain_within, Placed, placed_from, placed_entries, placed_trailers}
+use Rattle.eds_types.specs.Fields.{Field, values_of}
+use Rattle.eds_types.specs.Overlap.{IsClear}
+use Rattle.eds_types.specs.Plain.{Plain}
+use Rattle.eds_types.specs.Reading.{Read, ◌>>=◌, inside, advance, front, read_parts, read_chain, read_own, read_under, read_to_end, go_on, ended, finish, read_kind, read_row, read_within, next, next_of, stay, nowhere, size_fits, candidate_under, check_all}
+use Rattle.eds_types.specs.Rows.{Table, id_of, base_of, container_of, container_in, container_by, entries_of, trailers_of, trailers_in, entries_in, is_concrete, concrete_in, chain, chain_before, chain_within, Placed, placed_from, placed_entries, placed_trailers}
 use Rattle.eds_types.specs.Rules.{KeepsRules}
 use Rattle.eds_types.specs.Spelling.{State, started, took}
 use Rattle.eds_types.proofs.ReadingTests.{found_is}
-use Rattle.eds_unpack.specs.Entries.{Course, entry_type, entry_step, read_entries, as_fields, read_flat}
+use Rattle.eds_unpack.specs.Entries.{Course, read_entries, as_fields, read_flat}
 
 -- ---- what flat tables are like
 

@@ -1,27 +1,28 @@
 -- The small flat table keeps the rules, and is flat.
-use Rattle.std.proofs.Common.{◌≡◌, ℕ, zero, suc, ◌+◌, ◌-◌, ◌^◌, ◌<◌, ◌≤◌, ◌==◌, ℤ, pos, ◌≤ℤ◌, Bool, true, false, cond, List, [], ◌∷◌, ◌++◌, map, length, filter, slice_get, Option, Some, None, refl, sym, ap, subst, ◌∙◌, arith, lit<, lit≤, int_eq}
-use Rattle.std.specs.Prelude.{codes}
+use Rattle.std.proofs.Common.{◌≡◌, ℕ, suc, ◌-◌, ◌^◌, ◌<◌, ◌≤◌, ◌==◌, ℤ, pos, ◌≤ℤ◌, Bool, true, false, cond, List, [], ◌++◌, map, length, filter, slice_get, Option, Some, None, Result, Ok, Err, IfOk, refl, sym, ap, subst, ◌∙◌, arith, lit<, lit≤, int_eq}
 use Rattle.std.specs.List.{AllByRecursion, filter_map}
+use Rattle.std.specs.Int.Signed.{≤ℤ_refl}
 use Rattle.std.specs.Cmp.Lexicographic.{bytes_decides}
 use Rattle.std.proofs.lemmas.Bool.Decides.{Decides-int_eq}
+use Rattle.std.proofs.lemmas.Int.{ints}
 use Rattle.eds_base.specs.declared.spans.Span.{Span}
 use Rattle.eds_base.specs.Reading.{same as same_text}
 use Rattle.eds_bits.specs.declared.forms.BoolForm.{BoolForm}
 use Rattle.eds_bits.specs.declared.forms.IntForm.{IntForm}
 use Rattle.eds_bits.specs.declared.forms.Encoding.TheVariants.{Unsigned}
 use Rattle.eds_bits.specs.Encodings.{least_by, greatest_by}
-use Rattle.eds_bits.specs.IntForms.{HasNumber}
+use Rattle.eds_bits.specs.IntForms.{least, greatest, HasNumber}
 use Rattle.eds_types.specs.declared.row.TypeRow.{TypeRow}
 use Rattle.eds_types.specs.declared.row.Constraint.{Constraint}
 use Rattle.eds_types.specs.declared.row.Kind.{Kind}
 use Rattle.eds_types.specs.declared.row.Kind.TheVariants as kind
 use Rattle.eds_types.specs.Fields.{type_by}
 use Rattle.eds_types.specs.FlatTables.{IsFlatKind, IsFlatTable}
-use Rattle.eds_types.specs.Rows.{Table, base_in, base_of, container_in, entries_in, trailers_in, constraints_in, constraints_of, own_parts, Placed, placed_from, sequence, chain, chain_within, list_has, derived}
-use Rattle.eds_types.specs.Rules.{IsIntBy, IsDomain, IsListing, KindKeeps, HasKind, IsContainer, IsHollow, DerivesFrom, IsNested, ItemsNest, PartKeeps, name_of, is_length, ConstraintKeeps, SequenceKeeps, AreDistinct, KeepsRules}
-use Rattle.eds_types.specs.Sample.{flag_labels}
-use Rattle.eds_types.proofs.ByRows.{AllFrom, by_row, by_number, distinct, distinct_is, derived-le, none_hollow, not_hollow, sequence_past}
-use Rattle.eds_unpack.specs.FlatSample.{flat_sample, IsSample}
+use Rattle.eds_types.specs.Rows.{Table, base_in, base_of, container_in, entries_in, trailers_in, constraints_in, constraints_of, own_parts, Placed, placed_from, sequence, chain_within, derived}
+use Rattle.eds_types.specs.Rules.{IsIntBy, IsDomain, IsListing, KindKeeps, HasKind, IsContainer, IsHollow, DerivesFrom, IsNested, ItemsNest, PartKeeps, name_of, is_length, ConstraintKeeps, SequenceKeeps, KeepsRules}
+use Rattle.eds_types.specs.Sample.{IsRange, flag_labels}
+use Rattle.eds_types.proofs.ByRows.{by_row, by_number, distinct, distinct_is, derived-le, none_hollow, not_hollow, sequence_past}
+use Rattle.eds_unpack.specs.FlatSample.{first_rows, next_rows, last_rows, flat_sample, IsSample}
 
 infixr 20 ◌⊗◌
 ◌⊗◌ : {A B : Type 0} → A → B → A × B
@@ -62,6 +63,13 @@ is_listing form e u = record {
       from_least = subst (λ x. least_by x form.bits ≤ℤ pos n) (sym u) lo;
       to_greatest = subst (λ x. pos n ≤ℤ greatest_by x form.bits) (sym u) (subst (λ b. pos n ≤ℤ pos (2 ^ b - 1)) (sym e) hi);
     }
+
+-- the numbers from one to another, which the form has
+pub range_domain : (form : IntForm) (spans : List Span) (low high : ℤ) → IsRange low high spans → low ≤ℤ high → least form ≤ℤ low → high ≤ℤ greatest form → IsDomain form spans
+range_domain form spans low high r some from to = record {
+  some = (low, r.all low (≤ℤ_refl low) some);
+  of_form = λ n w. record { from_least = (let l = r.from_low n w in omega (arith, ints)); to_greatest = (let h = r.to_high n w in omega (arith, ints)) };
+}
 
 -- an integer type, with its form and domain
 pub record IsInteger (k : Kind) : Type 0 where
@@ -176,9 +184,33 @@ module _ (truth : BoolForm) (k1 k2 k3 k4 k5 : Kind) (modes : IntForm) (k7 : Kind
 pub sample_keeps : (rows : Table) → IsSample rows → KeepsRules rows
 sample_keeps rows s =
     let i = s.integers in
-    subst KeepsRules (sym s.is) (keeps s.truth s.signed s.inverted s.little s.digits s.wide s.modes s.level (integer_of s.signed i.0) (integer_of s.inverted i.1.0) (integer_of s.little i.1.1.0) (integer_of s.digits i.1.1.1.0) (integer_of s.wide i.1.1.1.1.0) (is_listing s.modes s.mode_bits s.mode_encoding) (integer_of s.level i.1.1.1.1.1.0))
+    subst KeepsRules (sym s.is) (keeps s.truth s.signed s.inverted s.little s.digits s.wide s.mode s.level (integer_of s.signed i.0) (integer_of s.inverted i.1.0) (integer_of s.little i.1.1.0) (integer_of s.digits i.1.1.1.0) (integer_of s.wide i.1.1.1.1.0) (is_listing s.mode s.mode_bits s.mode_encoding) (integer_of s.level i.1.1.1.1.1.0))
 
 pub sample_flat : (rows : Table) → IsSample rows → IsFlatTable rows
 sample_flat rows s =
     let i = s.integers in
-    subst IsFlatTable (sym s.is) (is_flat s.truth s.signed s.inverted s.little s.digits s.wide s.modes s.level (integer_of s.signed i.0) (integer_of s.inverted i.1.0) (integer_of s.little i.1.1.0) (integer_of s.digits i.1.1.1.0) (integer_of s.wide i.1.1.1.1.0) (is_listing s.modes s.mode_bits s.mode_encoding) (integer_of s.level i.1.1.1.1.1.0))
+    subst IsFlatTable (sym s.is) (is_flat s.truth s.signed s.inverted s.little s.digits s.wide s.mode s.level (integer_of s.signed i.0) (integer_of s.inverted i.1.0) (integer_of s.little i.1.1.0) (integer_of s.digits i.1.1.1.0) (integer_of s.wide i.1.1.1.1.0) (is_listing s.mode s.mode_bits s.mode_encoding) (integer_of s.level i.1.1.1.1.1.0))
+
+-- the table of such rows
+pub kept_flat : {E : Type 0} (rows : Table) (result : Result Table E) → IsSample rows → IfOk result (λ t. t ≡ rows) → IfOk result (λ t. IsFlatTable t)
+kept_flat rows (Ok t) s e = subst IsFlatTable (sym e) (sample_flat rows s)
+kept_flat rows (Err e) s h = tt
+
+-- rows that were put one after the other
+pub is_sample : (truth : BoolForm) (signed inverted : Kind) (none first : Table) (little digits wide : Kind) (next : Table) (level : Kind) (mode : IntForm) (last : Table)
+    → none ≡ [] → first ≡ none ++ first_rows truth signed inverted → next ≡ first ++ next_rows little digits wide → last ≡ next ++ last_rows mode level
+    → mode.bits ≡ 4 → mode.encoding ≡ Unsigned → IsIntBy IsDomain signed → IsIntBy IsDomain inverted → IsIntBy IsDomain little → IsIntBy IsDomain digits → IsIntBy IsDomain wide → IsIntBy IsDomain level → IsSample last
+is_sample truth signed inverted none first little digits wide next level mode last e f g h size encoding a1 a2 a3 a4 a5 a6 = record {
+  truth = truth;
+  signed = signed;
+  inverted = inverted;
+  little = little;
+  digits = digits;
+  wide = wide;
+  mode = mode;
+  level = level;
+  is = h ∙ ap (λ z. z ++ last_rows mode level) (g ∙ ap (λ z. z ++ next_rows little digits wide) (f ∙ ap (λ z. z ++ first_rows truth signed inverted) e));
+  integers = a1 ⊗ a2 ⊗ a3 ⊗ a4 ⊗ a5 ⊗ a6 ⊗ tt;
+  mode_bits = size;
+  mode_encoding = encoding;
+}

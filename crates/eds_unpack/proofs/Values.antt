@@ -1,6 +1,6 @@
 -- Values, seen by their trees.
-use Rattle.std.proofs.Common.{◌≡◌, ℕ, ℤ, List, map, rules}
-use Rattle.eds_types.specs.declared.value.Value.{Value, Num, the_lemmas}
+use Rattle.std.proofs.Common.{◌≡◌, ℤ, rules}
+use Rattle.eds_types.specs.declared.value.Value.{Num, the_lemmas}
 use Rattle.eds_types.specs.Plain.{plain, num}
 
 pub plain-Num : (n : ℤ) → plain (Num n) ≡ num n

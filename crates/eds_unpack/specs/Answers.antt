@@ -1,5 +1,5 @@
 -- What reading in code gives, where memory may run out.
-use Rattle.std.specs.Prelude.{◌≡◌, ℕ, ◌-◌, ◌≤◌, List, [], ◌∷◌, length, Result, Ok, Err}
+use Rattle.std.specs.Prelude.{◌≡◌, ℕ, ◌-◌, ◌≤◌, [], ◌∷◌, length, Result, Ok, Err}
 use Rattle.eds_base.specs.declared.fail.Fail.{Fail}
 use Rattle.eds_base.specs.declared.fail.Fail.TheVariants.{Named, Memory}
 use Rattle.eds_base.specs.declared.fault.Fault.{Fault}

@@ -1,5 +1,5 @@
 -- Reading numbers, and the entries of a container one after the other.
-use Rattle.std.specs.Prelude.{ℕ, ◌+◌, ℤ, List, [], ◌∷◌, ◌++◌, Bool, cond, Option, Some, None, Result, Ok, Err, unwrap_or}
+use Rattle.std.specs.Prelude.{ℕ, ◌+◌, ℤ, List, [], ◌∷◌, ◌++◌, Option, Some, None, Result, Ok, Err, unwrap_or}
 use Rattle.eds_base.specs.declared.fault.Step.TheVariants as step
 use Rattle.eds_base.specs.declared.fault.Reason.TheVariants.{BadDigit}
 use Rattle.eds_bits.specs.declared.forms.IntForm.{IntForm}

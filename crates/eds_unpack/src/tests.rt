@@ -1,9 +1,10 @@
-ghost use Rattle.std.specs.Prelude.{◌≡◌, ◌++◌, [], ◌∷◌, map, false, IfOk, OnOk};
+ghost use Rattle.std.specs.Prelude.{◌≡◌, ◌≤ℤ◌, ◌++◌, [], map, false, IfOk, OnOk, ◌∷◌};
+ghost use Rattle.eds_base.specs.Spans.{bottom, top};
 ghost use Rattle.eds_bits.specs.declared.forms.Encoding.TheVariants.{Unsigned};
 ghost use Rattle.eds_types.specs.FlatTables.{IsFlatTable};
 ghost use Rattle.eds_types.specs.Rules.{IsIntBy, IsDomain};
-ghost use Rattle.eds_types.specs.Sample.{row, container, plain_of, label_of, flag_labels};
-ghost use Rattle.eds_unpack.specs.FlatSample.{status_entries, IsSample};
+ghost use Rattle.eds_types.specs.Sample.{IsRange, row, container, plain_of, label_of, flag_labels};
+ghost use Rattle.eds_unpack.specs.FlatSample.{status_entries, first_rows, next_rows, last_rows, IsSample};
 
 use crate::unpack;
 use eds_base::{Fail, Fault, Memory, Reason, Spans, Step, Text, TypeId};
@@ -31,6 +32,18 @@ const LEVEL: u32 = 7;
 
 const STATUS: u32 = 8;
 
+/// The numbers from one to another.
+fn range(alloc: Global, low: i128, high: i128) -> Result<Spans, Memory>
+    requires some { low ≤ℤ high }
+    requires from_bottom { bottom ≤ℤ low }
+    requires to_top { high ≤ℤ top }
+    ensures { IfOk result (IsRange low high) }
+{
+    let mut spans = Spans::new(alloc);
+    spans.push(low, high)?;
+    Ok(spans)
+}
+
 /// An integer type of the numbers from one to another, which the form has.
 fn integer(
     alloc: Global,
@@ -50,8 +63,7 @@ fn integer(
     if high < low || low < bounds.least || bounds.greatest < high || low < -far || far < high {
         return Err(Memory);
     }
-    let mut spans = Spans::new(alloc);
-    spans.push(low, high)?;
+    let spans = range(alloc, low, high)?;
     Ok(Kind::Int(form, spans))
 }
 
@@ -136,46 +148,114 @@ fn push_row(alloc: Global, rows: &mut TypeRows, name: &str, kind: Kind) -> Resul
     Ok(())
 }
 
+/// Integer types.
+#[derive(Drop)]
+struct Numbers {
+    signed: Kind,
+    inverted: Kind,
+    little: Kind,
+    digits: Kind,
+    wide: Kind,
+    level: Kind,
+}
+
+fn integers(alloc: Global) -> Result<Numbers, Memory>
+    ensures signed { IfOk result (λ n. IsIntBy IsDomain n.signed) }
+    ensures inverted { IfOk result (λ n. IsIntBy IsDomain n.inverted) }
+    ensures little { IfOk result (λ n. IsIntBy IsDomain n.little) }
+    ensures digits { IfOk result (λ n. IsIntBy IsDomain n.digits) }
+    ensures wide { IfOk result (λ n. IsIntBy IsDomain n.wide) }
+    ensures level { IfOk result (λ n. IsIntBy IsDomain n.level) }
+{
+    Ok(Numbers {
+        signed: integer(alloc, 8, Encoding::SignMagnitude, ByteOrder::Big, -127, 127)?,
+        inverted: integer(
+            alloc,
+            8,
+            Encoding::OnesComplement,
+            ByteOrder::Big,
+            -127,
+            127,
+        )?,
+        little: integer(alloc, 16, Encoding::Unsigned, ByteOrder::Little, 0, 65_535)?,
+        digits: integer(alloc, 16, Encoding::PackedBcd, ByteOrder::Big, 0, 9_999)?,
+        wide: unsigned(alloc, 64, 0, 18_446_744_073_709_551_615)?,
+        level: unsigned(alloc, 4, 3, 9)?,
+    })
+}
+
+fn push_first(
+    alloc: Global,
+    rows: &mut TypeRows,
+    truth: BoolForm,
+    signed: Kind,
+    inverted: Kind,
+) -> Result<(), Memory>
+    ensures { OnOk result (rows.new ≡ rows.old ++ first_rows truth signed inverted) }
+{
+    push_row(alloc, rows, "Sc/BO", Kind::Bool(truth))?;
+    push_row(alloc, rows, "Sc/SM", signed)?;
+    push_row(alloc, rows, "Sc/OC", inverted)?;
+    Ok(())
+}
+
+fn push_next(
+    alloc: Global,
+    rows: &mut TypeRows,
+    little: Kind,
+    digits: Kind,
+    wide: Kind,
+) -> Result<(), Memory>
+    ensures { OnOk result (rows.new ≡ rows.old ++ next_rows little digits wide) }
+{
+    push_row(alloc, rows, "Sc/LE", little)?;
+    push_row(alloc, rows, "Sc/PB", digits)?;
+    push_row(alloc, rows, "Sc/U64", wide)?;
+    Ok(())
+}
+
+fn push_last(alloc: Global, rows: &mut TypeRows, mode: IntForm, level: Kind) -> Result<(), Memory>
+    ensures { OnOk result (rows.new ≡ rows.old ++ last_rows mode level) }
+{
+    let labels = modes(alloc)?;
+    let status = status(alloc)?;
+    push_row(alloc, rows, "Sc/Mode", Kind::Enum(mode, labels))?;
+    push_row(alloc, rows, "Sc/Level", level)?;
+    push_row(alloc, rows, "Sc/Status", status)?;
+    Ok(())
+}
+
 /// The rows of scalar types and of a flat container.
-fn rows_of(alloc: Global) -> Result<TypeRows, Memory>
+fn rows_of(alloc: Global, numbers: Numbers) -> Result<TypeRows, Memory>
+    requires signed { IsIntBy IsDomain numbers.signed }
+    requires inverted { IsIntBy IsDomain numbers.inverted }
+    requires little { IsIntBy IsDomain numbers.little }
+    requires digits { IsIntBy IsDomain numbers.digits }
+    requires wide { IsIntBy IsDomain numbers.wide }
+    requires level { IsIntBy IsDomain numbers.level }
     ensures { IfOk result IsSample }
 {
-    let signed = integer(alloc, 8, Encoding::SignMagnitude, ByteOrder::Big, -127, 127)?;
-    let inverted = integer(
-        alloc,
-        8,
-        Encoding::OnesComplement,
-        ByteOrder::Big,
-        -127,
-        127,
-    )?;
-    let little = integer(alloc, 16, Encoding::Unsigned, ByteOrder::Little, 0, 65_535)?;
-    let digits = integer(alloc, 16, Encoding::PackedBcd, ByteOrder::Big, 0, 9_999)?;
-    let wide = unsigned(alloc, 64, 0, 18_446_744_073_709_551_615)?;
-    let modes = modes(alloc)?;
-    let level = unsigned(alloc, 4, 3, 9)?;
-    let status = status(alloc)?;
+    let mut rows = TypeRows::new(alloc);
     let truth = BoolForm {
         bits: 8,
         zero_is_false: true,
     };
-    let mut rows = TypeRows::new(alloc);
-    push_row(alloc, &mut rows, "Sc/BO", Kind::Bool(truth))?;
-    push_row(alloc, &mut rows, "Sc/SM", signed)?;
-    push_row(alloc, &mut rows, "Sc/OC", inverted)?;
-    push_row(alloc, &mut rows, "Sc/LE", little)?;
-    push_row(alloc, &mut rows, "Sc/PB", digits)?;
-    push_row(alloc, &mut rows, "Sc/U64", wide)?;
-    push_row(alloc, &mut rows, "Sc/Mode", Kind::Enum(mode_form(), modes))?;
-    push_row(alloc, &mut rows, "Sc/Level", level)?;
-    push_row(alloc, &mut rows, "Sc/Status", status)?;
+    push_first(alloc, &mut rows, truth, numbers.signed, numbers.inverted)?;
+    push_next(
+        alloc,
+        &mut rows,
+        numbers.little,
+        numbers.digits,
+        numbers.wide,
+    )?;
+    push_last(alloc, &mut rows, mode_form(), numbers.level)?;
     Ok(rows)
 }
 
 fn flat_table(alloc: Global) -> Result<TypeTable, Memory>
     ensures { IfOk result (λ t. IsFlatTable t) }
 {
-    let rows = rows_of(alloc)?;
+    let rows = rows_of(alloc, integers(alloc)?)?;
     TypeTable::of(alloc, rows)
 }
 
@@ -194,12 +274,27 @@ fn read(
     unpack(alloc, table, TypeId(id), BitView::new(octets))
 }
 
-/// The number of a value, 0 or 1 for a truth value, and its size in bits.
-fn number(answer: &Result<(Value, u32), Fail<Fault>>) -> Option<(i128, u32)> {
-    match answer {
-        Ok((Value::Num(n), bits)) => Some((*n, *bits)),
-        Ok((Value::Bool(truth), bits)) => Some((i128::from(*truth), *bits)),
+/// The number of a value, 0 or 1 for a truth value.
+fn number(value: Option<&Value>) -> Option<i128> {
+    match value {
+        Some(Value::Num(n)) => Some(*n),
+        Some(Value::Bool(truth)) => Some(i128::from(*truth)),
         _ => None,
+    }
+}
+
+fn label(value: Option<&Value>) -> Option<&str> {
+    match value {
+        Some(Value::Label(label)) => Some(label.as_str()),
+        _ => None,
+    }
+}
+
+/// The number that is read, and its size in bits.
+fn sized(answer: &Result<(Value, u32), Fail<Fault>>) -> Option<(i128, u32)> {
+    match answer {
+        Ok((value, bits)) => Some((number(Some(value))?, *bits)),
+        Err(_) => None,
     }
 }
 
@@ -219,11 +314,7 @@ fn scalars_are_read_by_their_forms(rt: HostRuntime) -> Result<(), Memory> {
         (WIDE, [0xFF; 8].as_slice(), (18_446_744_073_709_551_615, 64)),
         (LEVEL, [0x5F, 0xFF].as_slice(), (5, 4)),
     ] {
-        assert_eq!(rt;
-            number(&read(alloc, &table, id, octets)),
-            Some(want),
-            "{id}"
-        );
+        assert_eq!(rt; sized(&read(alloc, &table, id, octets)), Some(want), "{id}");
     }
     Ok(())
 }
@@ -268,14 +359,15 @@ fn a_container_has_a_value_for_each_entry(rt: HostRuntime) -> Result<(), Memory>
     let alloc = rt.alloc();
     let table = flat_table(alloc)?;
     match read(alloc, &table, STATUS, &[0x35, 0x01, 0xFF]) {
-        Ok((Value::Fields(id, values), bits)) => {
-            assert_eq!(rt; id, TypeId(STATUS));
+        Ok((value, bits)) => {
             assert_eq!(rt; bits, 16);
-            match values.as_slice() {
-                [Value::Label(mode), Value::Num(level), Value::Bool(on)] => {
-                    assert_eq!(rt; mode.as_str(), "UNSEG");
-                    assert_eq!(rt; *level, 5);
-                    assert!(rt; *on);
+            match &value {
+                Value::Fields(id, values) => {
+                    assert_eq!(rt; *id, TypeId(STATUS));
+                    assert_eq!(rt; values.len(), 3);
+                    assert_eq!(rt; label(values.get(0)), Some("UNSEG"));
+                    assert_eq!(rt; number(values.get(1)), Some(5));
+                    assert_eq!(rt; number(values.get(2)), Some(1));
                 }
                 _ => assert!(rt; false),
             }

@@ -1,5 +1,4 @@
-use Rattle.std.proofs.Common.{◌≡◌, length}
-use Rattle.eds_types.specs.Reading.{label_of as label_in}
+use Rattle.std.proofs.Common.{length}
 use Rattle.eds_unpack.proofs.Labels.{IsSearched}
 use Rattle.eds_unpack.proofs.scalar.label_of.Given as goal
 

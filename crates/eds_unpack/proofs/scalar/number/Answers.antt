@@ -1,4 +1,4 @@
-use Rattle.std.proofs.Common.{rules, ◌≡◌, Some, None, Ok, Err, sym, ap, ◌∙◌}
+use Rattle.std.proofs.Common.{rules}
 use Rattle.eds_bits.specs.Reader.{bits_left}
 use Rattle.eds_unpack.proofs.Numbers.{number_taken}
 use Rattle.eds_unpack.proofs.scalar.number.Goals as goal

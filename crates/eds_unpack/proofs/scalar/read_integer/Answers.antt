@@ -1,4 +1,4 @@
-use Rattle.std.proofs.Common.{rules, ◌≡◌}
+use Rattle.std.proofs.Common.{rules}
 use Rattle.eds_unpack.proofs.Numbers.{within_is}
 use Rattle.eds_unpack.proofs.Values.{plain-Num}
 use Rattle.eds_unpack.proofs.scalar.read_integer.Goals as goal

@@ -1,4 +1,4 @@
-use Rattle.std.proofs.Common.{rules, ◌≤◌, arith}
+use Rattle.std.proofs.Common.{arith}
 use Rattle.eds_bits.specs.Reader.{bits_left}
 use Rattle.eds_unpack.proofs.Fronts.{readable, no_longer}
 use Rattle.eds_unpack.proofs.whole.read_front.Goals as goal
