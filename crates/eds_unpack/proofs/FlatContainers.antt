@@ -23,7 +23,7 @@ use Rattle.eds_types.specs.Rows.{Table, id_of, base_of, container_of, container_
 use Rattle.eds_types.specs.Rules.{KeepsRules}
 use Rattle.eds_types.specs.Spelling.{State, started, took}
 use Rattle.eds_types.proofs.ReadingTests.{found_is}
-use Rattle.eds_unpack.specs.Entries.{Course, read_entries, as_fields, read_flat}
+use Rattle.eds_unpack.specs.Entries.{SoFar, read_entries, as_fields, read_flat}
 
 -- ---- what flat tables are like
 
@@ -105,7 +105,7 @@ stays t id c fs flat e = ap (next_of t id) (none_under t flat id fs) ∙ ap (λ 
 
 -- ---- entries
 
-kept : Read State → Result Course Where
+kept : Read State → Result SoFar Where
 kept (Ok u) = Ok (values_of (u.0).fields, u.1)
 kept (Err g) = Err g
 

@@ -16,7 +16,8 @@ use Rattle.eds_types.specs.Rows.{Table}
 use Rattle.eds_types.specs.Rules.{KeepsRules}
 use Rattle.eds_types.specs.Spelling.{Spells}
 use Rattle.eds_types.proofs.ExactReading.{done, failed, err_is, ok_err, same_ok}
-use Rattle.eds_unpack.specs.Answers.{where_of, Stops, Gives, StopWithin, FaultWithin, IsOfReading, IsMemory, IsValue, StopsAt, IsFault, IfNamed, IfFault, sized}
+use Rattle.eds_unpack.specs.Answers.{where_of, IsOfReading, IsMemory, IsValue, StopsAt, IsFault, IfNamed, IfFault}
+use Rattle.eds_unpack.specs.Readers.{Stops, Gives, StopWithin, FaultWithin, sized}
 use Rattle.eds_unpack.proofs.FlatContainers.{flat_clear}
 
 pub readable : (t : Table) (id : ℕ) → KeepsRules t → IsFlatTable t → id < length t → IsReadable t id

@@ -25,22 +25,22 @@ read_number form b = judge (λ c. decimal (number_of form c)) (read_bits form.bi
 -- ---- entries
 
 -- the values so far, and the bits that are left
-abbrev pub Course : Type 0
-Course = List Plain × Bits
+abbrev pub SoFar : Type 0
+SoFar = List Plain × Bits
 
 abbrev pub entry_type : Part → ℕ
 entry_type p = unwrap_or (type_by (Some p)) 0
 
 -- the entry at place i of the container y
-abbrev pub entry_step : (ℕ → Bits → Read Plain) → ℕ → ℕ → Part → Course → Result Course Where
+abbrev pub entry_step : (ℕ → Bits → Read Plain) → ℕ → ℕ → Part → SoFar → Result SoFar Where
 entry_step read y i p s = inside (step.Part (id_of y) i) (read (entry_type p) s.1) >>= λ v. Ok (s.0 ++ v.0 ∷ [], v.1)
 
 -- the entries from place i on
-abbrev pub read_entries : (ℕ → Bits → Read Plain) → ℕ → ℕ → List Part → Course → Result Course Where
+abbrev pub read_entries : (ℕ → Bits → Read Plain) → ℕ → ℕ → List Part → SoFar → Result SoFar Where
 read_entries read y i [] s = Ok s
 read_entries read y i (p ∷ ps) s = entry_step read y i p s >>= λ u. read_entries read y (i + 1) ps u
 
-abbrev pub as_fields : ℕ → Course → Plain × Bits
+abbrev pub as_fields : ℕ → SoFar → Plain × Bits
 as_fields k s = (fields k (plains_of s.0), s.1)
 
 -- the fields of a container that is made of entries alone

@@ -1,7 +1,7 @@
 //! Faults, where they are met and from further out.
 
 ghost use Rattle.std.specs.Prelude.{◌≡◌};
-ghost use Rattle.eds_unpack.specs.Answers.{fault_here, stop_inside, StopWithin};
+ghost use Rattle.eds_unpack.specs.Readers.{fault_here, stop_inside, StopWithin};
 
 use eds_base::{Fail, Fault, Path, Reason, Step};
 

@@ -7,7 +7,7 @@ ghost use Rattle.eds_types.specs.FlatTables.{IsScalarEntry, IsFlatTable};
 ghost use Rattle.eds_types.specs.Plain.{plain};
 ghost use Rattle.eds_types.specs.Reading.{read_within, read_kind};
 ghost use Rattle.eds_types.specs.Rows.{container_of, entries_of};
-ghost use Rattle.eds_unpack.specs.Answers.{Gives, FaultWithin};
+ghost use Rattle.eds_unpack.specs.Readers.{Gives, FaultWithin};
 ghost use Rattle.eds_unpack.specs.Entries.{entry_step, read_entries, read_flat};
 
 use crate::fault::{fault, inside};

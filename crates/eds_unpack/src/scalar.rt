@@ -8,7 +8,7 @@ ghost use Rattle.eds_bits.specs.Reader.{bits_left};
 ghost use Rattle.eds_types.specs.Fields.{listed};
 ghost use Rattle.eds_types.specs.Plain.{plain, truth};
 ghost use Rattle.eds_types.specs.Reading.{judge, read_bits, ranged, named, label_of, truth_of};
-ghost use Rattle.eds_unpack.specs.Answers.{Gives, FaultWithin};
+ghost use Rattle.eds_unpack.specs.Readers.{Gives, FaultWithin};
 ghost use Rattle.eds_unpack.specs.Entries.{read_number};
 
 use crate::fault::fault;

@@ -8,7 +8,8 @@ ghost use Rattle.eds_types.specs.Failing.{Where, FailsAt};
 ghost use Rattle.eds_types.specs.FlatTables.{IsFlatTable};
 ghost use Rattle.eds_types.specs.Plain.{Plain, plain};
 ghost use Rattle.eds_types.specs.Spelling.{Spells};
-ghost use Rattle.eds_unpack.specs.Answers.{Gives, FaultWithin, IsOfReading, IsValue, IsFault, IfFault, sized};
+ghost use Rattle.eds_unpack.specs.Answers.{IsOfReading, IsValue, IsFault, IfFault};
+ghost use Rattle.eds_unpack.specs.Readers.{Gives, FaultWithin, sized};
 
 use crate::read::read_value;
 use eds_base::{Fail, Fault, TypeId};

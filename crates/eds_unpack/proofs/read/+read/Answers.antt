@@ -2,7 +2,7 @@ use Rattle.std.proofs.Common.{sym, subst}
 use Rattle.eds_bits.specs.Reader.{bits_left}
 use Rattle.eds_types.specs.Plain.{plain}
 use Rattle.eds_types.specs.Reading.{read_within}
-use Rattle.eds_unpack.specs.Answers.{Gives}
+use Rattle.eds_unpack.specs.Readers.{Gives}
 use Rattle.eds_unpack.proofs.Labels.{kind_listed}
 use Rattle.eds_unpack.proofs.FlatContainers.{row_read, next_level, no_level}
 use Rattle.eds_unpack.proofs.read.+read.Goals as goal
