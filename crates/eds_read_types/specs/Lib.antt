@@ -1,0 +1,4 @@
+pub mod Held
+pub mod Sizes
+pub mod Forms
+pub mod Ranges
