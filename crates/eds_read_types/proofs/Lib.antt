@@ -1,1 +1,3 @@
 pub mod FormFacts
+pub mod DomainFacts
+pub mod EndFacts

@@ -2,3 +2,4 @@ pub mod Held
 pub mod Sizes
 pub mod Forms
 pub mod Ranges
+pub mod Domains

@@ -2,8 +2,10 @@
 #![tactic(auto)]
 
 mod child;
+mod domain;
 mod form;
 mod range;
 
+pub use domain::{domain_of, is_empty_domain, narrowed};
 pub use form::{bool_form_of, int_form_of};
 pub use range::{End, Range, range_in, range_of};
