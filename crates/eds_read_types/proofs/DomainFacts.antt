@@ -108,25 +108,28 @@ pub narrowed_span_within : (range : Range) (s : Span) (n : ℤ) → IsWithin (na
 narrowed_span_within range s n =
     let i = interval_within (raised range.low s.low) (lowered range.high s.high) n in
     let low = raised_admits range.low s.low n in
-    let high = lowered_admits range.high s.high n in
-    (λ h. let j = i.0 h in let l = low.0 j.0 in let u = high.0 j.1 in ((l.0, u.0), record { from_low = l.1; to_high = u.1 }),
-     λ h. i.1 (low.1 (h.0.0, h.1.from_low), high.1 (h.0.1, h.1.to_high)))
+    let high = lowered_admits range.high s.high n in (
+      λ h. let j = i.0 h in let l = low.0 j.0 in let u = high.0 j.1 in ((l.0, u.0), record { from_low = l.1; to_high = u.1 }),
+      λ h. i.1 (low.1 (h.0.0, h.1.from_low), high.1 (h.0.1, h.1.to_high)),
+    )
 
 pub both_within : (xs ys : List Span) (n : ℤ) → IsWithin (xs ++ ys) n ↔ (IsWithin xs n ⊎ IsWithin ys n)
 both_within [] ys n = (λ h. inr h, λ h. elim h [ inl a ↦ absurd a | inr b ↦ b ])
 both_within (x ∷ xs) ys n =
-    let more = both_within xs ys n in
-    (λ h. elim h [ inl a ↦ inl (inl a) | inr b ↦ elim (more.0 b) [ inl c ↦ inl (inr c) | inr d ↦ inr d ] ],
-     λ h. elim h [ inl a ↦ elim a [ inl c ↦ inl c | inr d ↦ inr (more.1 (inl d)) ] | inr b ↦ inr (more.1 (inr b)) ])
+    let more = both_within xs ys n in (
+      λ h. elim h [ inl a ↦ inl (inl a) | inr b ↦ elim (more.0 b) [ inl c ↦ inl (inr c) | inr d ↦ inr d ] ],
+      λ h. elim h [ inl a ↦ elim a [ inl c ↦ inl c | inr d ↦ inr (more.1 (inl d)) ] | inr b ↦ inr (more.1 (inr b)) ],
+    )
 
 pub narrowed_within : (range : Range) (spans : List Span) (n : ℤ) → IsWithin (narrowed range spans) n ↔ (IsWithin spans n × Admits range n)
 narrowed_within range [] n = (λ h. absurd h, λ h. absurd h.0)
 narrowed_within range (s ∷ spans) n =
     let both = both_within (narrowed_span range s) (narrowed range spans) n in
     let here = narrowed_span_within range s n in
-    let more = narrowed_within range spans n in
-    (λ h. elim (both.0 h) [ inl a ↦ let k = here.0 a in (inl k.0, k.1) | inr b ↦ let k = more.0 b in (inr k.0, k.1) ],
-     λ h. elim h.0 [ inl a ↦ both.1 (inl (here.1 (a, h.1))) | inr b ↦ both.1 (inr (more.1 (b, h.1))) ])
+    let more = narrowed_within range spans n in (
+      λ h. elim (both.0 h) [ inl a ↦ let k = here.0 a in (inl k.0, k.1) | inr b ↦ let k = more.0 b in (inr k.0, k.1) ],
+      λ h. elim h.0 [ inl a ↦ both.1 (inl (here.1 (a, h.1))) | inr b ↦ both.1 (inr (more.1 (b, h.1))) ],
+    )
 
 span_rises : (f low high end : ℤ) (rest : List Span) → f ≤ℤ low → high ≤ℤ end → end ≤ℤ top → RisesFrom f rest → RisesFrom (end +ℤ pos 2) rest → RisesFrom f (interval low high ++ rest)
 span_rises f low high end rest from to most all more = go (int_le low high) refl
@@ -151,9 +154,10 @@ narrowed_rises range f (s ∷ spans) r =
 
 pub domain_within : (form : IntForm) (range : Range) (n : ℤ) → IsWithin (domain_of form range) n ↔ (HasNumber form n × Admits range n)
 domain_within form range n =
-    let all = narrowed_span_within range (record { low = least form; high = greatest form }) n in
-    (λ h. let k = all.0 h in (record { from_least = k.0.0; to_greatest = k.0.1 }, k.1),
-     λ h. all.1 ((h.0.from_least, h.0.to_greatest), h.1))
+    let all = narrowed_span_within range (record { low = least form; high = greatest form }) n in (
+      λ h. let k = all.0 h in (record { from_least = k.0.0; to_greatest = k.0.1 }, k.1),
+      λ h. all.1 ((h.0.from_least, h.0.to_greatest), h.1),
+    )
 
 pub bounds_within : (form : IntForm) → (bottom ≤ℤ least form) × (greatest form ≤ℤ top)
 bounds_within form = let small = are_small form.encoding form.bits form.valid.some form.valid.few in (omega (arith, ints, small.least), omega (arith, ints, small.greatest))
@@ -179,6 +183,7 @@ domain-is form range s low high rises is from to =
         let l = (from n (within_top bottom s n rises h)).0 k.0 in
         let u = (to n (within_floor bottom s n rises h)).0 k.1 in
         (domain_within form range n).1 (record { from_least = l.0; to_greatest = u.0 }, record { from_low = l.1; to_high = u.1 })
+
     onto : (n : ℤ) → IsWithin (domain_of form range) n → IsWithin s n
     onto n h =
         let k = (domain_within form range n).0 h in
@@ -204,6 +209,7 @@ narrowed-is range base s low high base_rises rises is all from to =
         let l = (from n (within_top bottom s n rises h)).0 k.1.0 in
         let u = (to n (within_floor bottom s n rises h)).0 k.1.1 in
         (narrowed_within range base n).1 (k.0, record { from_low = l.1; to_high = u.1 })
+
     onto : (n : ℤ) → IsWithin (narrowed range base) n → IsWithin s n
     onto n h =
         let k = (narrowed_within range base n).0 h in

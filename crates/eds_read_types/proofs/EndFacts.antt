@@ -33,15 +33,17 @@ pub raised_beyond : (end : End) (low k s r n : ℤ) → SFits w128 low → SFits
 raised_beyond end low k s r n f g is e h t =
     let m = max_bounds low s r f (more_fits k s g e) h in
     let one = one_more k s n g e t in
-    rw (to_z-of_z w128 r m.3)
-    (λ a. (trans low r n m.0 a, subst (λ x. IsFrom x n) is (one.0 (trans s r n m.1 a))),
-     λ b. m.2 n b.0 (one.1 (subst (λ x. IsFrom x n) (sym is) b.1)))
+    rw (to_z-of_z w128 r m.3) (
+      λ a. (trans low r n m.0 a, subst (λ x. IsFrom x n) is (one.0 (trans s r n m.1 a))),
+      λ b. m.2 n b.0 (one.1 (subst (λ x. IsFrom x n) (sym is) b.1)),
+    )
 
 pub lowered_beyond : (end : End) (high k s r n : ℤ) → SFits w128 high → SFits w128 k → Exclusive k ≡ end → s ≡ saturate_signed w128 (to_z w128 (of_z w128 k) -ℤ pos 1) → r ≡ int_min (to_z w128 (of_z w128 high)) (to_z w128 (of_z w128 s)) → bottom ≤ℤ n
     → (n ≤ℤ to_z w128 (of_z w128 r)) ↔ ((n ≤ℤ high) × IsTo end n)
 lowered_beyond end high k s r n f g is e h t =
     let m = min_bounds high s r f (less_fits k s g e) h in
     let one = one_less k s n g e t in
-    rw (to_z-of_z w128 r m.3)
-    (λ a. (trans n r high a m.0, subst (λ x. IsTo x n) is (one.0 (trans n r s a m.1))),
-     λ b. m.2 n b.0 (one.1 (subst (λ x. IsTo x n) (sym is) b.1)))
+    rw (to_z-of_z w128 r m.3) (
+      λ a. (trans n r high a m.0, subst (λ x. IsTo x n) is (one.0 (trans n r s a m.1))),
+      λ b. m.2 n b.0 (one.1 (subst (λ x. IsTo x n) (sym is) b.1)),
+    )

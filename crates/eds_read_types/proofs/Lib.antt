@@ -1,3 +1,4 @@
 pub mod FormFacts
 pub mod DomainFacts
 pub mod EndFacts
+pub mod ListingFacts

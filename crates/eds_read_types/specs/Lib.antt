@@ -3,3 +3,4 @@ pub mod Sizes
 pub mod Forms
 pub mod Ranges
 pub mod Domains
+pub mod Listings

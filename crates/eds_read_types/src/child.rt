@@ -1,11 +1,9 @@
 //! Children of elements and what their attributes say.
 
-ghost use Rattle.std.specs.Prelude.{◌≡◌, IfOk, OnOk, ◌++◌};
-ghost use Rattle.eds_read_types.specs.Held.{first_named, child_named, number_at, held, named_among};
+ghost use Rattle.std.specs.Prelude.{◌≡◌};
+ghost use Rattle.eds_read_types.specs.Held.{child_named, number_at};
 
-use eds_base::{Items, Memory};
 use eds_tree::{Tree, whole_number};
-use std::alloc::Global;
 
 /// The first child of an element that has a name.
 pub(crate) fn child_named(tree: &Tree, node: u32, name: &str) -> Option<u32>
@@ -29,19 +27,4 @@ pub(crate) fn number_at(tree: &Tree, node: u32, name: &str) -> Option<i128>
         Some(text) => whole_number(text),
         None => None,
     }
-}
-
-/// The children of an element that have a name, in document order.
-pub(crate) fn held(alloc: Global, tree: &Tree, node: u32, name: &str) -> Result<Items<u32>, Memory>
-    ensures { IfOk result (λ h. h ≡ held tree.now node name.now) }
-{
-    let mut found = Items::new(alloc);
-    let mut rest = tree.children_at(node);
-    while let [child, after @ ..] = rest {
-        if tree.name_at(*child) == name {
-            found.push(*child)?;
-        }
-        rest = after;
-    }
-    Ok(found)
 }

@@ -12,6 +12,7 @@ use std::alloc::Global;
 
 /// The least and the greatest number that a set may hold.
 const BOTTOM: i128 = -18_446_744_073_709_551_616;
+
 const TOP: i128 = 18_446_744_073_709_551_616;
 
 /// The least number from `low` on that a lower end admits, or one above all that a set may hold.

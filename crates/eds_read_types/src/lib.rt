@@ -4,8 +4,10 @@
 mod child;
 mod domain;
 mod form;
+mod listing;
 mod range;
 
 pub use domain::{domain_of, is_empty_domain, narrowed};
 pub use form::{bool_form_of, int_form_of};
+pub use listing::{is_listing, listing_of};
 pub use range::{End, Range, range_in, range_of};
