@@ -4,3 +4,4 @@ pub mod Forms
 pub mod Ranges
 pub mod Domains
 pub mod Listings
+pub mod ScalarRules

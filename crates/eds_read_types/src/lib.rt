@@ -4,10 +4,13 @@
 mod child;
 mod domain;
 mod form;
+pub mod law;
 mod listing;
 mod range;
+mod scalar_rules;
 
 pub use domain::{domain_of, is_empty_domain, narrowed};
 pub use form::{bool_form_of, int_form_of};
 pub use listing::{is_listing, listing_of};
 pub use range::{End, Range, range_in, range_of};
+pub use scalar_rules::{bad_encoding, bad_enumeration, empty_range};
