@@ -80,14 +80,11 @@ any-from_has test tells x (y ∷ before) after = rw (any-from_has test tells x b
 
 has-from_any : {A : Type 0} (test : A → A → Bool) → Tells test → (x : A) (xs : List A) → list_any (test x) xs ≡ true → Has xs x
 has-from_any test tells x [] h = absurd cc
-has-from_any test tells x (y ∷ ys) h = go (test x y) refl
+has-from_any test tells x (y ∷ ys) h = go (has-from_any test tells x ys) (test x y) refl
   where
-    go : (b : Bool) → test x y ≡ b → Has (y ∷ ys) x
-    go true e = record { before = []; after = ys; is = ap (λ z. z ∷ ys) (sym ((tells x y).0 e)) }
-    go false e =
-        let rest : list_any (test x) ys ≡ true = rw e at h in
-        let found = has-from_any test tells x ys rest in
-        record { before = y ∷ found.before; after = found.after; is = ap (λ l. y ∷ l) found.is }
+    go : (list_any (test x) ys ≡ true → Has ys x) → (b : Bool) → test x y ≡ b → Has (y ∷ ys) x
+    go later true e = record { before = []; after = ys; is = ap (λ z. z ∷ ys) (sym ((tells x y).0 e)) }
+    go later false e = let found = later (rw e at h) in record { before = y ∷ found.before; after = found.after; is = ap (λ l. y ∷ l) found.is }
 
 fresh-from : {A : Type 0} (test : A → A → Bool) → Tells test → (x : A) (xs : List A) → not (list_any (test x) xs) ≡ true → Has xs x → ⊥
 fresh-from test tells x xs h has =
