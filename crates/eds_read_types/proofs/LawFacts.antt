@@ -1,7 +1,7 @@
 -- What the table of types asks for, from what is tested.
 use Rattle.std.proofs.Common.{◌≡◌, ℕ, zero, suc, ◌≤◌, ℤ, ◌≤ℤ◌, ◌↔◌, ◌⊎◌, inl, inr, Bool, true, false, ◌&&◌, ◌||◌, not, List, [], ◌∷◌, ◌++◌, length, map, refl, sym, ap, ◌∙◌, subst, arith}
 use Rattle.std.specs.Bool.{Decides}
-use Rattle.std.specs.Prelude.{int_le}
+use Rattle.std.specs.Prelude.{int_le, codes, is_none, IsSome, Option, Some, None, if◌then◌else◌}
 use Rattle.std.specs.List.{list_any, list_all, AllByRecursion}
 use Rattle.std.specs.Int.Signed.{≤ℤ_refl}
 use Rattle.std.specs.Ordering.{int_eq}
@@ -10,16 +10,24 @@ use Rattle.std.proofs.lemmas.Bool.Decides.{Decides-int_eq}
 use Rattle.std.proofs.lemmas.Int.{ints}
 use Rattle.std.proofs.lemmas.Slice.Eq.{bytes_eq-Decides}
 use Rattle.eds_base.specs.declared.spans.Span.{Span}
+use Rattle.eds_base.specs.declared.ids.Place.{Place}
+use Rattle.eds_base.specs.declared.rule.Rule.{Rule}
+use Rattle.eds_base.specs.declared.rule.Rule.TheVariants.{BadEncoding, EmptyRange, BadEnumeration}
 use Rattle.eds_base.specs.Reading.{same}
 use Rattle.eds_base.specs.Spans.{IsWithin, RisesFrom}
 use Rattle.eds_bits.specs.Lists.{Has}
 use Rattle.eds_bits.specs.declared.forms.IntForm.{IntForm}
+use Rattle.eds_bits.specs.declared.forms.BoolForm.{BoolForm}
 use Rattle.eds_bits.specs.IntForms.{least, greatest, HasNumber}
 use Rattle.eds_types.specs.Rules.{AreDistinct, IsDomain, IsListing, IsSubRange}
 use Rattle.eds_read_types.specs.declared.range.Range.{Range}
-use Rattle.eds_read_types.specs.Ranges.{Admits}
+use Rattle.eds_read_types.specs.Ranges.{Admits, range_of}
 use Rattle.eds_read_types.specs.Domains.{interval, raised, lowered, narrowed_span, narrowed, domain_of, has_none}
-use Rattle.eds_read_types.specs.Listings.{label, value, is_empty, all_differ, has_number, is_entry, is_listing}
+use Rattle.eds_read_types.specs.Listings.{listing_of, label, value, is_empty, all_differ, has_number, is_entry, is_listing}
+use Rattle.eds_tree.specs.declared.tree.Node.{Node}
+use Rattle.eds_tree.specs.Trees.{name_at}
+use Rattle.eds_read_types.specs.Forms.{int_form_of, bool_form_of}
+use Rattle.eds_read_types.specs.ScalarRules.{is_integer, is_enumerated, is_boolean, broken_where, lacks_form, lacks_numbers_by, lacks_numbers, misses_listing_by, misses_listing, encoding_breaks, range_breaks, enumeration_breaks, HasDomain, HasListing}
 use Rattle.eds_read_types.proofs.DomainFacts.{domain_within, narrowed_within}
 
 -- ---- domains
@@ -177,3 +185,54 @@ listing_is form listing = (into, onto)
         (and_from (all_differ same (map label listing)) (all_differ int_eq (map value listing))
         (from-distinct same same-tells (map label listing) l.labels)
         (from-distinct int_eq Decides-int_eq (map value listing) l.numbers)))
+
+-- ---- types that break no rule
+
+none_broken : (b : Bool) (rule : Rule) (at : Place) → broken_where b rule at ≡ [] → b ≡ false
+none_broken false rule at h = refl
+none_broken true rule at h = absurd cc
+
+-- an integer or enumerated type that has a form
+form_there : (f : Option IntForm) → is_none f ≡ false → (form : IntForm) × (f ≡ Some form)
+form_there None h = absurd cc
+form_there (Some form) h = (form, refl)
+
+truth_there : (f : Option BoolForm) → is_none f ≡ false → IsSome f
+truth_there None h = absurd cc
+truth_there (Some form) h = refl
+
+form_if_unbroken : (integer enumerated : Bool) (f : Option IntForm) (rest : Bool) → (integer || enumerated) ≡ true → (if integer || enumerated then is_none f else rest) ≡ false → (form : IntForm) × (f ≡ Some form)
+form_if_unbroken integer enumerated f rest is h = form_there f (rw is at h)
+
+or_right : (a : Bool) → (a || true) ≡ true
+or_right true = refl
+or_right false = refl
+
+pub integer_unbroken : (t : List Node) (at : Place) → is_integer t at.node ≡ true → encoding_breaks t at ≡ [] → range_breaks t at ≡ [] → HasDomain t at.node
+integer_unbroken t at is encoding range =
+    let there = form_if_unbroken (is_integer t at.node) (is_enumerated t at.node) (int_form_of t at.node) _ (rw is refl) (none_broken (lacks_form t at.node) BadEncoding at encoding) in
+    let numbers : lacks_numbers_by (int_form_of t at.node) (range_of t at.node) ≡ false = rw is at (none_broken (lacks_numbers t at.node) EmptyRange at range) in
+    let some : has_none (domain_of there.0 (range_of t at.node)) ≡ false = ap (λ f. lacks_numbers_by f (range_of t at.node)) (sym there.1) ∙ numbers in
+    record { form = there.0; form_is = there.1; is_domain = domain_kept there.0 (range_of t at.node) some }
+
+pub enumerated_unbroken : (t : List Node) (at : Place) → is_enumerated t at.node ≡ true → encoding_breaks t at ≡ [] → enumeration_breaks t at ≡ [] → HasListing t at.node
+enumerated_unbroken t at is encoding enumeration =
+    let there = form_if_unbroken (is_integer t at.node) (is_enumerated t at.node) (int_form_of t at.node) _ (rw is (or_right (is_integer t at.node))) (none_broken (lacks_form t at.node) BadEncoding at encoding) in
+    let entries : misses_listing_by (int_form_of t at.node) (listing_of t at.node) ≡ false = rw is at (none_broken (misses_listing t at.node) BadEnumeration at enumeration) in
+    let good : not (is_listing there.0 (listing_of t at.node)) ≡ false = ap (λ f. misses_listing_by f (listing_of t at.node)) (sym there.1) ∙ entries in
+    record { form = there.0; form_is = there.1; lists = (listing_is there.0 (listing_of t at.node)).0 (flip (is_listing there.0 (listing_of t at.node)) good) }
+  where
+    flip : (b : Bool) → not b ≡ false → b ≡ true
+    flip true h = refl
+    flip false h = absurd cc
+
+-- two names of types are not one
+name_apart : (name one other : List ℕ) → same one other ≡ false → same name one ≡ true → same name other ≡ false
+name_apart name one other h e = let is : name ≡ one = (bytes_eq-Decides name one).0 e in ap (λ n. same n other) is ∙ h
+
+pub boolean_unbroken : (t : List Node) (at : Place) → is_boolean t at.node ≡ true → encoding_breaks t at ≡ [] → IsSome (bool_form_of t at.node)
+boolean_unbroken t at is encoding =
+    let whole : lacks_form t at.node ≡ false = none_broken (lacks_form t at.node) BadEncoding at encoding in
+    let no_integer : is_integer t at.node ≡ false = name_apart (name_at t at.node) (codes "BooleanDataType") (codes "IntegerDataType") refl is in
+    let no_enumerated : is_enumerated t at.node ≡ false = name_apart (name_at t at.node) (codes "BooleanDataType") (codes "EnumeratedDataType") refl is in
+    truth_there (bool_form_of t at.node) (rw (no_integer, no_enumerated, is) at whole)

@@ -1,5 +1,5 @@
 -- The rules on scalar types, each judged at one type of a file. Nothing is kept of what breaks them.
-use Rattle.std.specs.Prelude.{ℕ, ℤ, List, [], ◌∷◌, codes, Bool, false, not, ◌||◌, is_none, if◌then◌else◌, Option, Some, None}
+use Rattle.std.specs.Prelude.{◌≡◌, ℕ, ℤ, List, [], ◌∷◌, codes, Bool, false, not, ◌||◌, is_none, if◌then◌else◌, Option, Some, None}
 use Rattle.eds_base.specs.declared.ids.Place.{Place}
 use Rattle.eds_base.specs.declared.refusal.Refusal.{Refusal}
 use Rattle.eds_base.specs.declared.refusal.Kept.TheVariants.{Nothing}
@@ -8,6 +8,7 @@ use Rattle.eds_base.specs.declared.rule.Rule.TheVariants.{BadEncoding, EmptyRang
 use Rattle.eds_bits.specs.declared.forms.IntForm.{IntForm}
 use Rattle.eds_tree.specs.declared.tree.Node.{Node}
 use Rattle.eds_tree.specs.Trees.{is_named}
+use Rattle.eds_types.specs.Rules.{IsDomain, IsListing}
 use Rattle.eds_read_types.specs.declared.range.Range.{Range}
 use Rattle.eds_read_types.specs.Forms.{int_form_of, bool_form_of}
 use Rattle.eds_read_types.specs.Ranges.{range_of}
@@ -69,3 +70,17 @@ misses_listing t n = if is_enumerated t n then misses_listing_by (int_form_of t 
 -- the breaks of BadEnumeration at a type
 abbrev pub enumeration_breaks : List Node → Place → List Refusal
 enumeration_breaks t at = broken_where (misses_listing t at.node) BadEnumeration at
+
+-- ---- what the table of types asks for
+
+-- the integer type has a form, and its domain is one of the form
+pub record HasDomain (t : List Node) (n : ℕ) : Type 0 where
+  pub form : IntForm
+  pub form_is : int_form_of t n ≡ Some form
+  pub is_domain : IsDomain form (domain_of form (range_of t n))
+
+-- the enumerated type has a form, and its listing is one of the form
+pub record HasListing (t : List Node) (n : ℕ) : Type 0 where
+  pub form : IntForm
+  pub form_is : int_form_of t n ≡ Some form
+  pub lists : IsListing form (listing_of t n)

@@ -1,6 +1,6 @@
 //! Laws of scalar types.
 
-ghost use Rattle.std.specs.Prelude.{◌≡◌, ◌≤◌, ◌↔◌, ℕ, ℤ, List, Bool, true, false, IsSome, IfSome};
+ghost use Rattle.std.specs.Prelude.{◌≡◌, ◌≤◌, ◌↔◌, ℕ, ℤ, List, [], Bool, true, false, IsSome, IfSome};
 ghost use Rattle.eds_base.specs.declared.spans.Span.{Span as span};
 ghost use Rattle.eds_base.specs.Spans.{IsWithin, Rises};
 ghost use Rattle.eds_bits.specs.declared.forms.Encoding.{Encoding as encoding_type};
@@ -8,14 +8,16 @@ ghost use Rattle.eds_bits.specs.declared.forms.ByteOrder.{ByteOrder as order_typ
 ghost use Rattle.eds_bits.specs.Encodings.{IsForm};
 ghost use Rattle.eds_bits.specs.IntForms.{HasNumber};
 ghost use Rattle.eds_types.specs.Rules.{IsDomain, IsListing, IsSubRange};
-ghost use Rattle.eds_read_types.specs.Forms.{int_form, bool_form};
+ghost use Rattle.eds_read_types.specs.Forms.{int_form, bool_form, bool_form_of};
 ghost use Rattle.eds_read_types.specs.Ranges.{Admits};
 ghost use Rattle.eds_read_types.specs.Domains.{domain_of, narrowed, has_none};
 ghost use Rattle.eds_read_types.specs.Listings.{is_listing};
+ghost use Rattle.eds_read_types.specs.ScalarRules.{is_integer, is_enumerated, is_boolean, encoding_breaks, range_breaks, enumeration_breaks, HasDomain, HasListing};
 
 use crate::range::Range;
-use eds_base::Spans;
+use eds_base::{Place, Spans};
 use eds_bits::IntForm;
+use eds_tree::Tree;
 
 /// A size, an encoding and a byte order give a form exactly where the size is from 1 to 64 bits and has whole decimal digits
 /// and, in little-endian order, whole octets; and the form has these parts. A truth value may have any size from 1 to 64 bits.
@@ -49,4 +51,12 @@ pub fn one_list()
 /// What an enumerated type of a form may list is what the table of types asks for.
 pub fn listings(form: IntForm)
     ensures { (listing : List (List ℕ × ℤ)) → (is_listing form listing ≡ true) ↔ IsListing form listing }
+{}
+
+/// An integer type that breaks none of the rules on scalar types has a form and a domain, an enumerated type a form and a
+/// listing, and a boolean type a form, as the table of types asks for.
+pub fn unbroken_types(tree: &Tree, at: Place)
+    ensures integers { is_integer tree.now at.node ≡ true → encoding_breaks tree.now at ≡ [] → range_breaks tree.now at ≡ [] → HasDomain tree.now at.node }
+    ensures enumerations { is_enumerated tree.now at.node ≡ true → encoding_breaks tree.now at ≡ [] → enumeration_breaks tree.now at ≡ [] → HasListing tree.now at.node }
+    ensures truths { is_boolean tree.now at.node ≡ true → encoding_breaks tree.now at ≡ [] → IsSome (bool_form_of tree.now at.node) }
 {}
