@@ -38,6 +38,7 @@ interval_some low high rest h more = go (int_le low high) refl
   where
     in_order : int_le low high ≡ true → low ≤ℤ high
     in_order e = grind (arith, ints)
+
     go : (b : Bool) → int_le low high ≡ b → (n : ℤ) × IsWithin (interval low high ++ rest) n
     go true e = rw e (low, inl (≤ℤ_refl low, in_order e))
     go false e = rw e (more (rw e at h))
@@ -58,6 +59,7 @@ domain_kept form range h =
       where
         in_order : int_le low high ≡ true → low ≤ℤ high
         in_order e = grind (arith, ints)
+
         go : (b : Bool) → int_le low high ≡ b → (n : ℤ) × IsWithin (interval low high) n
         go true e = rw e (low, inl (≤ℤ_refl low, in_order e))
         go false e = let no : has_none [] ≡ false = rw e at h in absurd cc
@@ -176,6 +178,7 @@ listing_is form listing = (into, onto)
           numbers = distinct-from int_eq Decides-int_eq (map value listing) r.1;
           of_form = numbered-from form listing q.0;
         }
+
     onto : IsListing form listing → is_listing form listing ≡ true
     onto l =
         and_from (not (is_empty listing)) (list_all (is_entry form) listing && (all_differ same (map label listing) && all_differ int_eq (map value listing)))

@@ -14,3 +14,6 @@ pub use form::{bool_form_of, int_form_of};
 pub use listing::{is_listing, listing_of};
 pub use range::{End, Range, range_in, range_of};
 pub use scalar_rules::{bad_encoding, bad_enumeration, empty_range};
+
+#[cfg(test)]
+mod scalar_tests;
