@@ -1,2 +1,7 @@
+pub mod FormFacts
+pub mod DomainFacts
+pub mod EndFacts
+pub mod ListingFacts
+pub mod LawFacts
 mod EntriesLemmas
 mod NoBreaks

@@ -1,3 +1,10 @@
+pub mod Held
+pub mod Sizes
+pub mod Forms
+pub mod Ranges
+pub mod Domains
+pub mod Listings
+pub mod ScalarRules
 pub mod Rows
 pub mod Places
 pub mod References

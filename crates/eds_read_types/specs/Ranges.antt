@@ -1,0 +1,86 @@
+-- The ranges of integer types and sub-ranges (CCSDS 876.0-B, ranges of numbers), and the numbers that they admit.
+use Rattle.std.specs.Prelude.{ℕ, ℤ, ◌≤ℤ◌, ◌<ℤ◌, List, [], ◌∷◌, map, codes, Bool, if◌then◌else◌, Option, Some, None}
+use Rattle.eds_base.specs.Reading.{same}
+use Rattle.eds_tree.specs.declared.tree.Node.{Node}
+use Rattle.eds_tree.specs.Trees.{attribute_at}
+use Rattle.std.specs.List.{list_any}
+use Rattle.eds_read_types.specs.declared.range.End.{End}
+use Rattle.eds_read_types.specs.declared.range.End.TheVariants.{Open, Inclusive, Exclusive}
+use Rattle.eds_read_types.specs.declared.range.Range.{Range}
+use Rattle.eds_read_types.specs.Held.{child_named, number_at}
+
+-- ---- what a range admits
+
+-- the number is not below the lower end
+abbrev pub IsFrom : End → ℤ → Type 0
+IsFrom Open n = Unit {0}
+IsFrom (Inclusive low) n = low ≤ℤ n
+IsFrom (Exclusive low) n = low <ℤ n
+
+-- the number is not above the upper end
+abbrev pub IsTo : End → ℤ → Type 0
+IsTo Open n = Unit {0}
+IsTo (Inclusive high) n = n ≤ℤ high
+IsTo (Exclusive high) n = n <ℤ high
+
+-- the range admits the number
+pub record Admits (range : Range) (n : ℤ) : Type 0 where
+  pub from_low : IsFrom range.low n
+  pub to_high : IsTo range.high n
+
+-- ---- the range that an element gives
+
+-- an end at a number, open where there is none
+abbrev pub inclusive_end : Option ℤ → End
+inclusive_end None = Open
+inclusive_end (Some n) = Inclusive n
+
+abbrev pub exclusive_end : Option ℤ → End
+exclusive_end None = Open
+exclusive_end (Some n) = Exclusive n
+
+-- the types of ranges whose least number is admitted, and those whose least number is not
+abbrev pub includes_least : List ℕ → Bool
+includes_least range_type = list_any (same range_type) (map codes ("inclusiveMinInclusiveMax" ∷ "inclusiveMinExclusiveMax" ∷ "atLeast" ∷ []))
+
+abbrev pub excludes_least : List ℕ → Bool
+excludes_least range_type = list_any (same range_type) (map codes ("exclusiveMinInclusiveMax" ∷ "exclusiveMinExclusiveMax" ∷ "greaterThan" ∷ []))
+
+-- the same of the greatest number
+abbrev pub includes_greatest : List ℕ → Bool
+includes_greatest range_type = list_any (same range_type) (map codes ("inclusiveMinInclusiveMax" ∷ "exclusiveMinInclusiveMax" ∷ "atMost" ∷ []))
+
+abbrev pub excludes_greatest : List ℕ → Bool
+excludes_greatest range_type = list_any (same range_type) (map codes ("inclusiveMinExclusiveMax" ∷ "exclusiveMinExclusiveMax" ∷ "lessThan" ∷ []))
+
+-- the lower end by the type of the range, at its least number
+abbrev pub lower_end : List ℕ → Option ℤ → End
+lower_end range_type least = if includes_least range_type then inclusive_end least else if excludes_least range_type then exclusive_end least else Open
+
+-- the upper end by the type of the range, at its greatest number
+abbrev pub upper_end : List ℕ → Option ℤ → End
+upper_end range_type greatest = if includes_greatest range_type then inclusive_end greatest else if excludes_greatest range_type then exclusive_end greatest else Open
+
+-- any number
+abbrev pub no_range : Range
+no_range = record { low = Open; high = Open }
+
+abbrev pub range_by : List Node → (bounds : ℕ) → Option (List ℕ) → Range
+range_by t bounds None = no_range
+range_by t bounds (Some range_type) = record { low = lower_end range_type (number_at t bounds (codes "min")); high = upper_end range_type (number_at t bounds (codes "max")) }
+
+abbrev pub range_with : List Node → Option ℕ → Range
+range_with t None = no_range
+range_with t (Some bounds) = range_by t bounds (attribute_at t bounds (codes "rangeType"))
+
+-- the range of an element that holds bounds: the `Range` of a type, or a range constraint
+abbrev pub range_in : List Node → ℕ → Range
+range_in t n = range_with t (child_named t n (codes "MinMaxRange"))
+
+abbrev pub range_held : List Node → Option ℕ → Range
+range_held t None = no_range
+range_held t (Some n) = range_in t n
+
+-- the range of a type, which admits any number where the type has none
+abbrev pub range_of : List Node → ℕ → Range
+range_of t n = range_held t (child_named t n (codes "Range"))

@@ -1,0 +1,62 @@
+//! Laws of scalar types.
+
+ghost use Rattle.std.specs.Prelude.{◌≡◌, ◌≤◌, ◌↔◌, ℕ, ℤ, List, [], Bool, true, false, IsSome, IfSome};
+ghost use Rattle.eds_base.specs.declared.spans.Span.{Span as span};
+ghost use Rattle.eds_base.specs.Spans.{IsWithin, Rises};
+ghost use Rattle.eds_bits.specs.declared.forms.Encoding.{Encoding as encoding_type};
+ghost use Rattle.eds_bits.specs.declared.forms.ByteOrder.{ByteOrder as order_type};
+ghost use Rattle.eds_bits.specs.Encodings.{IsForm};
+ghost use Rattle.eds_bits.specs.IntForms.{HasNumber};
+ghost use Rattle.eds_types.specs.Rules.{IsDomain, IsListing, IsSubRange};
+ghost use Rattle.eds_read_types.specs.Forms.{int_form, bool_form, bool_form_of};
+ghost use Rattle.eds_read_types.specs.Ranges.{Admits};
+ghost use Rattle.eds_read_types.specs.Domains.{domain_of, narrowed, has_none};
+ghost use Rattle.eds_read_types.specs.Listings.{is_listing};
+ghost use Rattle.eds_read_types.specs.ScalarRules.{is_integer, is_enumerated, is_boolean, encoding_breaks, range_breaks, enumeration_breaks, HasDomain, HasListing};
+
+use crate::range::Range;
+use eds_base::{Place, Spans};
+use eds_bits::IntForm;
+use eds_tree::Tree;
+
+/// A size, an encoding and a byte order give a form exactly where the size is from 1 to 64 bits and has whole decimal digits
+/// and, in little-endian order, whole octets; and the form has these parts. A truth value may have any size from 1 to 64 bits.
+pub fn forms_of_parts()
+    ensures numbers { (bits : ℕ) (encoding : encoding_type) (order : order_type) → IsSome (int_form bits encoding order) ↔ IsForm bits encoding order }
+    ensures parts { (bits : ℕ) (encoding : encoding_type) (order : order_type) → IfSome (int_form bits encoding order) (λ f. (f.bits ≡ bits) × (f.encoding ≡ encoding) × (f.order ≡ order)) }
+    ensures truths { (bits : ℕ) (zero_is_false : Bool) → IsSome (bool_form bits zero_is_false) ↔ ((1 ≤ bits) × (bits ≤ 64)) }
+    ensures meanings { (bits : ℕ) (zero_is_false : Bool) → IfSome (bool_form bits zero_is_false) (λ f. (f.bits ≡ bits) × (f.zero_is_false ≡ zero_is_false)) }
+{}
+
+/// The domain of an integer type holds exactly the numbers that its form has and its range admits, and where it holds one it
+/// is a domain as the table of types asks for.
+pub fn domains(form: IntForm, range: Range)
+    ensures numbers { (n : ℤ) → IsWithin (domain_of form range) n ↔ (HasNumber form n × Admits range n) }
+    ensures kept { has_none (domain_of form range) ≡ false → IsDomain form (domain_of form range) }
+{}
+
+/// The domain of a sub-range holds exactly the numbers of its base that its range admits, and where it holds one it is a
+/// domain and the sub-range derives from its base, as the table of types asks for.
+pub fn sub_ranges(form: IntForm, base: &Spans, range: Range)
+    ensures numbers { (n : ℤ) → IsWithin (narrowed range base.now) n ↔ (IsWithin base.now n × Admits range n) }
+    ensures kept { IsDomain form base.now → has_none (narrowed range base.now) ≡ false → IsDomain form (narrowed range base.now) }
+    ensures derives { IsSubRange form (narrowed range base.now) form base.now }
+{}
+
+/// A set of numbers is kept as one list alone.
+pub fn one_list()
+    ensures { (one other : List span) → Rises one → Rises other → ((n : ℤ) → IsWithin one n ↔ IsWithin other n) → one ≡ other }
+{}
+
+/// What an enumerated type of a form may list is what the table of types asks for.
+pub fn listings(form: IntForm)
+    ensures { (listing : List (List ℕ × ℤ)) → (is_listing form listing ≡ true) ↔ IsListing form listing }
+{}
+
+/// An integer type that breaks none of the rules on scalar types has a form and a domain, an enumerated type a form and a
+/// listing, and a boolean type a form, as the table of types asks for.
+pub fn unbroken_types(tree: &Tree, at: Place)
+    ensures integers { is_integer tree.now at.node ≡ true → encoding_breaks tree.now at ≡ [] → range_breaks tree.now at ≡ [] → HasDomain tree.now at.node }
+    ensures enumerations { is_enumerated tree.now at.node ≡ true → encoding_breaks tree.now at ≡ [] → enumeration_breaks tree.now at ≡ [] → HasListing tree.now at.node }
+    ensures truths { is_boolean tree.now at.node ≡ true → encoding_breaks tree.now at ≡ [] → IsSome (bool_form_of tree.now at.node) }
+{}
