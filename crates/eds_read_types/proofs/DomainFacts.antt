@@ -1,9 +1,7 @@
 -- What ranges leave of sets of numbers, and that a set is kept in one way alone.
-use Rattle.std.proofs.Common.{◌≡◌, ℕ, ℤ, pos, ◌+ℤ◌, ◌-ℤ◌, ◌≤ℤ◌, ◌<ℤ◌, ◌↔◌, ◌⊎◌, inl, inr, ◌≢◌, List, [], ◌∷◌, ◌++◌, Bool, true, false, refl, sym, ap, ap₂, subst, arith}
-use Rattle.std.specs.Prelude.{int_le, neg_ℤ, ◌^◌, Result, Ok, Err, IfOk}
-use Rattle.std.specs.Int.{int_max, int_min}
+use Rattle.std.proofs.Common.{◌≡◌, ℤ, pos, ◌+ℤ◌, ◌≤ℤ◌, ◌<ℤ◌, ◌↔◌, ◌⊎◌, inl, inr, List, [], ◌∷◌, ◌++◌, Bool, true, false, refl, sym, ap₂, arith}
+use Rattle.std.specs.Prelude.{int_le, Result, Ok, Err, IfOk}
 use Rattle.std.specs.Int.Signed.{≤ℤ_refl}
-use Rattle.std.specs.List.{flat_map}
 use Rattle.std.proofs.lemmas.Int.{ints, clamps}
 use Rattle.eds_base.specs.declared.spans.Span.{Span}
 use Rattle.eds_base.specs.Spans.{Lies, IsWithin, RisesFrom, Rises, bottom, top}

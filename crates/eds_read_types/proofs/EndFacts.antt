@@ -1,14 +1,13 @@
 -- Ends of ranges as the code moves them, in 128 bits.
-use Rattle.std.proofs.Common.{◌≡◌, ℤ, pos, ◌+ℤ◌, ◌-ℤ◌, ◌≤ℤ◌, ◌<ℤ◌, ◌↔◌, ◌⊎◌, inl, inr, sym, subst, arith}
-use Rattle.std.proofs.lemmas.Int.{ints, clamps, to_z-of_z}
+use Rattle.std.proofs.Common.{◌≡◌, ℤ, pos, ◌+ℤ◌, ◌-ℤ◌, ◌≤ℤ◌, ◌<ℤ◌, ◌↔◌, sym, subst, arith}
+use Rattle.std.proofs.lemmas.Int.{ints, to_z-of_z}
 use Rattle.std.specs.Int.{saturate_signed, int_max, int_min}
-use Rattle.std.specs.Int.Signed.{≤ℤ_refl}
 use mir.Syntax.{w128}
 use mir.Val.{SFits, to_z, of_z}
 use Rattle.eds_base.specs.Spans.{bottom, top}
 use Rattle.eds_base.proofs.SpansLemmas.{max_bounds, min_bounds}
 use Rattle.eds_read_types.specs.declared.range.End.{End}
-use Rattle.eds_read_types.specs.declared.range.End.TheVariants.{Open, Inclusive, Exclusive}
+use Rattle.eds_read_types.specs.declared.range.End.TheVariants.{Exclusive}
 use Rattle.eds_read_types.specs.Ranges.{IsFrom, IsTo}
 
 -- one more, as far as there is one

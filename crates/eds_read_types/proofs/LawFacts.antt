@@ -1,5 +1,5 @@
 -- What the table of types asks for, from what is tested.
-use Rattle.std.proofs.Common.{◌≡◌, ℕ, zero, suc, ◌≤◌, ℤ, ◌≤ℤ◌, ◌↔◌, ◌⊎◌, inl, inr, Bool, true, false, ◌&&◌, ◌||◌, not, List, [], ◌∷◌, ◌++◌, length, map, refl, sym, ap, ◌∙◌, subst, arith}
+use Rattle.std.proofs.Common.{◌≡◌, ℕ, ◌≤◌, ℤ, ◌≤ℤ◌, ◌↔◌, inl, Bool, true, false, ◌&&◌, ◌||◌, not, List, [], ◌∷◌, ◌++◌, length, map, refl, sym, ap, ◌∙◌, arith}
 use Rattle.std.specs.Bool.{Decides}
 use Rattle.std.specs.Prelude.{int_le, codes, is_none, IsSome, Option, Some, None, if◌then◌else◌}
 use Rattle.std.specs.List.{list_any, list_all, AllByRecursion}
@@ -14,15 +14,15 @@ use Rattle.eds_base.specs.declared.ids.Place.{Place}
 use Rattle.eds_base.specs.declared.rule.Rule.{Rule}
 use Rattle.eds_base.specs.declared.rule.Rule.TheVariants.{BadEncoding, EmptyRange, BadEnumeration}
 use Rattle.eds_base.specs.Reading.{same}
-use Rattle.eds_base.specs.Spans.{IsWithin, RisesFrom}
+use Rattle.eds_base.specs.Spans.{IsWithin}
 use Rattle.eds_bits.specs.Lists.{Has}
 use Rattle.eds_bits.specs.declared.forms.IntForm.{IntForm}
 use Rattle.eds_bits.specs.declared.forms.BoolForm.{BoolForm}
 use Rattle.eds_bits.specs.IntForms.{least, greatest, HasNumber}
 use Rattle.eds_types.specs.Rules.{AreDistinct, IsDomain, IsListing, IsSubRange}
 use Rattle.eds_read_types.specs.declared.range.Range.{Range}
-use Rattle.eds_read_types.specs.Ranges.{Admits, range_of}
-use Rattle.eds_read_types.specs.Domains.{interval, raised, lowered, narrowed_span, narrowed, domain_of, has_none}
+use Rattle.eds_read_types.specs.Ranges.{range_of}
+use Rattle.eds_read_types.specs.Domains.{interval, raised, lowered, narrowed, domain_of, has_none}
 use Rattle.eds_read_types.specs.Listings.{listing_of, label, value, is_empty, all_differ, has_number, is_entry, is_listing}
 use Rattle.eds_tree.specs.declared.tree.Node.{Node}
 use Rattle.eds_tree.specs.Trees.{name_at}

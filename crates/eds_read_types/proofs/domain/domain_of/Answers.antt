@@ -11,7 +11,7 @@ interval-requires-clause-from_bottom c =
     let is = c.bounds_of-bounds.ensures.least in
     let one : SFits w128 c.raised.result = search rules in
     let two : SFits w128 c.bounds_of-bounds.result.least = search rules in
-    let from = simp (to_z-of_z w128 c.bounds_of-bounds.result.least two, is) at c.raised.ensures.from in
+    let from = simp is at c.raised.ensures.from in
     omega (arith, ints, ends.0)
 
 pub interval-requires-clause-to_top : goal.interval-requires-clause-to_top
@@ -20,7 +20,7 @@ interval-requires-clause-to_top c =
     let is = c.bounds_of-bounds.ensures.greatest in
     let one : SFits w128 c.lowered.result = search rules in
     let two : SFits w128 c.bounds_of-bounds.result.greatest = search rules in
-    let to = simp (to_z-of_z w128 c.bounds_of-bounds.result.greatest two, is) at c.lowered.ensures.to in
+    let to = simp is at c.lowered.ensures.to in
     omega (arith, ints, ends.1)
 
 pub returns : goal.returns

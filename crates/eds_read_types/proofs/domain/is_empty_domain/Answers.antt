@@ -1,9 +1,9 @@
-use Rattle.std.proofs.Common.{rules, arith}
-use Rattle.std.proofs.lemmas.Int.{ints, to_z-of_z}
+use Rattle.std.proofs.Common.{rules}
+use Rattle.std.proofs.lemmas.Int.{to_z-of_z}
 use mir.Syntax.{w128}
 use mir.Val.{SFits}
 use Rattle.eds_base.proofs.SpansLemmas.{lt_by_lt_test, ge_by_lt_test}
-use Rattle.eds_read_types.proofs.DomainFacts.{domain_none, bounds_within}
+use Rattle.eds_read_types.proofs.DomainFacts.{domain_none}
 use Rattle.eds_read_types.proofs.domain.is_empty_domain.Goals as goal
 
 pub returns : goal.returns

@@ -1,6 +1,6 @@
 use Rattle.std.proofs.Common.{map, sym, ◌∙◌, string_bytes, ap, arith, rules}
 use Rattle.eds_base.specs.Reading.{same}
-use Rattle.eds_read_types.specs.Listings.{label, all_differ}
+use Rattle.eds_read_types.specs.Listings.{label}
 use Rattle.eds_read_types.proofs.ListingFacts.{apart-nothing, differ-next, same-sym}
 use Rattle.eds_read_types.proofs.listing.labels_differ.Goals as goal
 

@@ -1,4 +1,4 @@
-use Rattle.std.proofs.Common.{◌∙◌, ap, sym, codes}
+use Rattle.std.proofs.Common.{◌∙◌, ap, sym}
 use Rattle.eds_read_types.specs.Ranges.{range_by, range_with}
 use Rattle.eds_read_types.proofs.range.range_in.Goals as goal
 
