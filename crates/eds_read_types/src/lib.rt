@@ -12,3 +12,6 @@ mod sheet;
 
 pub use read::read_types;
 pub use row::{AtMost, ENTRIES, Row, Rows, Size, TYPES, Types, Unsigned};
+
+#[cfg(test)]
+mod tests;
