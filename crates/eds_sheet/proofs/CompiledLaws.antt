@@ -1,5 +1,5 @@
 -- A sheet is refused for the least of all that it breaks.
-use Rattle.std.proofs.Common.{◌≡◌, ℕ, ◌<◌, ◌≤◌, List, [], ◌∷◌, ◌++◌, Option, Some, None, Result, Ok, Err, refl, sym, ap, ◌∙◌, arith}
+use Rattle.std.proofs.Common.{◌≡◌, ℕ, List, [], ◌∷◌, Option, Some, None, Result, Ok, Err, refl, sym, ap, ◌∙◌}
 use Rattle.std.specs.Prelude.{IsOk}
 use Rattle.eds_base.specs.declared.refusal.Refusal.{Refusal}
 use Rattle.eds_base.specs.Answering.{◌>>=◌}
@@ -9,7 +9,6 @@ use Rattle.eds_tree.specs.ShapeCheck.{shape_breaks, shape_verdict, unless_broken
 use Rattle.eds_names.specs.LookUp.{Names, names_in, names_of, duplicates, unless as names_unless}
 use Rattle.eds_read_types.specs.declared.row.Types.{Types}
 use Rattle.eds_read_types.specs.ReadTypes.{type_breaks, types_read, types_of, unless as types_unless}
-use Rattle.eds_sheet.specs.declared.sheet.Sheet.{Sheet}
 use Rattle.eds_sheet.specs.Judging.{judged_first}
 use Rattle.eds_sheet.specs.Files.{trees_in, reading_breaks}
 use Rattle.eds_sheet.specs.Pending.{pending_breaks, pending_verdict}

@@ -12,7 +12,7 @@ use Rattle.eds_tree.specs.declared.tree.Node.{Node}
 use Rattle.eds_tree.specs.Elements.{not_elements}
 use Rattle.eds_tree.specs.Reading.{tree_unless, tree_from, tree_of_data, data_in, tree_in}
 use Rattle.eds_sheet.specs.Files.{trees_from, trees_in, break_in, breaks_from, reading_breaks}
-use Rattle.eds_sheet.proofs.Stages.{least-is, or_then, stop_of}
+use Rattle.eds_sheet.proofs.Stages.{least-is, stop_of}
 
 -- ---- one file more
 

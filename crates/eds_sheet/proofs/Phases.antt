@@ -1,7 +1,6 @@
 -- The phases in which the rules on elements and names are judged.
 use Rattle.std.proofs.Common.{◌≡◌, ℕ, ◌+◌, ◌<◌, ◌≤◌, Bool, true, false, ◌&&◌, ◌||◌, List, [], ◌∷◌, ◌++◌, length, map, Option, Some, None, refl, sym, ap, ◌∙◌, arith}
 use Rattle.std.specs.Prelude.{IfSome, codes, nat_eq, slice_get}
-use Rattle.std.specs.Str.{bytes_eq}
 use Rattle.std.specs.List.{AllByRecursion, flat_map}
 use Rattle.std.proofs.lemmas.Slice.Eq.{bytes_eq-Decides}
 use Rattle.eds_base.specs.declared.ids.Place.{Place}
@@ -13,7 +12,7 @@ use Rattle.eds_base.specs.Refusals.{phase_by, phase_of}
 use Rattle.eds_tree.specs.declared.tree.Node.{Node}
 use Rattle.eds_tree.specs.declared.link.Link.{Link}
 use Rattle.eds_tree.specs.Trees.{links_of, name_at, attributes_at, children_named, text_among}
-use Rattle.eds_tree.specs.ByteOrder.{precedes, first_of, first_from, first_in_order}
+use Rattle.eds_tree.specs.ByteOrder.{precedes, first_of, first_from}
 use Rattle.eds_tree.specs.Shapes.{shape_at, is_among as among}
 use Rattle.eds_tree.specs.Attributes.{has_attribute}
 use Rattle.eds_tree.specs.Breaks.{Judgement, refusal_at, refusal_if, breaks_in, breaks_from, breaks_of}
@@ -26,7 +25,7 @@ use Rattle.eds_tree.specs.Limits.{places_from, limit_at, breaks_count, limit_in,
 use Rattle.eds_tree.specs.ShapeCheck.{shape_breaks}
 use Rattle.eds_names.specs.Standings.{standings_of}
 use Rattle.eds_names.specs.Declarations.{declared_in, named_of}
-use Rattle.eds_names.specs.Repeats.{Named, Holding, is_among, duplicate, repeat_of, repeats, repeats_by, repeats_at, repeats_in, repeats_from, holdings, named_at, held_by}
+use Rattle.eds_names.specs.Repeats.{Named, Holding, is_among, repeat_of, repeats, repeats_by, repeats_at, repeats_in, repeats_from, holdings, named_at, held_by}
 use Rattle.eds_names.specs.LookUp.{duplicates}
 use Rattle.eds_sheet.specs.Pending.{is_word, pending_names, pending_word, breaks_pending, pending_breaks, is_pending, pending_attribute, pending_of_encoding, pending_of_container, word_or}
 

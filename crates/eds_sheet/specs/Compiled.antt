@@ -1,5 +1,5 @@
 -- A sheet compiled, or refused for the first rule that it breaks.
-use Rattle.std.specs.Prelude.{ℕ, List, [], ◌∷◌, ◌++◌, count_by, Bool, true, false, Option, Result, Ok, Err}
+use Rattle.std.specs.Prelude.{ℕ, List, [], ◌++◌, count_by, Bool, true, false, Option, Result, Ok, Err}
 use Rattle.eds_base.specs.declared.refusal.Refusal.{Refusal}
 use Rattle.eds_base.specs.Answering.{◌>>=◌}
 use Rattle.eds_tree.specs.declared.tree.Node.{Node}

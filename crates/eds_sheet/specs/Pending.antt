@@ -1,6 +1,6 @@
 -- Elements and attributes of the sheet language that are not compiled yet. A sheet that holds one is refused as not
 -- supported.
-use Rattle.std.specs.Prelude.{ℕ, ◌&&◌, ◌||◌, not, List, [], ◌∷◌, map, length, nat_eq, codes, Bool, true, false, if◌then◌else◌, Option, Some, None, Result}
+use Rattle.std.specs.Prelude.{ℕ, ◌&&◌, ◌||◌, List, [], ◌∷◌, map, length, nat_eq, codes, Bool, true, false, if◌then◌else◌, Option, Some, None, Result}
 use Rattle.eds_base.specs.declared.refusal.Refusal.{Refusal}
 use Rattle.eds_base.specs.declared.rule.Rule.TheVariants.{Unsupported}
 use Rattle.eds_base.specs.Reading.{same}

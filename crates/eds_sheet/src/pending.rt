@@ -6,10 +6,10 @@ ghost use Rattle.eds_base.specs.Answering.{Answers};
 ghost use Rattle.eds_base.specs.Refusals.{least};
 ghost use Rattle.eds_base.specs.declared.rule.Rule.TheVariants.{Unsupported};
 ghost use Rattle.eds_tree.specs.Trees.{name_at, attributes_at, children_named};
-ghost use Rattle.eds_tree.specs.Breaks.{refusal_if, breaks_in, breaks_of};
+ghost use Rattle.eds_tree.specs.Breaks.{refusal_if, breaks_in};
 ghost use Rattle.eds_tree.specs.Shapes.{is_among as among};
 ghost use Rattle.eds_tree.specs.Unsupported.{is_other_word as other_word, spells_flag};
-ghost use Rattle.eds_sheet.specs.Pending.{is_range_of_integer as range_of_integer, lacks_encoding as without_encoding, is_pending as pending, is_word as same_word, word_or, pending_of_encoding as of_encoding, pending_of_container as of_container, pending_attribute as attribute_of, pending_word as word_of, breaks_pending, pending_breaks, pending_verdict};
+ghost use Rattle.eds_sheet.specs.Pending.{is_range_of_integer as range_of_integer, lacks_encoding as without_encoding, is_pending as pending, is_word as same_word, pending_of_encoding as of_encoding, pending_of_container as of_container, pending_attribute as attribute_of, pending_word as word_of, breaks_pending, pending_breaks, pending_verdict};
 
 use eds_base::{Fail, Kept, Memory, Place, Refusal, Rule, Text};
 use eds_tree::{Link, Tree, Trees, flag_value, is_passed_over};

@@ -6,7 +6,7 @@ use eds_base::{Fail, Items, Kept, Memory, Octets, Refusal};
 use std::alloc::Global;
 
 // Puts a file last.
-#[tactic(auto, using(std::proofs::lemmas::List::Elements::All_push))]
+#[tactic(auto, using(crate::proofs::Lists::all_pushed))]
 fn push_file(alloc: Global, files: &mut Files, text: &str) -> Result<(), Memory>
     requires short { All (λ octets. length octets < 2 ^ 32) files.old }
     ensures more { OnOk result (length files.new ≡ length files.old + 1) }
