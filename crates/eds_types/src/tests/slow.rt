@@ -155,12 +155,15 @@ fn patterns_are_those_of_the_table_of_encodings(rt: HostRuntime) -> Result<(), F
         let size = u32::try_from(bits.len())?;
         let form = IntForm::of(size, encoding, order).ok_or("no form")?;
         assert!(rt; is_pattern(form, number, bits.as_slice()), "{number}");
-        assert!(rt; !is_pattern(form, number + 1, bits.as_slice()), "{number}");
+        assert!(rt;
+            !is_pattern(form, number.wrapping_add(1), bits.as_slice()),
+            "{number}"
+        );
     }
     let form = IntForm::of(16, Encoding::PackedBcd, ByteOrder::Big).ok_or("no form")?;
     let bits = bits_of(alloc, &[0x12, 0xA4])?;
-    for n in 0i128..10000 {
-        assert!(rt; !is_pattern(form, n, bits.as_slice()), "{n}");
+    for n in 0u32..10000 {
+        assert!(rt; !is_pattern(form, i128::from(n), bits.as_slice()), "{n}");
     }
     Ok(())
 }
