@@ -40,7 +40,8 @@ fn read_front(
     let all = reader.left();
     let value = read_value(alloc, table, NESTING, id, &mut reader)?;
     let left = reader.left();
-    Ok((value, (all - left) as u32))
+    let bits = (all - left) as u32;
+    Ok((value, bits))
 }
 
 /// The value of a type that the bits of a view begin with, and how many bits it takes: it is exactly the one that they
