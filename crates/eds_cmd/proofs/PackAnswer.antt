@@ -7,8 +7,8 @@ use Rattle.eds_bits.specs.Bits.{Bits, low_bits, unsigned_of}
 use Rattle.eds_bits.proofs.BitLaws.{length-low, low-unsigned, unsigned-lt, unsigned_small}
 use Rattle.eds_cmd.specs.declared.shape.Whole.{Whole}
 use Rattle.eds_cmd.specs.declared.shape.Whole.TheVariants.{Natural, Negative}
-use Rattle.eds_cmd.specs.declared.sheet.Row.{Row}
-use Rattle.eds_cmd.specs.declared.sheet.Row.TheVariants.{Int, Con}
+use Rattle.eds_read_types.specs.declared.row.Row.{Row}
+use Rattle.eds_read_types.specs.declared.row.Row.TheVariants.{Int, Con}
 use Rattle.eds_cmd.specs.declared.value.FlatValue.{FlatValue}
 use Rattle.eds_cmd.specs.declared.value.FlatValue.TheVariants.{Number, Fields}
 use Rattle.eds_cmd.specs.Pack.{IsOfSize, IsOutAt, bits_of_each, first_out, is_of_size, natural_of, numbers_of}
@@ -171,8 +171,8 @@ one_piece_spelled size n bits s = record {
 }
 
 pub row_spelled : (row : Row) (value : FlatValue) (bits : Bits) → Spells row value bits → SpellsEach (part_sizes row) (numbers_of value) bits
-row_spelled (Int own) (Number n) bits s = one_piece_spelled own.size n bits s
-row_spelled (Int own) (Fields ns) bits s = absurd s
+row_spelled (Int name size) (Number n) bits s = one_piece_spelled size n bits s
+row_spelled (Int name size) (Fields ns) bits s = absurd s
 row_spelled (Con name entries) (Number n) bits s = absurd s
 row_spelled (Con name entries) (Fields ns) bits s = s
 
@@ -191,8 +191,8 @@ one_number size ns bits (p ∷ []) is sizes numbers =
 one_number size ns bits (p ∷ q ∷ ps) is sizes numbers = absurd (cc sizes)
 
 pub value_of : (row : Row) (ns : List ℕ) (bits : Bits) → SpellsEach (part_sizes row) ns bits → ValueOf row ns bits
-value_of (Int own) ns bits s =
-    let one = one_number own.size ns bits s.pieces s.joined s.sizes_are s.numbers_are in
+value_of (Int name size) ns bits s =
+    let one = one_number size ns bits s.pieces s.joined s.sizes_are s.numbers_are in
     record { value = Number one.0; numbers_are = one.1; spelled = one.2 }
 value_of (Con name entries) ns bits s = record { value = Fields ns; numbers_are = refl; spelled = s }
 

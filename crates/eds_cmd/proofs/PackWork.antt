@@ -35,7 +35,7 @@ Computed type given r = PacksGiven type given (status_from r) (report_from r)
 -- ---- what is computed is the answer
 
 computed_bits : (type : TypeIn) (given : Given) (value : FlatValue) (bits : Bits) → IsPacking type given value bits → (t : Bool) → nat_le (length bits) value_bits ≡ t
-    → Computed type given (if t then Ok (packed_report bits) else Err (pack_fault type.sheet TooLong []))
+    → Computed type given (if t then Ok (packed_report bits) else Err (pack_fault type.rows TooLong []))
 computed_bits type given value bits packing true h =
     inl (record { value = value; bits = bits; packing = packing; within = leb-true (length bits) value_bits h; status_is = refl; report_is = refl })
 computed_bits type given value bits packing false h =
@@ -50,7 +50,7 @@ computed_parts type given own each (Some k) is =
       own = own;
       i = found.0;
       out = found.2;
-      stop = record { status_is = ap (λ (i : ℕ). status_from (Err (pack_fault type.sheet OutOfRange (part_path type.row type.id i)))) here; report_is = ap (λ (i : ℕ). report_from (Err (pack_fault type.sheet OutOfRange (part_path type.row type.id i)))) here };
+      stop = record { status_is = ap (λ (i : ℕ). status_from (Err (pack_fault type.rows OutOfRange (part_path type.row type.id i)))) here; report_is = ap (λ (i : ℕ). report_from (Err (pack_fault type.rows OutOfRange (part_path type.row type.id i)))) here };
     })))
 computed_parts type given own each None is =
     let written = inside_written (part_sizes type.row) given.numbers 0 each is in
@@ -60,7 +60,7 @@ computed_parts type given own each None is =
     computed_bits type given value.value bits packing (nat_le (length bits) value_bits) refl
 
 computed_own : (type : TypeIn) (given : Given) → Fits type given → (t : Bool) → (given.id.0 == type.id) ≡ t
-    → Computed type given (if t then packed_parts type given.numbers (first_out (part_sizes type.row) given.numbers 0) else Err (pack_fault type.sheet NotDerived (Choice given.id ∷ [])))
+    → Computed type given (if t then packed_parts type given.numbers (first_out (part_sizes type.row) given.numbers 0) else Err (pack_fault type.rows NotDerived (Choice given.id ∷ [])))
 computed_own type given each true is =
     let own = eqb-true given.id.0 type.id is in
     computed_parts type given own (each own) (first_out (part_sizes type.row) given.numbers 0) refl
@@ -106,7 +106,7 @@ given_one type given status report each (inr (inr (inr t))) =
 shape_one : (type : TypeIn) (json : Data) (status : Status) (report : List ℕ) (read : Result Given (List Step)) → shape_of type json ≡ read → PacksShape type read status report
     → IsResult (or_shape type read >>= packed_given type) status report
 shape_one type json status report (Ok given) is a = given_one type given status report (shape_fits type json given is) a
-shape_one type json status report (Err path) is a = stopped (wrong_shape type.sheet path) status report a
+shape_one type json status report (Err path) is a = stopped (wrong_shape type.rows path) status report a
 
 json_one : (type : TypeIn) (status : Status) (report : List ℕ) (json : Option Data) → PacksJson type json status report
     → IsResult (or_stop not_json json >>= (λ json. or_shape type (shape_of type json) >>= packed_given type)) status report

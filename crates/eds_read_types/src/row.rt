@@ -1,7 +1,13 @@
-//! A flat sheet: one package of unsigned numbers and of containers of them.
+//! Types as a sheet declares them.
 
-use eds_base::{Items, Text};
+use eds_base::{Items, Text, TypeId};
 use std::marker::Model;
+
+/// The most entries of a container.
+pub const ENTRIES: usize = 32767;
+
+/// The most types of a sheet.
+pub const TYPES: usize = 4096;
 
 /// A size in bits, from 1 to 64, seen as that number.
 #[derive(Clone, Copy, Debug, PartialEq, Eq)]
@@ -43,36 +49,24 @@ impl Size {
     }
 }
 
-/// From one to so many items, seen as the list of them.
+/// At most so many items, seen as the list of them.
 #[derive(Debug, Drop)]
-pub struct Few<T, const MOST: usize> {
+pub struct AtMost<T, const MOST: usize> {
     items: Items<T>,
 }
 
-impl<T, const MOST: usize> Model for Few<T, MOST> {
+impl<T, const MOST: usize> Model for AtMost<T, MOST> {
     ghost use Rattle.std.specs.Prelude.{List, length, ◌≤◌};
 
     ghost Value = { List T };
 
     ghost view = { λ f. f.items };
 
-    ghost invariant = { λ f. (1 ≤ length f.items) × (length f.items ≤ MOST) };
+    ghost invariant = { λ f. length f.items ≤ MOST };
 }
 
-impl<T: Drop, const MOST: usize> Few<T, MOST> {
+impl<T: Drop, const MOST: usize> AtMost<T, MOST> {
     ghost use Rattle.std.specs.Prelude.{◌≡◌, length, ◌≤◌};
-    ghost use Rattle.eds_cmd.specs.Flat.{few};
-
-    /// The items, where they are from one to so many.
-    pub fn of(items: Items<T>) -> Option<Few<T, MOST>>
-        ensures { result ≡ few MOST items }
-    {
-        if items.is_empty() || items.len() > MOST {
-            None
-        } else {
-            Some(Few { items })
-        }
-    }
 
     /// All of them.
     pub fn as_slice(&self) -> &[T]
@@ -83,29 +77,26 @@ impl<T: Drop, const MOST: usize> Few<T, MOST> {
     }
 }
 
-/// A named unsigned number: a type, or an entry of that type.
+/// An entry of a container: its name, and the size of its type, which is an unsigned integer type.
 #[derive(Debug, Drop)]
 pub struct Unsigned {
     pub name: Text,
     pub size: Size,
 }
 
-/// The most entries of a container.
-pub const ENTRIES: usize = 32767;
-
-/// The most types of a sheet.
-pub const TYPES: usize = 4096;
-
-/// A declared type.
+/// A declared type, with its qualified name.
 #[derive(Debug, Drop)]
 pub enum Row {
-    Int(Unsigned),
-    Con(Text, Few<Unsigned, ENTRIES>),
+    Int(Text, Size),
+    Con(Text, AtMost<Unsigned, ENTRIES>),
 }
 
-/// A package of types.
+/// The declared types of a sheet, in the order of their positions.
+pub type Rows = AtMost<Row, TYPES>;
+
+/// The declared types, and the one that the word of a command names.
 #[derive(Debug, Drop)]
-pub struct Sheet {
-    pub name: Text,
-    pub rows: Few<Row, TYPES>,
+pub struct Types {
+    pub rows: Rows,
+    pub word: Option<TypeId>,
 }
