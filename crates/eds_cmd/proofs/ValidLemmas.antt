@@ -69,7 +69,7 @@ pub valid_performed : (files : Files) (c : CommandWords) → IsValid files c →
 valid_performed files c v =
     let work = valid_done_by files c.job v.sheet v.input_valid in
     let few : nat_le (length c.sheets) sheet_count ≡ true = le-leb (length c.sheets) sheet_count v.few in
-    let sheets = there_read files 0 c.sheets v.octets v.there v.within in
+    let sheets = there_read files 0 c.sheets v.octets v.there (omega (arith, v.within)) in
     let short = le-leb (length work.0) report_octets (v.short work.0 (does_done c.job files v.sheet work.0 work.1)) in
     (work.0, rw (few, sheets, v.sheet_accepted, work.1, short) refl)
 

@@ -64,11 +64,14 @@ usage_line = codes "usage: eds COMMAND ARGUMENTS\n"
 
 -- ---- an accepted sheet
 
+abbrev pub count_text : List ℕ → ℕ → List ℕ
+count_text name count = codes " " ++ name ++ codes " " ++ decimal count
+
 -- `accepted types T containers C interfaces I components M`
 abbrev pub counts_line : Counts → List ℕ
 counts_line c =
-    codes "accepted types " ++ decimal c.types ++ codes " containers " ++ decimal c.containers ++ codes " interfaces " ++ decimal c.interfaces
-    ++ codes " components " ++ decimal c.components ++ codes "\n"
+    codes "accepted" ++ count_text (codes "types") c.types ++ count_text (codes "containers") c.containers
+    ++ count_text (codes "interfaces") c.interfaces ++ count_text (codes "components") c.components ++ codes "\n"
 
 -- ---- faults
 

@@ -112,9 +112,9 @@ fn sheet_by(
 ) -> Result<Sheet, Fail<Stop>>
     requires few { length files.now ≤ SHEETS }
     requires short { All (λ file. length file < 2 ^ 32) files.now }
-    ensures answer { Answers (λ s. s) result (or_refused (compiled files.now (option_map (λ w. w.now) word))) }
+    ensures answer { Answers (λ s. s) result (or_refused (compiled files.now (option_map (λ w. w.now) word.entry))) }
     ensures word { IfOk result (λ s. IfSome s.types.word (λ id. id.0 < length s.types.rows)) }
-    ensures given { IfOk result (λ s. is_some s.types.word ≡ is_some word) }
+    ensures given { IfOk result (λ s. is_some s.types.word ≡ is_some word.entry) }
 {
     match compile(alloc, files, word) {
         Ok(sheet) => Ok(sheet),
@@ -205,11 +205,11 @@ fn done_by<S: Shelf>(
     requires word { IfSome sheet.now.types.word (λ id. id.0 < length sheet.now.types.rows) }
     requires given { is_some sheet.now.types.word ≡ is_some job }
     ensures told { (files : Files) → S.files shelf.old ≡ Some files
-        → Comes string_bytes result (done_with (option_map job_words job) files sheet.now) }
+        → Comes string_bytes result (done_with (option_map job_words job.entry) files sheet.now) }
     ensures calm { (other : List ℕ) → S.faults shelf.old other ≤ S.faults shelf.new other }
     ensures cause { IfErr result (λ halt. OnUnread halt
         (λ n. HasRisen (S.faults shelf.old n) (S.faults shelf.new n))) }
-    ensures file { IfErr result (λ halt. OnUnread halt (λ n. IsSomeAnd job (λ j. n ≡ j.input.now))) }
+    ensures file { IfErr result (λ halt. OnUnread halt (λ n. IsSomeAnd job.entry (λ j. n ≡ j.input.now))) }
 {
     match job {
         Some(job) => job_done(alloc, &job, sheet, shelf),

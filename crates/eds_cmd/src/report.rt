@@ -1,7 +1,7 @@
 //! The lines that are reported.
 
 ghost use Rattle.std.specs.Prelude.{◌≡◌, ◌≤◌, IfOk, string_bytes, slice_get, length};
-ghost use Rattle.eds_cmd.specs.Reports.{common_text as text_of_common, counts_line as line_of_counts, entries_or_none, entry_name_or_none, row_entries as entries_of_row, fault_line as line_of_fault, kept_text as text_of_kept, limit_line as line_of_limit, name_or_none, no_file_line as line_of_no_file, part_name as name_of_part, path_text as text_of_path, place_text as text_of_place, row_name as name_of_row, read_fault_line as line_of_read_fault, refusal_line as line_of_refusal, rule_text as text_of_rule, step_text as text_of_step, what_text as text_of_what};
+ghost use Rattle.eds_cmd.specs.Reports.{common_text as text_of_common, count_text as text_of_count, counts_line as line_of_counts, entries_or_none, entry_name_or_none, row_entries as entries_of_row, fault_line as line_of_fault, kept_text as text_of_kept, limit_line as line_of_limit, name_or_none, no_file_line as line_of_no_file, part_name as name_of_part, path_text as text_of_path, place_text as text_of_place, row_name as name_of_row, read_fault_line as line_of_read_fault, refusal_line as line_of_refusal, rule_text as text_of_rule, step_text as text_of_step, what_text as text_of_what};
 
 use crate::status::What;
 use eds_base::{CommonNumber, Kept, Path, Place, Refusal, Rule, Step, TypeId};
@@ -113,18 +113,27 @@ pub fn limit_line(alloc: Global, what: What, most: u64) -> Result<String, AllocE
     Ok(format!(in alloc; "limit {word} {most}\n")?)
 }
 
+fn count_text(alloc: Global, name: &str, count: u32) -> Result<String, AllocError>
+    ensures { IfOk result (λ s. string_bytes s ≡ text_of_count name.now count) }
+{
+    Ok(format!(in alloc; " {name} {count}")?)
+}
+
 /// The line of the counts of an accepted sheet.
 pub fn counts_line(alloc: Global, counts: Counts) -> Result<String, AllocError>
     ensures { IfOk result (λ s. string_bytes s ≡ line_of_counts counts) }
 {
-    let types = counts.types;
-    let containers = counts.containers;
-    let interfaces = counts.interfaces;
-    let components = counts.components;
-    Ok(format!(
-        in alloc;
-        "accepted types {types} containers {containers} interfaces {interfaces} components {components}\n"
-    )?)
+    let types = count_text(alloc, "types", counts.types)?;
+    let containers = count_text(alloc, "containers", counts.containers)?;
+    let interfaces = count_text(alloc, "interfaces", counts.interfaces)?;
+    let components = count_text(alloc, "components", counts.components)?;
+    let mut line = String::from_str(alloc, "accepted")?;
+    line.push_str(types.as_str())?;
+    line.push_str(containers.as_str())?;
+    line.push_str(interfaces.as_str())?;
+    line.push_str(components.as_str())?;
+    line.push_str("\n")?;
+    Ok(line)
 }
 
 /// The qualified name of a type.

@@ -17,5 +17,5 @@ returns c =
     let bits = bits_of_each c.args.sizes.now c.args.numbers.now in
     let within : nat_le (length bits) value_bits ≡ true = le-leb (length bits) value_bits (omega (arith, length-bits_of_each c.args.sizes.now c.args.numbers.now c.requires.each, c.count_bits-count.ensures.value)) in
     let count : c.count_bits-count.result ≡ length bits = omega (arith, length-bits_of_each c.args.sizes.now c.args.numbers.now c.requires.each, c.count_bits-count.ensures.value) in
-    let text = c.as_str.ensures.value ∙ c.in_ok-digits.ensures ∙ ap encode_lower (c.as_slice.ensures.value ∙ c.in_ok-octets.ensures) in
+    let text = c.as_str.ensures.value ∙ c.in_ok-digits.ensures ∙ ap encode_lower (c.as_slice-2.ensures.value ∙ c.in_ok-octets.ensures) in
     rw (within, c.in_ok-bits_report.ensures, text, count) refl
