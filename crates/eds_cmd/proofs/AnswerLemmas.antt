@@ -1,6 +1,7 @@
 -- The answer of a command and what the code computes are one.
-use Rattle.std.proofs.Common.{◌≡◌, ℕ, ◌+◌, ◌-◌, ◌<◌, ◌≤◌, List, [], ◌++◌, length, subst, Bool, true, false, nat_le, if◌then◌else◌, ◌⊎◌, inl, inr, Option, Some, None, Result, Ok, Err, refl, sym, ◌∙◌, ap, arith, length-append}
+use Rattle.std.proofs.Common.{◌≡◌, ℕ, ◌+◌, ◌-◌, ◌<◌, ◌≤◌, List, [], ◌++◌, codes, length, subst, Bool, true, false, nat_le, if◌then◌else◌, ◌⊎◌, inl, inr, Option, Some, None, Result, Ok, Err, refl, sym, ◌∙◌, ap, arith, length-append}
 use Rattle.std.proofs.lemmas.Bool.{le-leb, lt-leb, leb-true, leb-false}
+use Rattle.std.specs.Fmt.{digits}
 use Rattle.eds_base.specs.Answering.{◌>>=◌}
 use Rattle.eds_base.specs.declared.fault.Step.{Step}
 use Rattle.eds_base.specs.declared.fault.Reason.TheVariants.{Short, Trailing}
@@ -16,10 +17,12 @@ use Rattle.eds_sheet.specs.declared.sheet.Sheet.{Sheet}
 use Rattle.eds_cmd.specs.declared.status.What.TheVariants as what
 use Rattle.eds_cmd.specs.declared.stop.Cause.{Cause}
 use Rattle.eds_cmd.specs.declared.stop.Cause.TheVariants as causes
-use Rattle.eds_cmd.specs.Answer.{Answer, AnswersBy, AnswersCommand, AnswersFew, DoesBy, Works, WorksOn, accepted, answer_of, answered, done_by, input_for, performed, performed_few, report_from, status_from, within_report, worked}
+use Rattle.eds_cmd.specs.Answer.{Answer, AnswersBy, AnswersCommand, AnswersFew, DoesBy, IsReached, Works, WorksOn, accepted, answer_of, answered, done_by, input_for, performed, performed_few, report_from, status_from, within_report, worked}
 use Rattle.eds_cmd.specs.Command.{CommandWords, JobWords, command_of}
 use Rattle.eds_cmd.specs.Limits.{report_octets, sheet_count}
 use Rattle.eds_cmd.specs.Reading.{read_value}
+use Rattle.eds_cmd.specs.Outcome.{ComesTo}
+use Rattle.eds_cmd.specs.Reports.{limit_line}
 use Rattle.eds_cmd.specs.Shown.{bits_report, value_text}
 use Rattle.eds_cmd.specs.Stops.{IsStop, frame_fault, limited, status_of}
 use Rattle.eds_cmd.specs.Target.{TypeIn, type_of}
@@ -196,3 +199,39 @@ answer_computed files c r few is =
     let P : Result (List ℕ) Stop → Type 0 = λ x. AnswersCommand (Some c) files (status_from x) (report_from x) in
     let whole : performed_few files c ≡ r = rw (le-leb (length c.sheets) sheet_count few) is in
     subst P whole (computed_command files c)
+
+-- ---- the answer is no fault of the outside
+
+not_unread : (r : Result (List ℕ) Stop) (name : List ℕ) → status_from r ≡ statuses.ReadFault name → ⊥
+not_unread (Ok report) name e = cc e
+not_unread (Err stop) name e = by_cause stop.cause e
+  where
+    by_cause : (cause : Cause) → status_of cause ≡ statuses.ReadFault name → ⊥
+    by_cause (causes.Sheet refusal) h = cc h
+    by_cause (causes.Data fault) h = cc h
+    by_cause (causes.Limit what most) h = cc h
+    by_cause (causes.NoFile missing_name) h = cc h
+
+pub answer_not_unread : (files : Files) (c : CommandWords) (status : Status) (report name : List ℕ) → AnswersCommand (Some c) files status report → status ≡ statuses.ReadFault name → ⊥
+answer_not_unread files c status report name a e = not_unread (performed_few files c) name (sym (command_one files c status report a).0 ∙ e)
+
+-- where a file of that name was not read, it is reached
+pub unread_reached : (Rises : List ℕ → Type 0) (files : Files) (c : CommandWords) (status : Status) (report name : List ℕ) → ComesTo Rises files c status report → status ≡ statuses.ReadFault name
+    → IsReached files c name
+unread_reached Rises files c status report name (inl answer) e = absurd (answer_not_unread files c status report name answer e)
+unread_reached Rises files c status report name (inr unread) e =
+    let both : statuses.ReadFault unread.name ≡ statuses.ReadFault name = sym unread.status_is ∙ e in
+    let one : unread.name ≡ name = cc both in
+    let P : List ℕ → Type 0 = λ n. IsReached files c n in
+    subst P one unread.reached
+
+-- the line of too many sheet files
+abbrev pub past_line : List ℕ
+past_line = codes "limit files 64\n"
+
+past_line_is : past_line ≡ limit_line what.Files sheet_count
+unfolding digits
+past_line_is = refl
+
+pub past_answer : (files : Files) (c : CommandWords) → sheet_count < length c.sheets → AnswersCommand (Some c) files (statuses.Limit what.Files sheet_count) past_line
+past_answer files c past = rw (lt-leb (length c.sheets) sheet_count past) (record { status_is = refl; report_is = past_line_is })

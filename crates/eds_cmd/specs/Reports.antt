@@ -64,7 +64,7 @@ usage_line = codes "usage: eds COMMAND ARGUMENTS\n"
 
 -- ---- an accepted sheet
 
-abbrev pub count_text : List ℕ → ℕ → List ℕ
+unfoldable pub count_text : List ℕ → ℕ → List ℕ
 count_text name count = codes " " ++ name ++ codes " " ++ decimal count
 
 -- `accepted types T containers C interfaces I components M`

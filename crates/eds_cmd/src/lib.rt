@@ -27,6 +27,5 @@ pub use status::{DataFault, Status, What};
 pub use top::eds;
 pub use words::Words;
 
-
 #[cfg(test)]
 mod tests;

@@ -224,7 +224,11 @@ fn shape_for(alloc: Global, target: &Target<'_>, value: &Value) -> Result<Given,
     match given_of(alloc, target, value) {
         Ok(given) => Ok(given),
         Err(Fail::Memory) => Err(Fail::Memory),
-        Err(Fail::Named(path)) => Err(Fail::Named(wrong_shape(alloc, target.rows.as_slice(), path)?)),
+        Err(Fail::Named(path)) => Err(Fail::Named(wrong_shape(
+            alloc,
+            target.rows.as_slice(),
+            path,
+        )?)),
     }
 }
 

@@ -105,11 +105,7 @@ fn sheet_files<S: Shelf>(
 }
 
 // The sheet of files, with the type that a word names.
-fn sheet_by(
-    alloc: Global,
-    files: &Items<Octets>,
-    word: Option<&str>,
-) -> Result<Sheet, Fail<Stop>>
+fn sheet_by(alloc: Global, files: &Items<Octets>, word: Option<&str>) -> Result<Sheet, Fail<Stop>>
     requires few { length files.now ≤ SHEETS }
     requires short { All (λ file. length file < 2 ^ 32) files.now }
     ensures answer { Answers (λ s. s) result (or_refused (compiled files.now (option_map (λ w. w.now) word.entry))) }
@@ -124,11 +120,7 @@ fn sheet_by(
 }
 
 // The sheet of a command, with the type that its word names.
-fn sheet_for<S: Shelf>(
-    alloc: Global,
-    command: &Command<'_>,
-    shelf: &mut S,
-) -> Result<Sheet, Halt>
+fn sheet_for<S: Shelf>(alloc: Global, command: &Command<'_>, shelf: &mut S) -> Result<Sheet, Halt>
     requires { length command.now.sheets.now ≤ SHEETS }
     ensures told { (files : Files) → S.files shelf.old ≡ Some files
         → Comes (λ s. s) result (accepted files (words_of command.now)) }

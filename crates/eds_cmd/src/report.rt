@@ -113,6 +113,7 @@ pub fn limit_line(alloc: Global, what: What, most: u64) -> Result<String, AllocE
     Ok(format!(in alloc; "limit {word} {most}\n")?)
 }
 
+#[tactic(auto, unfolding(crate::specs::Reports::count_text))]
 fn count_text(alloc: Global, name: &str, count: u32) -> Result<String, AllocError>
     ensures { IfOk result (λ s. string_bytes s ≡ text_of_count name.now count) }
 {

@@ -31,10 +31,12 @@ const USES: &str = "[\"PackageFile\",[\"Package\",{\"name\":\"A/B\"},[\"DataType
 [\"ContainerDataType\",{\"name\":\"C\"},[\"EntryList\",[\"Entry\",{\"name\":\"x\",\"type\":\"U8\"}]]]]]]";
 
 // A type that no sheet may have.
-const FLOAT: &str = "[\"PackageFile\",[\"Package\",{\"name\":\"F\"},[\"DataTypeSet\",[\"FloatDataType\",{\"name\":\"X\"}]]]]";
+const FLOAT: &str =
+    "[\"PackageFile\",[\"Package\",{\"name\":\"F\"},[\"DataTypeSet\",[\"FloatDataType\",{\"name\":\"X\"}]]]]";
 
 // Containers that derive from others, with an enumeration, a truth value and a length.
-const DEMO: &str = "[\"PackageFile\",[\"Package\",{\"name\":\"Demo\"},[\"DataTypeSet\",[\"IntegerDataType\",{\"name\":\"U3\"},[\"IntegerDataEncoding\",{\"sizeInBits\":\"3\",\"encoding\":\"unsigned\"}]],\
+const DEMO: &str =
+    "[\"PackageFile\",[\"Package\",{\"name\":\"Demo\"},[\"DataTypeSet\",[\"IntegerDataType\",{\"name\":\"U3\"},[\"IntegerDataEncoding\",{\"sizeInBits\":\"3\",\"encoding\":\"unsigned\"}]],\
 [\"BooleanDataType\",{\"name\":\"Bit\"},[\"BooleanDataEncoding\",{\"sizeInBits\":\"1\"}]],[\"IntegerDataType\",{\"name\":\"U11\"},[\"IntegerDataEncoding\",{\"sizeInBits\":\"11\",\"encoding\":\"unsigned\"}]],[\"IntegerDataType\",{\"name\":\"U14\"},[\"IntegerDataEncoding\",{\"sizeInBits\":\"14\",\"encoding\":\"unsigned\"}]],[\"IntegerDataType\",{\"name\":\"U16\"},[\"IntegerDataEncoding\",{\"sizeInBits\":\"16\",\"encoding\":\"unsigned\"}]],\
 [\"EnumeratedDataType\",{\"name\":\"Flags\"},[\"IntegerDataEncoding\",{\"sizeInBits\":\"2\",\"encoding\":\"unsigned\"}],\
 [\"EnumerationList\",[\"Enumeration\",{\"label\":\"CONT\",\"value\":\"0\"}],[\"Enumeration\",{\"label\":\"FIRST\",\"value\":\"1\"}],\
@@ -48,11 +50,13 @@ const DEMO: &str = "[\"PackageFile\",[\"Package\",{\"name\":\"Demo\"},[\"DataTyp
 [\"EntryList\",[\"Entry\",{\"name\":\"Temp\",\"type\":\"U16\"}]]]]]]";
 
 // A container with a list.
-const LI: &str = "[\"PackageFile\",[\"Package\",{\"name\":\"Li\"},[\"DataTypeSet\",[\"IntegerDataType\",{\"name\":\"U4\"},[\"IntegerDataEncoding\",{\"sizeInBits\":\"4\",\"encoding\":\"unsigned\"}]],[\"IntegerDataType\",{\"name\":\"U8\"},[\"IntegerDataEncoding\",{\"sizeInBits\":\"8\",\"encoding\":\"unsigned\"}]],[\"ContainerDataType\",{\"name\":\"L\"},[\"EntryList\",\
+const LI: &str =
+    "[\"PackageFile\",[\"Package\",{\"name\":\"Li\"},[\"DataTypeSet\",[\"IntegerDataType\",{\"name\":\"U4\"},[\"IntegerDataEncoding\",{\"sizeInBits\":\"4\",\"encoding\":\"unsigned\"}]],[\"IntegerDataType\",{\"name\":\"U8\"},[\"IntegerDataEncoding\",{\"sizeInBits\":\"8\",\"encoding\":\"unsigned\"}]],[\"ContainerDataType\",{\"name\":\"L\"},[\"EntryList\",\
 [\"Entry\",{\"name\":\"Count\",\"type\":\"U8\"}],[\"ListEntry\",{\"name\":\"Items\",\"type\":\"U4\",\"listLengthField\":\"Count\"}]]]]]]";
 
 // A component with a machine.
-const DEV: &str = "[\"PackageFile\",[\"Package\",{\"name\":\"Dev\"},[\"DataTypeSet\",[\"IntegerDataType\",{\"name\":\"U8\"},[\"IntegerDataEncoding\",{\"sizeInBits\":\"8\",\"encoding\":\"unsigned\"}]],[\"ContainerDataType\",{\"name\":\"Beat\"},[\"EntryList\",\
+const DEV: &str =
+    "[\"PackageFile\",[\"Package\",{\"name\":\"Dev\"},[\"DataTypeSet\",[\"IntegerDataType\",{\"name\":\"U8\"},[\"IntegerDataEncoding\",{\"sizeInBits\":\"8\",\"encoding\":\"unsigned\"}]],[\"ContainerDataType\",{\"name\":\"Beat\"},[\"EntryList\",\
 [\"FixedValueEntry\",{\"type\":\"U8\",\"fixedValue\":\"165\"}],[\"Entry\",{\"name\":\"N\",\"type\":\"U8\"}]]]],\
 [\"DeclaredInterfaceSet\",[\"Interface\",{\"name\":\"Sub\",\"level\":\"subnetwork\"},[\"GenericTypeSet\",[\"GenericType\",{\"name\":\"Unit\"}]],\
 [\"CommandSet\",[\"Command\",{\"name\":\"send\"},[\"Argument\",{\"name\":\"unit\",\"type\":\"Unit\"}]],\
@@ -186,19 +190,79 @@ fn commands_are_answered(rt: HostRuntime) -> Result<(), Fail> {
         ("unpack Flat/Word input sheet", " 1\t2\r\n34 ", 0, WORD),
         ("unpack Flat/U12 input sheet", "fFfA", 0, "4095\nbits 12\n"),
         ("unpack Flat/U12 input sheet", "fF", 3, "fault Short at $\n"),
-        ("unpack Flat/Word input sheet", "12", 3, "fault Short at $.b\n"),
-        ("unpack Flat/Word input sheet", " ", 3, "fault Short at $.a\n"),
-        ("unpack Flat/Word input sheet", "123456", 3, "fault Trailing at $\n"),
-        ("unpack Flat/Word input sheet", "12g4", 3, "fault BadHex at $\n"),
-        ("unpack Flat/Word input sheet", "123", 3, "fault BadHex at $\n"),
-        ("unpack Flat/None input sheet", "1234", 1, "refused 10 Unresolved at 1:0 Flat/None\n"),
-        ("unpack Word input sheet", "1234", 1, "refused 10 Unresolved at 1:0 Word\n"),
-        ("unpack Flat/Word input gone.json", "1234", 8, "no file gone.json\n"),
-        ("unpack Flat/Word input sheet gone.json", "1234", 8, "no file gone.json\n"),
-        ("unpack Flat/Word gone.hex sheet", "1234", 8, "no file gone.hex\n"),
+        (
+            "unpack Flat/Word input sheet",
+            "12",
+            3,
+            "fault Short at $.b\n",
+        ),
+        (
+            "unpack Flat/Word input sheet",
+            " ",
+            3,
+            "fault Short at $.a\n",
+        ),
+        (
+            "unpack Flat/Word input sheet",
+            "123456",
+            3,
+            "fault Trailing at $\n",
+        ),
+        (
+            "unpack Flat/Word input sheet",
+            "12g4",
+            3,
+            "fault BadHex at $\n",
+        ),
+        (
+            "unpack Flat/Word input sheet",
+            "123",
+            3,
+            "fault BadHex at $\n",
+        ),
+        (
+            "unpack Flat/None input sheet",
+            "1234",
+            1,
+            "refused 10 Unresolved at 1:0 Flat/None\n",
+        ),
+        (
+            "unpack Word input sheet",
+            "1234",
+            1,
+            "refused 10 Unresolved at 1:0 Word\n",
+        ),
+        (
+            "unpack Flat/Word input gone.json",
+            "1234",
+            8,
+            "no file gone.json\n",
+        ),
+        (
+            "unpack Flat/Word input sheet gone.json",
+            "1234",
+            8,
+            "no file gone.json\n",
+        ),
+        (
+            "unpack Flat/Word gone.hex sheet",
+            "1234",
+            8,
+            "no file gone.hex\n",
+        ),
         ("check gone.json", "1234", 8, "no file gone.json\n"),
-        ("check sheet", "1234", 0, "accepted types 3 containers 1 interfaces 0 components 0\n"),
-        ("check sheet sheet", "1234", 1, "refused 9 Duplicate at 1:3 U4\n"),
+        (
+            "check sheet",
+            "1234",
+            0,
+            "accepted types 3 containers 1 interfaces 0 components 0\n",
+        ),
+        (
+            "check sheet sheet",
+            "1234",
+            1,
+            "refused 9 Duplicate at 1:3 U4\n",
+        ),
         ("", "1234", 2, USAGE),
         ("check", "1234", 2, USAGE),
         ("Check sheet", "1234", 2, USAGE),
@@ -222,31 +286,143 @@ fn sheets_are_judged(rt: HostRuntime) -> Result<(), Fail> {
     let table = [
         ("check sheet", "{", "", 1, "refused 1 NotJson at 0:0\n"),
         ("check sheet", "[]", "", 1, "refused 2 NotElement at 0:0\n"),
-        ("check sheet", "[\"Table\"]", "", 1, "refused 3 UnknownElement at 0:0 Table\n"),
-        ("check sheet", FLOAT, "", 1, "refused 4 Unsupported at 0:3 FloatDataType\n"),
-        ("check sheet", DEMO, "", 1, "refused 4 Unsupported at 0:5 BooleanDataType\n"),
-        ("check sheet", LI, "", 1, "refused 4 Unsupported at 0:10 ListEntry\n"),
-        ("check sheet", DEV, "", 1, "refused 4 Unsupported at 0:7 FixedValueEntry\n"),
-        ("check sheet", "[\"PackageFile\"]", "", 0, "accepted types 0 containers 0 interfaces 0 components 0\n"),
-        ("check sheet", TYPES, USES, 0, "accepted types 1 containers 0 interfaces 0 components 0\n"),
-        ("check other", TYPES, USES, 1, "refused 10 Unresolved at 0:5 U8\n"),
-        ("check sheet other", TYPES, USES, 0, "accepted types 2 containers 1 interfaces 0 components 0\n"),
-        ("check other sheet", TYPES, USES, 0, "accepted types 2 containers 1 interfaces 0 components 0\n"),
-        ("check sheet other", TYPES, FLOAT, 1, "refused 4 Unsupported at 1:3 FloatDataType\n"),
-        ("check sheet other", FLOAT, "{", 1, "refused 1 NotJson at 1:0\n"),
+        (
+            "check sheet",
+            "[\"Table\"]",
+            "",
+            1,
+            "refused 3 UnknownElement at 0:0 Table\n",
+        ),
+        (
+            "check sheet",
+            FLOAT,
+            "",
+            1,
+            "refused 4 Unsupported at 0:3 FloatDataType\n",
+        ),
+        (
+            "check sheet",
+            DEMO,
+            "",
+            1,
+            "refused 4 Unsupported at 0:5 BooleanDataType\n",
+        ),
+        (
+            "check sheet",
+            LI,
+            "",
+            1,
+            "refused 4 Unsupported at 0:10 ListEntry\n",
+        ),
+        (
+            "check sheet",
+            DEV,
+            "",
+            1,
+            "refused 4 Unsupported at 0:7 FixedValueEntry\n",
+        ),
+        (
+            "check sheet",
+            "[\"PackageFile\"]",
+            "",
+            0,
+            "accepted types 0 containers 0 interfaces 0 components 0\n",
+        ),
+        (
+            "check sheet",
+            TYPES,
+            USES,
+            0,
+            "accepted types 1 containers 0 interfaces 0 components 0\n",
+        ),
+        (
+            "check other",
+            TYPES,
+            USES,
+            1,
+            "refused 10 Unresolved at 0:5 U8\n",
+        ),
+        (
+            "check sheet other",
+            TYPES,
+            USES,
+            0,
+            "accepted types 2 containers 1 interfaces 0 components 0\n",
+        ),
+        (
+            "check other sheet",
+            TYPES,
+            USES,
+            0,
+            "accepted types 2 containers 1 interfaces 0 components 0\n",
+        ),
+        (
+            "check sheet other",
+            TYPES,
+            FLOAT,
+            1,
+            "refused 4 Unsupported at 1:3 FloatDataType\n",
+        ),
+        (
+            "check sheet other",
+            FLOAT,
+            "{",
+            1,
+            "refused 1 NotJson at 1:0\n",
+        ),
         ("check sheet gone.json", "{", "", 8, "no file gone.json\n"),
-        ("unpack A/B/C input sheet other", TYPES, USES, 0, "{\"$type\":\"A/B/C\",\"x\":7}\nbits 8\n"),
-        ("unpack A/B/C input other sheet", TYPES, USES, 0, "{\"$type\":\"A/B/C\",\"x\":7}\nbits 8\n"),
+        (
+            "unpack A/B/C input sheet other",
+            TYPES,
+            USES,
+            0,
+            "{\"$type\":\"A/B/C\",\"x\":7}\nbits 8\n",
+        ),
+        (
+            "unpack A/B/C input other sheet",
+            TYPES,
+            USES,
+            0,
+            "{\"$type\":\"A/B/C\",\"x\":7}\nbits 8\n",
+        ),
         ("unpack A/U8 input sheet", TYPES, USES, 0, "7\nbits 8\n"),
-        ("unpack A/B/C input sheet", TYPES, USES, 1, "refused 10 Unresolved at 1:0 A/B/C\n"),
-        ("unpack C input sheet other", TYPES, USES, 1, "refused 10 Unresolved at 2:0 C\n"),
-        ("unpack A/B/C gone sheet other", TYPES, "{", 1, "refused 1 NotJson at 1:0\n"),
-        ("pack A/U8 input sheet other", TYPES, USES, 3, "fault NotJson at $\n"),
+        (
+            "unpack A/B/C input sheet",
+            TYPES,
+            USES,
+            1,
+            "refused 10 Unresolved at 1:0 A/B/C\n",
+        ),
+        (
+            "unpack C input sheet other",
+            TYPES,
+            USES,
+            1,
+            "refused 10 Unresolved at 2:0 C\n",
+        ),
+        (
+            "unpack A/B/C gone sheet other",
+            TYPES,
+            "{",
+            1,
+            "refused 1 NotJson at 1:0\n",
+        ),
+        (
+            "pack A/U8 input sheet other",
+            TYPES,
+            USES,
+            3,
+            "fault NotJson at $\n",
+        ),
     ];
     for (words, sheet, other, number, report) in table {
         let (got, written) = run(alloc, CALM, words, held(sheet, other, "07"))?;
         assert_eq!(rt; got, number, "{words} to {report}");
-        assert_eq!(rt; written.as_slice(), report.as_bytes(), "{words} to {report}");
+        assert_eq!(rt;
+            written.as_slice(),
+            report.as_bytes(),
+            "{words} to {report}"
+        );
     }
     Ok(())
 }
@@ -436,8 +612,16 @@ fn faults_of_the_outside_are_told(rt: HostRuntime) -> Result<(), Fail> {
     for (words, read_most, read_fails, write_most, write_fails, number, report) in table {
         let outside = failing_outside(read_most, read_fails, write_most, write_fails);
         let (got, written) = run(alloc, outside, words, held(FLAT, TYPES, "1234"))?;
-        assert_eq!(rt; got, number, "{words}: read {read_fails}, write {write_fails}");
-        assert_eq!(rt; written.as_slice(), report.as_bytes(), "{words}: read {read_fails}, write {write_fails}");
+        assert_eq!(rt;
+            got,
+            number,
+            "{words}: read {read_fails}, write {write_fails}"
+        );
+        assert_eq!(rt;
+            written.as_slice(),
+            report.as_bytes(),
+            "{words}: read {read_fails}, write {write_fails}"
+        );
     }
     Ok(())
 }
@@ -477,7 +661,11 @@ fn sheet_limits_are_kept(rt: HostRuntime) -> Result<(), Fail> {
         };
         let (got, written) = run(alloc, CALM, words.as_str(), files)?;
         assert_eq!(rt; got, number, "{count} files of {size} octets");
-        assert_eq!(rt; written.as_slice(), report.as_bytes(), "{count} files of {size} octets");
+        assert_eq!(rt;
+            written.as_slice(),
+            report.as_bytes(),
+            "{count} files of {size} octets"
+        );
     }
     Ok(())
 }

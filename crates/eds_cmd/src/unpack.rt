@@ -67,7 +67,12 @@ fn closed(
     ensures { Answers string_bytes result (closed_with (type_in target.now) text.now all left) }
 {
     if left >= 8 {
-        let stop = frame_fault(alloc, target.rows.as_slice(), Reason::Trailing, Path::root())?;
+        let stop = frame_fault(
+            alloc,
+            target.rows.as_slice(),
+            Reason::Trailing,
+            Path::root(),
+        )?;
         return Err(Fail::Named(stop));
     }
     Ok(bits_report(alloc, text, all.saturating_sub(left))?)
