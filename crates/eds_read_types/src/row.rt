@@ -1,13 +1,7 @@
-//! Types as a sheet declares them.
+//! Types as rows.
 
 use eds_base::{Items, Text, TypeId};
 use std::marker::Model;
-
-/// The most entries of a container.
-pub const ENTRIES: usize = 32767;
-
-/// The most types of a sheet.
-pub const TYPES: usize = 4096;
 
 /// A size in bits, from 1 to 64, seen as that number.
 #[derive(Clone, Copy, Debug, PartialEq, Eq)]
@@ -60,13 +54,25 @@ impl<T, const MOST: usize> Model for AtMost<T, MOST> {
 
     ghost Value = { List T };
 
-    ghost view = { λ f. f.items };
+    ghost view = { λ a. a.items };
 
-    ghost invariant = { λ f. length f.items ≤ MOST };
+    ghost invariant = { λ a. length a.items ≤ MOST };
 }
 
 impl<T: Drop, const MOST: usize> AtMost<T, MOST> {
     ghost use Rattle.std.specs.Prelude.{◌≡◌, length, ◌≤◌};
+    ghost use Rattle.eds_read_types.specs.Rows.{at_most};
+
+    /// The items, where there are at most so many.
+    pub fn of(items: Items<T>) -> Option<AtMost<T, MOST>>
+        ensures { result ≡ at_most MOST items }
+    {
+        if items.len() > MOST {
+            None
+        } else {
+            Some(AtMost { items })
+        }
+    }
 
     /// All of them.
     pub fn as_slice(&self) -> &[T]
@@ -77,24 +83,30 @@ impl<T: Drop, const MOST: usize> AtMost<T, MOST> {
     }
 }
 
-/// An entry of a container: its name, and the size of its type, which is an unsigned integer type.
+/// An entry of a container: its name, and the size of its unsigned number.
 #[derive(Debug, Drop)]
 pub struct Unsigned {
     pub name: Text,
     pub size: Size,
 }
 
-/// A declared type, with its qualified name.
+/// The most entries of a container.
+pub const ENTRIES: usize = 32767;
+
+/// The most types of a sheet.
+pub const TYPES: usize = 4096;
+
+/// A declared type, by its qualified name: an unsigned integer type and its size, or a container and its entries in order.
 #[derive(Debug, Drop)]
 pub enum Row {
     Int(Text, Size),
     Con(Text, AtMost<Unsigned, ENTRIES>),
 }
 
-/// The declared types of a sheet, in the order of their positions.
+/// The declared types, each at its `TypeId`.
 pub type Rows = AtMost<Row, TYPES>;
 
-/// The declared types, and the one that the word of a command names.
+/// The types of a sheet, and the type that the TYPE word names, where there is a TYPE word.
 #[derive(Debug, Drop)]
 pub struct Types {
     pub rows: Rows,

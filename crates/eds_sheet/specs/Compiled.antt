@@ -1,9 +1,65 @@
--- What the files of a sheet say.
-use Rattle.std.specs.Prelude.{ℕ, List, Option, Result, Err}
+-- A sheet compiled, or refused for the first rule that it breaks.
+use Rattle.std.specs.Prelude.{ℕ, List, [], ◌∷◌, ◌++◌, count_by, Bool, true, false, Option, Result, Ok, Err}
 use Rattle.eds_base.specs.declared.refusal.Refusal.{Refusal}
-use Rattle.eds_base.specs.declared.refusal.Kept.TheVariants.{Nothing}
-use Rattle.eds_base.specs.declared.rule.Rule.TheVariants.{NotJson}
+use Rattle.eds_base.specs.Answering.{◌>>=◌}
+use Rattle.eds_tree.specs.declared.tree.Node.{Node}
+use Rattle.eds_tree.specs.ShapeCheck.{shape_breaks, shape_verdict}
+use Rattle.eds_names.specs.Declarations.{is_sort, is_face, is_comp}
+use Rattle.eds_names.specs.LookUp.{Names, names_in, names_of, duplicates}
+use Rattle.eds_read_types.specs.declared.row.Row.{Row}
+use Rattle.eds_read_types.specs.declared.row.Row.TheVariants.{Int, Con}
+use Rattle.eds_read_types.specs.declared.row.Types.{Types}
+use Rattle.eds_read_types.specs.ReadTypes.{type_breaks, types_read}
+use Rattle.eds_sheet.specs.declared.sheet.Counts.{Counts}
 use Rattle.eds_sheet.specs.declared.sheet.Sheet.{Sheet}
+use Rattle.eds_sheet.specs.Judging.{judged_first}
+use Rattle.eds_sheet.specs.Files.{trees_in, reading_breaks}
+use Rattle.eds_sheet.specs.Pending.{pending_breaks, pending_verdict}
 
-unfoldable pub compiled : List (List ℕ) → Option (List ℕ) → Result Sheet Refusal
-compiled files word = Err (record { rule = NotJson; place = record { file = 0; node = 0 }; kept = Nothing })
+-- ---- what a sheet breaks
+
+-- All that some trees break: what is not compiled yet is judged only where all elements are as they should be, and
+-- references and what rests on them only where no name is given twice.
+abbrev pub tree_breaks : List (List Node) → (word : Option (List ℕ)) → List Refusal
+tree_breaks trees word = judged_first (shape_breaks trees) (pending_breaks trees) ++ judged_first (duplicates trees) (type_breaks trees (names_of trees) word)
+
+-- the same of files that are element trees
+abbrev pub breaks_where_read : Result (List (List Node)) Refusal → (word : Option (List ℕ)) → List Refusal
+breaks_where_read (Ok trees) word = tree_breaks trees word
+breaks_where_read (Err r) word = []
+
+-- All that a sheet breaks, with the word for a type that the sheet is to have. Only files that are element trees are
+-- judged by other rules.
+abbrev pub all_breaks : List (List ℕ) → (word : Option (List ℕ)) → List Refusal
+all_breaks files word = judged_first (reading_breaks files) (breaks_where_read (trees_in files) word)
+
+-- ---- the sheet
+
+abbrev pub is_container : Row → Bool
+is_container (Int name size) = false
+is_container (Con name entries) = true
+
+-- how many types, containers, interfaces and components there are
+abbrev pub counts_of : Names → Types → Counts
+counts_of names types = record {
+  types = count_by (λ d. is_sort d.item) names.declared;
+  containers = count_by is_container types.rows;
+  interfaces = count_by (λ d. is_face d.item) names.declared;
+  components = count_by (λ d. is_comp d.item) names.declared;
+}
+
+abbrev pub sheet_of : Names → Types → Sheet
+sheet_of names types = record { types = types; counts = counts_of names types }
+
+-- the sheet of some trees, or the first of the rules that they break, judged in their order
+abbrev pub compiled_trees : List (List Node) → (word : Option (List ℕ)) → Result Sheet Refusal
+compiled_trees trees word =
+    shape_verdict trees >>= λ shaped.
+    pending_verdict trees >>= λ built.
+    names_in trees >>= λ names.
+    types_read trees names word >>= λ types.
+    Ok (sheet_of names types)
+
+-- the sheet of some files, or the first of the rules that they break
+unfoldable pub compiled : List (List ℕ) → (word : Option (List ℕ)) → Result Sheet Refusal
+compiled files word = trees_in files >>= λ trees. compiled_trees trees word

@@ -1,6 +1,13 @@
-//! A whole sheet, or the rule that it breaks.
+//! Sheets: from the files of a sheet to its types, or to the first rule that they break.
 #![tactic(auto)]
 
+mod files;
+pub mod law;
+mod pending;
 mod sheet;
 
-pub use sheet::{Counts, Files, Sheet, compile};
+pub use files::Files;
+pub use sheet::{Counts, Sheet, compile};
+
+#[cfg(test)]
+mod tests;

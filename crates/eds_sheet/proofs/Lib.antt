@@ -1,0 +1,5 @@
+pub mod Stages
+pub mod FilesLemmas
+pub mod Phases
+pub mod TypePhases
+pub mod CompiledLaws

@@ -1,0 +1,15 @@
+//! Laws of sheets.
+
+ghost use Rattle.std.specs.Prelude.{◌≡◌, ◌↔◌, [], Err, Some, IsOk, option_map};
+ghost use Rattle.eds_base.specs.declared.refusal.Refusal.{Refusal};
+ghost use Rattle.eds_base.specs.Refusals.{least};
+ghost use Rattle.eds_sheet.specs.Compiled.{all_breaks, compiled};
+
+use crate::Files;
+
+/// A sheet is refused exactly for the first of all that it breaks, by phase, place and number, and is accepted exactly
+/// where it breaks nothing.
+pub fn refused_for_the_first_break(files: &Files, word: Option<&str>)
+    ensures refused { (r : Refusal) → (compiled files.now (option_map (λ w. w.now) word.entry) ≡ Err r) ↔ (least (all_breaks files.now (option_map (λ w. w.now) word.entry)) ≡ Some r) }
+    ensures accepted { IsOk (compiled files.now (option_map (λ w. w.now) word.entry)) ↔ (all_breaks files.now (option_map (λ w. w.now) word.entry) ≡ []) }
+{}
