@@ -62,13 +62,16 @@ id_of (item.Sort id) = Some id
 id_of (item.Face id) = None
 id_of (item.Comp id) = None
 
--- the type that the TYPE word names
-abbrev pub word_type : List (List Node) → Names → List ℕ → Option TypeId
-word_type trees names text = look_up names (word_place trees) text >>= id_of
+-- the type that the TYPE word names, where there is such a word
+abbrev pub word_type : List (List Node) → Names → Option (List ℕ) → Option TypeId
+word_type trees names word = do
+  text ← word
+  found ← look_up names (word_place trees) text
+  id_of found
 
 -- a row for each declared type, in order, and the type that the TYPE word names
 abbrev pub types_of : List (List Node) → Names → Option (List ℕ) → Types
-types_of trees names word = record { rows = map (row_of trees names) (types names); word = word >>= word_type trees names }
+types_of trees names word = record { rows = map (row_of trees names) (types names); word = word_type trees names word }
 
 abbrev pub unless : Option Refusal → Types → Result Types Refusal
 unless None types = Ok types

@@ -1,0 +1,110 @@
+//! The elements of a sheet by their places.
+
+ghost use Rattle.std.specs.Prelude.{◌≡◌, ◌++◌, OnOk, IfOk, option_map};
+ghost use Rattle.std.specs.Option.{option_copied};
+ghost use Rattle.eds_tree.specs.Trees.{node_name, node_children};
+ghost use Rattle.eds_read_types.specs.Places.{element as element_of, is_element as is_named, attribute as attribute_of, own_name as own_name_of, is_container as is_container_at, held};
+ghost use Rattle.eds_read_types.specs.Encodings.{first_held as first_of_held};
+
+use eds_base::{Memory, Place};
+use eds_tree::{Node, Tree};
+
+fn element<'a>(trees: &'a [Tree], at: Place) -> Option<&'a Node>
+    ensures { option_copied result ≡ element_of trees.now at }
+{
+    match trees.get(at.file as usize) {
+        None => None,
+        Some(tree) => tree.get(at.node as usize),
+    }
+}
+
+fn name_at(trees: &[Tree], at: Place) -> &str
+    ensures { result.now ≡ node_name (element_of trees.now at) }
+{
+    match element(trees, at) {
+        None => "",
+        Some(node) => node.name.as_str(),
+    }
+}
+
+fn children_at(trees: &[Tree], at: Place) -> &[u32]
+    ensures { result.now ≡ node_children (element_of trees.now at) }
+{
+    match element(trees, at) {
+        None => &[],
+        Some(node) => node.children.as_slice(),
+    }
+}
+
+/// Whether the element at a place has a name.
+pub(crate) fn is_element(trees: &[Tree], name: &str, at: Place) -> bool
+    ensures { result ≡ is_named trees.now name.now at }
+{
+    name_at(trees, at) == name
+}
+
+/// Whether it is a container.
+pub(crate) fn is_container(trees: &[Tree], at: Place) -> bool
+    ensures { result ≡ is_container_at trees.now at }
+{
+    is_element(trees, "ContainerDataType", at)
+}
+
+/// The text of an attribute of it.
+pub(crate) fn attribute<'a>(trees: &'a [Tree], name: &str, at: Place) -> Option<&'a str>
+    ensures { option_map (λ t. t.now) result ≡ attribute_of trees.now name.now at }
+{
+    match element(trees, at) {
+        None => None,
+        Some(node) => node.attribute(name),
+    }
+}
+
+/// The name that it gives itself, empty where it gives none.
+pub(crate) fn own_name(trees: &[Tree], at: Place) -> &str
+    ensures { result.now ≡ own_name_of trees.now at }
+{
+    match attribute(trees, "name", at) {
+        None => "",
+        Some(name) => name,
+    }
+}
+
+/// Puts those of its children last that have a name.
+pub(crate) fn push_held(
+    places: &mut Vec<Place>,
+    trees: &[Tree],
+    name: &str,
+    at: Place,
+) -> Result<(), Memory>
+    ensures { OnOk result (places.new.items ≡ places.old.items ++ held trees.now name.now at) }
+{
+    for node in children_at(trees, at) {
+        let child = Place {
+            file: at.file,
+            node: *node,
+        };
+        if is_element(trees, name, child) {
+            places.push(child)?;
+        }
+    }
+    Ok(())
+}
+
+/// The first of its children that have a name.
+pub(crate) fn first_held(trees: &[Tree], name: &str, at: Place) -> Option<Place>
+    ensures { result ≡ first_of_held (held trees.now name.now at) }
+{
+    let mut rest = children_at(trees, at);
+    while let [node, after @ ..] = rest {
+        let child = Place {
+            file: at.file,
+            node: *node,
+        };
+        if is_element(trees, name, child) {
+            return Some(child);
+        }
+        rest = after;
+    }
+    None
+}

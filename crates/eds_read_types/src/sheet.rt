@@ -1,0 +1,81 @@
+//! A sheet whose names are known.
+
+ghost use Rattle.std.specs.Prelude.{◌≡◌, ◌≤◌, ◌++◌, length, map, filter, IfOk, OnOk};
+ghost use Rattle.eds_names.specs.LookUp.{NamesDiffer};
+ghost use Rattle.eds_read_types.specs.Places.{places_in, elements as elements_of, type_places as type_places_of};
+ghost use Rattle.eds_read_types.specs.References.{word_place};
+
+use eds_base::{Memory, Place};
+use eds_names::{Declared, Space};
+use eds_tree::Tree;
+use std::alloc::Global;
+
+/// The trees of at most 64 files, and their names.
+#[derive(Drop)]
+pub(crate) struct Sheet<'a> {
+    pub(crate) trees: &'a [Tree],
+    pub(crate) space: &'a Space,
+    /// All elements that are not passed over.
+    pub(crate) elements: &'a [Place],
+    /// The elements of the declared types, each at its `TypeId`.
+    pub(crate) types: &'a [Place],
+    ghost few: { length trees.now ≤ 64 },
+    ghost walked: { elements.now ≡ elements_of trees.now },
+    ghost known: { types.now ≡ type_places_of space.now },
+}
+
+impl<'a> Sheet<'a> {
+    /// The place of the TYPE word, behind all files.
+    pub(crate) fn word_place(&self) -> Place
+        ensures { result ≡ word_place self.now.trees.now }
+    {
+        Place {
+            file: self.trees.len() as u16,
+            node: 0,
+        }
+    }
+}
+
+fn push_elements(
+    alloc: Global,
+    places: &mut Vec<Place>,
+    file: u16,
+    tree: &Tree,
+) -> Result<(), Memory>
+    ensures { OnOk result (places.new.items ≡ places.old.items ++ places_in file tree.now) }
+{
+    let links = tree.links(alloc)?;
+    for link in links.as_slice() {
+        places.push(Place {
+            file,
+            node: link.node,
+        })?;
+    }
+    Ok(())
+}
+
+/// All elements of some files that are not passed over.
+pub(crate) fn elements(alloc: Global, trees: &[Tree]) -> Result<Vec<Place>, Memory>
+    requires { length trees.now ≤ 64 }
+    ensures { IfOk result (λ p. p.items ≡ elements_of trees.now) }
+{
+    let mut places = Vec::new(alloc);
+    for (file, tree) in trees.iter().enumerate() {
+        push_elements(alloc, &mut places, file as u16, tree)?;
+    }
+    Ok(places)
+}
+
+/// The elements of the declared types, of which no two have one qualified name.
+pub(crate) fn type_places(alloc: Global, space: &Space) -> Result<Vec<Place>, Memory>
+    ensures types { IfOk result (λ p. p.items ≡ type_places_of space.now) }
+    ensures differ { NamesDiffer space.now.declared }
+{
+    let mut places = Vec::new(alloc);
+    for one in space.declared() {
+        if one.item.is_sort() {
+            places.push(one.place)?;
+        }
+    }
+    Ok(places)
+}
