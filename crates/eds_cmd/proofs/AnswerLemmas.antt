@@ -1,10 +1,10 @@
 -- The answer of a command and what the code computes are one.
-use Rattle.std.proofs.Common.{◌≡◌, ℕ, ◌+◌, ◌-◌, ◌<◌, ◌≤◌, List, [], ◌++◌, codes, length, subst, Bool, true, false, nat_le, if◌then◌else◌, ◌⊎◌, inl, inr, Option, Some, None, Result, Ok, Err, refl, sym, ◌∙◌, ap, arith, length-append}
+use Rattle.std.proofs.Common.{◌≡◌, ℕ, ◌-◌, ◌<◌, ◌≤◌, List, [], ◌++◌, codes, length, subst, Bool, true, false, nat_le, if◌then◌else◌, inl, inr, Option, Some, None, Result, Ok, Err, refl, sym, ◌∙◌, ap, arith, length-append}
 use Rattle.std.proofs.lemmas.Bool.{le-leb, lt-leb, leb-true, leb-false}
 use Rattle.std.specs.Fmt.{digits}
 use Rattle.eds_base.specs.Answering.{◌>>=◌}
 use Rattle.eds_base.specs.declared.fault.Step.{Step}
-use Rattle.eds_base.specs.declared.fault.Reason.TheVariants.{Short, Trailing}
+use Rattle.eds_base.specs.declared.fault.Reason.TheVariants.{Trailing}
 use Rattle.eds_bits.specs.Bits.{Bits, bits_of}
 use Rattle.eds_io.specs.Files.{Files}
 use Rattle.eds_cmd.specs.declared.command.Verb.{Verb}
@@ -27,7 +27,7 @@ use Rattle.eds_cmd.specs.Shown.{bits_report, value_text}
 use Rattle.eds_cmd.specs.Stops.{IsStop, frame_fault, limited, status_of}
 use Rattle.eds_cmd.specs.Target.{TypeIn, type_of}
 use Rattle.eds_cmd.specs.Values.{Begins}
-use Rattle.eds_cmd.specs.Unpack.{IsUnpacked, IsTrailing, IsCutShort, Unpacks, UnpacksBits, UnpacksFrame, closed, frame_for, or_short, unpacked, unpacked_bits}
+use Rattle.eds_cmd.specs.Unpack.{UnpacksBits, UnpacksFrame, closed, frame_for, or_short, unpacked_bits}
 use Rattle.eds_cmd.proofs.PackWork.{computed_packed, packed_one}
 use Rattle.eds_cmd.proofs.Results.{IsResult, stopped}
 use Rattle.eds_cmd.proofs.SpellingLemmas.{value_read, value_spelled, value_cut, cut_value, found}

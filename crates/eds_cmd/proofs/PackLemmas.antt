@@ -1,12 +1,12 @@
 -- Numbers written one after another.
-use Rattle.std.proofs.Common.{◌≡◌, ℕ, zero, suc, ◌+◌, ◌-◌, ◌*◌, ◌/◌, ◌^◌, ◌<◌, ◌≤◌, List, [], ◌∷◌, ◌++◌, length, take, drop, get_or, map, nat_eq, nat_lt, replicate, sum, Bool, true, false, Option, Some, None, All, if◌then◌else◌, refl, sym, ◌∙◌, ap, subst, arith, append_assoc, append-nil, length-append, zero-add, ⊎_elim}
+use Rattle.std.proofs.Common.{◌≡◌, ℕ, zero, suc, ◌+◌, ◌*◌, ◌/◌, ◌^◌, ◌<◌, ◌≤◌, List, [], ◌∷◌, ◌++◌, length, take, drop, get_or, nat_eq, nat_lt, replicate, sum, Bool, true, false, Some, None, All, if◌then◌else◌, refl, sym, ◌∙◌, ap, arith, append_assoc, append-nil, length-append, zero-add, ⊎_elim}
 use Rattle.std.proofs.lemmas.Bool.{lt-ltb, le-ltb, cases_lt}
 use Rattle.std.proofs.Math.Dec.{eqb-suc-zero}
 use Rattle.std.proofs.lemmas.Nat.{div_below, le-div, pow_pos}
 use Rattle.std.proofs.lemmas.List.{drop_more, take_more, drop-replicate, replicate-append-replicate, length-take-le, take_at}
 use Rattle.std.proofs.lemmas.List.Sums.{sum_by_more_le, sum_by-cons}
 use Rattle.std.specs.Int.{div_ceil}
-use Rattle.eds_bits.specs.Bits.{Bits, bits_of, filled, low_bits, oct, octets_of, with_piece}
+use Rattle.eds_bits.specs.Bits.{Bits, bits_of, low_bits, oct, octets_of, with_piece}
 use Rattle.eds_bits.proofs.BitLaws.{length-low, with_piece-append}
 use Rattle.eds_bits.proofs.OctetLaws.{bits_of-octets_of, bits_of_same, octets_of_below}
 use Rattle.eds_cmd.specs.declared.shape.Whole.{Whole}

@@ -1,7 +1,6 @@
 -- What packing comes to is what the code computes.
-use Rattle.std.proofs.Common.{◌≡◌, ◌≢◌, ℕ, ◌<◌, ◌≤◌, List, [], ◌∷◌, length, map, ◌==◌, nat_le, Bool, true, false, inl, inr, Option, Some, None, Result, Ok, Err, if◌then◌else◌, refl, sym, ◌∙◌, ap, subst, arith}
+use Rattle.std.proofs.Common.{◌≡◌, ℕ, List, [], ◌∷◌, length, map, ◌==◌, nat_le, Bool, true, false, inl, inr, Option, Some, None, Result, Ok, Err, if◌then◌else◌, refl, ◌∙◌, ap, arith}
 use Rattle.std.proofs.lemmas.Bool.{le-leb, lt-leb, leb-true, leb-false, eqb-false, eqb-true, eq-eqb, ne_eqb}
-use Rattle.std.proofs.lemmas.List.{length-map}
 use Rattle.serde_json.specs.Data.{Data}
 use Rattle.eds_base.specs.Answering.{◌>>=◌, or_stop}
 use Rattle.eds_base.specs.declared.fault.Step.{Step}
@@ -9,21 +8,20 @@ use Rattle.eds_base.specs.declared.fault.Step.TheVariants.{Choice}
 use Rattle.eds_bits.specs.Bits.{Bits}
 use Rattle.eds_cmd.specs.declared.pack_fail.PackReason.TheVariants.{OutOfRange, NotDerived, TooLong}
 use Rattle.eds_cmd.specs.declared.shape.Given.{Given}
-use Rattle.eds_cmd.specs.declared.shape.Whole.{Whole}
 use Rattle.eds_cmd.specs.declared.shape.Whole.TheVariants.{Natural}
 use Rattle.eds_cmd.specs.declared.status.Status.{Status}
 use Rattle.eds_cmd.specs.declared.stop.Stop.{Stop}
 use Rattle.eds_cmd.specs.declared.value.FlatValue.{FlatValue}
 use Rattle.eds_cmd.specs.Answer.{report_from, status_from}
 use Rattle.eds_cmd.specs.Limits.{value_bits}
-use Rattle.eds_cmd.specs.Pack.{IsOutside, IsPacked, IsPacking, IsTooLong, IsUnderived, Packs, PacksGiven, PacksJson, PacksShape, bits_of_each, first_out, numbers_of, or_shape, packed, packed_bits, packed_given, packed_parts, packed_report, part_path}
+use Rattle.eds_cmd.specs.Pack.{IsPacking, Packs, PacksGiven, PacksJson, PacksShape, bits_of_each, first_out, numbers_of, or_shape, packed, packed_bits, packed_given, packed_parts, packed_report, part_path}
 use Rattle.eds_cmd.specs.Shape.{shape_of}
-use Rattle.eds_cmd.specs.Stops.{IsStop, not_json, pack_fault, wrong_shape}
+use Rattle.eds_cmd.specs.Stops.{not_json, pack_fault, wrong_shape}
 use Rattle.eds_cmd.specs.Target.{TypeIn, tree_of}
 use Rattle.eds_cmd.specs.Values.{part_sizes}
 use Rattle.eds_cmd.proofs.PackAnswer.{inside_written, out_found, out_is_found, row_spelled, spelled_inside, spelled_written, value_of}
 use Rattle.eds_cmd.proofs.Results.{IsResult, stopped}
-use Rattle.eds_cmd.proofs.ShapeLemmas.{shape, shape_fits}
+use Rattle.eds_cmd.proofs.ShapeLemmas.{shape_fits}
 
 -- the numbers given are as many as the type has parts, where it is the type's own container
 abbrev pub Fits : TypeIn → Given → Type 0

@@ -1,5 +1,5 @@
 -- What the JSON of a value gives has a number for each part of its type.
-use Rattle.std.proofs.Common.{◌≡◌, ℕ, ◌+◌, List, [], ◌∷◌, ◌++◌, length, codes, ◌==◌, Bool, true, false, if◌then◌else◌, Option, Some, None, Result, Ok, Err, refl, sym, ◌∙◌, ap, arith}
+use Rattle.std.proofs.Common.{◌≡◌, ℕ, ◌+◌, List, [], ◌∷◌, length, codes, ◌==◌, Bool, true, false, if◌then◌else◌, Option, Some, None, Result, Ok, Err, refl, sym, ◌∙◌, ap, arith}
 use Rattle.std.proofs.lemmas.Bool.{eqb-false}
 use Rattle.std.proofs.lemmas.List.{length-map}
 use Rattle.serde_json.specs.Data.{Data}
@@ -14,9 +14,9 @@ use Rattle.eds_read_types.specs.declared.row.Row.{Row}
 use Rattle.eds_read_types.specs.declared.row.Row.TheVariants.{Int, Con}
 use Rattle.eds_cmd.specs.Pack.{or_shape}
 use Rattle.eds_cmd.specs.Reports.{row_entries}
-use Rattle.eds_cmd.specs.Shape.{container_by, container_for, container_named, fields_given, has_fields, is_container, member_before, member_of, members_of, number_given, or_field, own_or, put_before, shape_by, shape_of, whole_of}
+use Rattle.eds_cmd.specs.Shape.{container_by, container_for, container_named, fields_given, has_fields, is_container, member_before, member_of, members_of, number_given, or_field, own_or, shape_by, shape_of, whole_of}
 use Rattle.eds_cmd.specs.Target.{TypeIn, type_named}
-use Rattle.eds_cmd.specs.Values.{entry_sizes, part_sizes}
+use Rattle.eds_cmd.specs.Values.{part_sizes}
 
 abbrev members : List Whole → Result (List Whole) ℕ
 members ns = Ok ns

@@ -1,5 +1,5 @@
 -- Numbers spelled one after another, and numbers read one after another.
-use Rattle.std.proofs.Common.{◌≡◌, ℕ, zero, suc, ◌+◌, ◌<◌, ◌≤◌, List, [], ◌∷◌, ◌++◌, length, take, drop, get_or, map, Bool, true, false, nat_lt, if◌then◌else◌, subst, Result, Ok, Err, refl, sym, ◌∙◌, ap, arith, append_assoc, length-append, ⊎_elim}
+use Rattle.std.proofs.Common.{◌≡◌, ℕ, suc, ◌+◌, ◌<◌, ◌≤◌, List, [], ◌∷◌, ◌++◌, length, take, drop, get_or, map, Bool, true, false, nat_lt, if◌then◌else◌, subst, Result, Ok, Err, refl, sym, ◌∙◌, ap, arith, append_assoc, length-append, ⊎_elim}
 use Rattle.std.specs.List.{flat_map}
 use Rattle.std.proofs.lemmas.Bool.{le-ltb, ltb-false, ltb-true, lt-ltb, cases_lt}
 use Rattle.std.proofs.lemmas.List.{take_at, drop_at, take-append-drop, length-take-le, drop_more, get_or_past, length-map}
@@ -11,8 +11,8 @@ use Rattle.eds_read_types.specs.declared.row.Row.{Row}
 use Rattle.eds_read_types.specs.declared.row.Row.TheVariants.{Int, Con}
 use Rattle.eds_cmd.specs.declared.value.FlatValue.{FlatValue}
 use Rattle.eds_cmd.specs.declared.value.FlatValue.TheVariants.{Number, Fields}
-use Rattle.eds_cmd.specs.Reading.{put_before, read_each, read_number, read_value, fields_from}
-use Rattle.eds_cmd.specs.Values.{IsUnsigned, SpellsEach, Begins, IsShortAt, IsShort, entry_sizes, Spells}
+use Rattle.eds_cmd.specs.Reading.{put_before, read_each, read_value, fields_from}
+use Rattle.eds_cmd.specs.Values.{SpellsEach, Begins, IsShortAt, IsShort, entry_sizes, Spells}
 
 abbrev pub joined : List Bits → Bits
 joined pieces = flat_map (λ piece. piece) pieces

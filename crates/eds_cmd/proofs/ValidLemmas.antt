@@ -1,5 +1,5 @@
 -- A valid command is done.
-use Rattle.std.proofs.Common.{◌≡◌, ℕ, ◌-◌, ◌<◌, ◌≤◌, List, length, true, false, nat_le, Option, Some, None, Result, Ok, refl, ◌∙◌, ap, subst, arith}
+use Rattle.std.proofs.Common.{◌≡◌, ℕ, ◌-◌, List, length, true, false, nat_le, Option, Some, None, Result, Ok, refl, ◌∙◌, ap, subst, arith}
 use Rattle.std.proofs.lemmas.Bool.{le-leb, lt-leb}
 use Rattle.eds_bits.specs.Bits.{bits_of}
 use Rattle.eds_io.specs.Files.{Files}
@@ -16,7 +16,7 @@ use Rattle.eds_cmd.specs.Pack.{packed, packed_report}
 use Rattle.eds_cmd.specs.Shown.{bits_report, value_text}
 use Rattle.eds_cmd.specs.Reports.{counts_line}
 use Rattle.eds_cmd.specs.Target.{TypeIn, type_of}
-use Rattle.eds_cmd.specs.Unpack.{frame_for, unpacked, unpacked_bits}
+use Rattle.eds_cmd.specs.Unpack.{frame_for, unpacked_bits}
 use Rattle.eds_cmd.proofs.AnswerLemmas.{command_one, computed_done}
 use Rattle.eds_cmd.proofs.PackWork.{packing_computed}
 use Rattle.eds_cmd.proofs.SheetFiles.{there_read}

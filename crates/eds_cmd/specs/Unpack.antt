@@ -1,5 +1,5 @@
 -- What unpacking the text of a frame comes to.
-use Rattle.std.specs.Prelude.{◌≡◌, ℕ, ◌-◌, ◌≤◌, nat_le, List, [], ◌++◌, length, if◌then◌else◌, Result, Ok, Err, ◌⊎◌}
+use Rattle.std.specs.Prelude.{◌≡◌, ℕ, ◌-◌, ◌≤◌, nat_le, List, [], length, if◌then◌else◌, Result, Ok, Err, ◌⊎◌}
 use Rattle.eds_base.specs.declared.fault.Step.{Step}
 use Rattle.eds_base.specs.declared.fault.Reason.TheVariants.{Short, Trailing}
 use Rattle.eds_base.specs.Answering.{◌>>=◌, or_stop}

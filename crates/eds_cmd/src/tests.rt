@@ -130,7 +130,7 @@ struct Held<'a> {
     input: &'a [u8],
 }
 
-fn held<'a>(sheet: &'a str, other: &'a str, input: &'a str) -> Held<'a> {
+fn of_texts<'a>(sheet: &'a str, other: &'a str, input: &'a str) -> Held<'a> {
     Held {
         sheet: sheet.as_bytes(),
         other: other.as_bytes(),
@@ -273,7 +273,7 @@ fn commands_are_answered(rt: HostRuntime) -> Result<(), Fail> {
         ("Unpack Flat/Word input sheet", "1234", 2, USAGE),
     ];
     for (words, input, number, report) in table {
-        let (got, written) = run(alloc, CALM, words, held(FLAT, "", input))?;
+        let (got, written) = run(alloc, CALM, words, of_texts(FLAT, "", input))?;
         assert_eq!(rt; got, number, "{words} of {input}");
         assert_eq!(rt; written.as_slice(), report.as_bytes(), "{words} of {input}");
     }
@@ -416,7 +416,7 @@ fn sheets_are_judged(rt: HostRuntime) -> Result<(), Fail> {
         ),
     ];
     for (words, sheet, other, number, report) in table {
-        let (got, written) = run(alloc, CALM, words, held(sheet, other, "07"))?;
+        let (got, written) = run(alloc, CALM, words, of_texts(sheet, other, "07"))?;
         assert_eq!(rt; got, number, "{words} to {report}");
         assert_eq!(rt;
             written.as_slice(),
@@ -461,12 +461,12 @@ fn values_are_packed_and_read_again(rt: HostRuntime) -> Result<(), Fail> {
     ];
     for (name, value, digits, bits) in table {
         let pack = format!(in alloc; "pack {name} input sheet")?;
-        let (packed, octets) = run(alloc, CALM, pack.as_str(), held(MORE, "", value))?;
+        let (packed, octets) = run(alloc, CALM, pack.as_str(), of_texts(MORE, "", value))?;
         let want = format!(in alloc; "{digits}\nbits {bits}\n")?;
         assert_eq!(rt; packed, 0, "{name} of {value}");
         assert_eq!(rt; octets.as_slice(), want.as_bytes(), "{name} of {value}");
         let unpack = format!(in alloc; "unpack {name} input sheet")?;
-        let (read, text) = run(alloc, CALM, unpack.as_str(), held(MORE, "", digits))?;
+        let (read, text) = run(alloc, CALM, unpack.as_str(), of_texts(MORE, "", digits))?;
         let want = format!(in alloc; "{value}\nbits {bits}\n")?;
         assert_eq!(rt; read, 0, "{name} of {digits}");
         assert_eq!(rt; text.as_slice(), want.as_bytes(), "{name} of {digits}");
@@ -586,7 +586,7 @@ fn values_are_refused(rt: HostRuntime) -> Result<(), Fail> {
     ];
     for (name, value, number, report) in table {
         let words = format!(in alloc; "pack {name} input sheet")?;
-        let (got, written) = run(alloc, CALM, words.as_str(), held(MORE, "", value))?;
+        let (got, written) = run(alloc, CALM, words.as_str(), of_texts(MORE, "", value))?;
         assert_eq!(rt; got, number, "{name} of {value}");
         assert_eq!(rt; written.as_slice(), report.as_bytes(), "{name} of {value}");
     }
@@ -611,7 +611,7 @@ fn faults_of_the_outside_are_told(rt: HostRuntime) -> Result<(), Fail> {
     ];
     for (words, read_most, read_fails, write_most, write_fails, number, report) in table {
         let outside = failing_outside(read_most, read_fails, write_most, write_fails);
-        let (got, written) = run(alloc, outside, words, held(FLAT, TYPES, "1234"))?;
+        let (got, written) = run(alloc, outside, words, of_texts(FLAT, TYPES, "1234"))?;
         assert_eq!(rt;
             got,
             number,
@@ -717,7 +717,7 @@ fn long_values_are_refused(rt: HostRuntime) -> Result<(), Fail> {
     let table = [(8192, 0), (8193, 3)];
     for (count, number) in table {
         let (sheet, value) = wide(alloc, count)?;
-        let files = held(sheet.as_str(), "", value.as_str());
+        let files = of_texts(sheet.as_str(), "", value.as_str());
         let (got, written) = run(alloc, CALM, "pack P/K input sheet", files)?;
         assert_eq!(rt; got, number, "{count} entries");
         if number == 3 {

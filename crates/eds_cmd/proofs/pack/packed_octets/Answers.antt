@@ -1,6 +1,6 @@
-use Rattle.std.proofs.Common.{◌≡◌, ◌∙◌, ℕ, List, length, ap, sym, arith, ◌<◌, lit<}
+use Rattle.std.proofs.Common.{◌∙◌, ℕ, List, length, ap, sym, arith, ◌<◌, lit<}
 use Rattle.std.proofs.lemmas.List.Elements.{All-replicate}
-use Rattle.eds_bits.specs.Bits.{Bits, bits_of, with_piece}
+use Rattle.eds_bits.specs.Bits.{bits_of, with_piece}
 use Rattle.eds_cmd.specs.Pack.{bits_of_each}
 use Rattle.eds_cmd.proofs.PackLemmas.{all_replaced, length-bits_of_each, octets_for_bits, octets_written}
 use Rattle.eds_cmd.proofs.pack.packed_octets.Goals as goal

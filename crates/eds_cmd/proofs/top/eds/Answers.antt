@@ -1,7 +1,7 @@
-use Rattle.std.proofs.Common.{◌≡◌, ◌≢◌, ◌∙◌, ap, sym, subst, refl, inl, inr, ⊎_elim, Option, Some, None}
+use Rattle.std.proofs.Common.{◌≡◌, ◌≢◌, ◌∙◌, sym, subst, refl, inl, ⊎_elim, Some, None}
 use Rattle.eds_cmd.specs.declared.status.Status.{Status}
 use Rattle.eds_cmd.specs.declared.status.Status.TheVariants as statuses
-use Rattle.eds_cmd.specs.Command.{CommandWords, command_of, words_of}
+use Rattle.eds_cmd.specs.Command.{command_of, words_of}
 use Rattle.eds_cmd.specs.Outcome.{IsFault}
 use Rattle.eds_cmd.specs.declared.status.What.TheVariants as what
 use Rattle.eds_cmd.specs.Limits.{sheet_count}
