@@ -9,7 +9,6 @@ ghost use Rattle.eds_sheet.specs.Compiled.{compiled};
 ghost use Rattle.eds_cmd.specs.Answer.{IsReached, IsReachedSheet, accepted, done_by as done_with, input_for as input_of, or_refused, performed, sheet_file as sheet_of_name, sheet_files as sheets_of_names, whole_file as whole, within_report as within_limit, worked as worked_on};
 ghost use Rattle.eds_cmd.specs.Command.{ReadsFile, job_words, words_of};
 ghost use Rattle.eds_cmd.specs.Halts.{Comes, OnUnread};
-ghost use Rattle.eds_cmd.specs.Reports.{counts_line as line_of_counts};
 ghost use Rattle.eds_cmd.specs.Target.{type_in};
 
 use crate::command::{Command, Job, Verb, input_most};
@@ -21,9 +20,9 @@ use crate::status::What;
 use crate::stop::{Stop, limited, missing, refused};
 use crate::target::{Target, target_of};
 use crate::unpack::unpacked;
-use eds_base::{Fail, Items, Memory, Octets, Text};
+use eds_base::{Fail, Items, Octets, Text};
 use eds_io::{ReadEnd, Shelf, read_whole};
-use eds_sheet::{Counts, Sheet, compile};
+use eds_sheet::{Sheet, compile};
 use std::alloc::Global;
 
 fn whole_file<S: Shelf>(
@@ -181,12 +180,6 @@ fn job_done<S: Shelf>(
     Ok(worked(alloc, job.verb, &target, input.as_slice())?)
 }
 
-fn counted(alloc: Global, counts: Counts) -> Result<String, Memory>
-    ensures { IfOk result (λ s. string_bytes s ≡ line_of_counts counts) }
-{
-    Ok(counts_line(alloc, counts)?)
-}
-
 // What is done by an accepted sheet.
 fn done_by<S: Shelf>(
     alloc: Global,
@@ -205,7 +198,7 @@ fn done_by<S: Shelf>(
 {
     match job {
         Some(job) => job_done(alloc, &job, sheet, shelf),
-        None => Ok(counted(alloc, sheet.counts)?),
+        None => Ok(counts_line(alloc, sheet.counts)?),
     }
 }
 
