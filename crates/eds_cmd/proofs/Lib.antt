@@ -1,10 +1,7 @@
-pub mod ItemsLemmas
-pub mod Fronts
-pub mod SizesLemmas
-pub mod NamesLemmas
 pub mod ReportsLemmas
 pub mod ShownLemmas
 pub mod SpellingLemmas
+pub mod SheetFiles
 pub mod AnswerLemmas
 pub mod ValidLemmas
 pub mod PackLemmas

@@ -1,19 +1,18 @@
 -- What packing comes to, and what the code computes.
-use Rattle.std.proofs.Common.{◌≡◌, ◌≢◌, ℕ, zero, suc, ◌+◌, ◌^◌, ◌<◌, ◌≤◌, List, [], ◌∷◌, ◌++◌, length, take, drop, get_or, map, ◌==◌, nat_le, nat_lt, Bool, true, false, ◌⊎◌, inl, inr, ⊎_elim, Option, Some, None, slice_get, Result, Ok, Err, if◌then◌else◌, refl, sym, ◌∙◌, ap, subst, arith, append_assoc, append-nil, length-append}
-use Rattle.std.specs.List.{flat_map}
-use Rattle.std.proofs.lemmas.Bool.{lt-ltb, le-ltb, ltb-true, ltb-false, le-leb, lt-leb, leb-true, leb-false, eqb-false, eq-eqb, ne_eqb, cases_lt}
-use Rattle.std.proofs.lemmas.List.{drop_more, length-map, length-take-le, take-append-drop}
+use Rattle.std.proofs.Common.{◌≡◌, ℕ, suc, ◌+◌, ◌^◌, ◌<◌, ◌≤◌, List, [], ◌∷◌, ◌++◌, length, take, drop, get_or, map, Bool, true, false, ⊎_elim, Option, Some, None, if◌then◌else◌, refl, sym, ◌∙◌, ap, arith, append-nil, length-append}
+use Rattle.std.proofs.lemmas.Bool.{lt-ltb, le-ltb, ltb-true, ltb-false, cases_lt}
+use Rattle.std.proofs.lemmas.List.{drop_more, length-take-le, take-append-drop}
 use Rattle.eds_bits.specs.Bits.{Bits, low_bits, unsigned_of}
 use Rattle.eds_bits.proofs.BitLaws.{length-low, low-unsigned, unsigned-lt, unsigned_small}
 use Rattle.eds_cmd.specs.declared.shape.Whole.{Whole}
 use Rattle.eds_cmd.specs.declared.shape.Whole.TheVariants.{Natural, Negative}
-use Rattle.eds_cmd.specs.declared.sheet.Row.{Row}
-use Rattle.eds_cmd.specs.declared.sheet.Row.TheVariants.{Int, Con}
+use Rattle.eds_read_types.specs.declared.row.Row.{Row}
+use Rattle.eds_read_types.specs.declared.row.Row.TheVariants.{Int, Con}
 use Rattle.eds_cmd.specs.declared.value.FlatValue.{FlatValue}
 use Rattle.eds_cmd.specs.declared.value.FlatValue.TheVariants.{Number, Fields}
-use Rattle.eds_cmd.specs.Pack.{IsOfSize, IsOutAt, bits_of_each, first_out, is_of_size, natural_of, numbers_of}
+use Rattle.eds_cmd.specs.Pack.{IsOfSize, IsOutAt, bits_of_each, first_out, is_of_size, numbers_of}
 use Rattle.eds_cmd.specs.Reading.{read_value}
-use Rattle.eds_cmd.specs.Values.{IsUnsigned, Spells, SpellsEach, entry_sizes, part_sizes}
+use Rattle.eds_cmd.specs.Values.{IsUnsigned, Spells, SpellsEach, part_sizes}
 use Rattle.eds_cmd.proofs.ReportsLemmas.{drop-read}
 use Rattle.eds_cmd.proofs.SpellingLemmas.{found, joined, value_read, value_spelled}
 
@@ -171,8 +170,8 @@ one_piece_spelled size n bits s = record {
 }
 
 pub row_spelled : (row : Row) (value : FlatValue) (bits : Bits) → Spells row value bits → SpellsEach (part_sizes row) (numbers_of value) bits
-row_spelled (Int own) (Number n) bits s = one_piece_spelled own.size n bits s
-row_spelled (Int own) (Fields ns) bits s = absurd s
+row_spelled (Int name size) (Number n) bits s = one_piece_spelled size n bits s
+row_spelled (Int name size) (Fields ns) bits s = absurd s
 row_spelled (Con name entries) (Number n) bits s = absurd s
 row_spelled (Con name entries) (Fields ns) bits s = s
 
@@ -191,8 +190,8 @@ one_number size ns bits (p ∷ []) is sizes numbers =
 one_number size ns bits (p ∷ q ∷ ps) is sizes numbers = absurd (cc sizes)
 
 pub value_of : (row : Row) (ns : List ℕ) (bits : Bits) → SpellsEach (part_sizes row) ns bits → ValueOf row ns bits
-value_of (Int own) ns bits s =
-    let one = one_number own.size ns bits s.pieces s.joined s.sizes_are s.numbers_are in
+value_of (Int name size) ns bits s =
+    let one = one_number size ns bits s.pieces s.joined s.sizes_are s.numbers_are in
     record { value = Number one.0; numbers_are = one.1; spelled = one.2 }
 value_of (Con name entries) ns bits s = record { value = Fields ns; numbers_are = refl; spelled = s }
 

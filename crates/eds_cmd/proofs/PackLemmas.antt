@@ -1,18 +1,16 @@
 -- Numbers written one after another.
-use Rattle.std.proofs.Common.{◌≡◌, ℕ, zero, suc, ◌+◌, ◌-◌, ◌*◌, ◌/◌, ◌^◌, ◌<◌, ◌≤◌, List, [], ◌∷◌, ◌++◌, length, take, drop, get_or, map, nat_eq, nat_lt, replicate, sum_by, Bool, true, false, Option, Some, None, All, if◌then◌else◌, refl, sym, ◌∙◌, ap, subst, arith, append_assoc, append-nil, length-append, zero-add, ⊎_elim}
+use Rattle.std.proofs.Common.{◌≡◌, ℕ, zero, suc, ◌+◌, ◌*◌, ◌/◌, ◌^◌, ◌<◌, ◌≤◌, List, [], ◌∷◌, ◌++◌, length, take, drop, get_or, nat_eq, nat_lt, replicate, sum, Bool, true, false, Some, None, All, if◌then◌else◌, refl, sym, ◌∙◌, ap, arith, append_assoc, append-nil, length-append, zero-add, ⊎_elim}
 use Rattle.std.proofs.lemmas.Bool.{lt-ltb, le-ltb, cases_lt}
 use Rattle.std.proofs.Math.Dec.{eqb-suc-zero}
 use Rattle.std.proofs.lemmas.Nat.{div_below, le-div, pow_pos}
-use Rattle.std.proofs.lemmas.List.{drop_more, take_more, drop-replicate, replicate-append-replicate, length-take-le, length-map, map_more, take_at}
+use Rattle.std.proofs.lemmas.List.{drop_more, take_more, drop-replicate, replicate-append-replicate, length-take-le, take_at}
 use Rattle.std.proofs.lemmas.List.Sums.{sum_by_more_le, sum_by-cons}
 use Rattle.std.specs.Int.{div_ceil}
-use Rattle.eds_bits.specs.Bits.{Bits, bits_of, filled, low_bits, oct, octets_of, with_piece}
+use Rattle.eds_bits.specs.Bits.{Bits, bits_of, low_bits, oct, octets_of, with_piece}
 use Rattle.eds_bits.proofs.BitLaws.{length-low, with_piece-append}
 use Rattle.eds_bits.proofs.OctetLaws.{bits_of-octets_of, bits_of_same, octets_of_below}
-use Rattle.eds_cmd.specs.declared.sheet.Unsigned.{Unsigned}
 use Rattle.eds_cmd.specs.declared.shape.Whole.{Whole}
 use Rattle.eds_cmd.specs.Pack.{bits_of_each, first_out, is_of_size, natural_of}
-use Rattle.eds_cmd.specs.Values.{entry_sizes}
 
 -- a number shifted away is below that power of two
 pub shifted-away : (n d : ℕ) → 0 < d → nat_eq (n / d) 0 ≡ nat_lt n d
@@ -29,14 +27,11 @@ shifted-away n d some = ⊎_elim
     not_zero zero h = absurd (omega arith)
     not_zero (suc k) h = eqb-suc-zero k
 
-abbrev size_of : Unsigned → ℕ
-size_of e = e.size
-
-pub length-bits_of_each : (parts : List Unsigned) (numbers : List Whole) → length numbers ≡ length parts → length (bits_of_each (entry_sizes parts) numbers) ≡ sum_by (λ e. e.size) parts
+pub length-bits_of_each : (sizes : List ℕ) (numbers : List Whole) → length numbers ≡ length sizes → length (bits_of_each sizes numbers) ≡ sum sizes
 length-bits_of_each [] numbers each = refl
-length-bits_of_each (e ∷ es) [] each = absurd (omega arith)
-length-bits_of_each (e ∷ es) (n ∷ ns) each =
-    length-append (low_bits e.size (natural_of n)) (bits_of_each (entry_sizes es) ns) ∙ rw (length-low, length-bits_of_each es ns (omega arith)) (sym (sum_by-cons size_of e es))
+length-bits_of_each (s ∷ ss) [] each = absurd (omega arith)
+length-bits_of_each (s ∷ ss) (n ∷ ns) each =
+    length-append (low_bits s (natural_of n)) (bits_of_each ss ns) ∙ rw (length-low, length-bits_of_each ss ns (omega arith)) (sym (sum_by-cons (λ size. size) s ss))
 
 bits_of_each-append : (sizes more : List ℕ) (ns ms : List Whole) → length ns ≡ length sizes → bits_of_each (sizes ++ more) (ns ++ ms) ≡ bits_of_each sizes ns ++ bits_of_each more ms
 bits_of_each-append [] more [] ms each = refl
@@ -46,39 +41,38 @@ bits_of_each-append (s ∷ sizes) more (n ∷ ns) ms each =
     ap (λ (b : Bits). low_bits s (natural_of n) ++ b) (bits_of_each-append sizes more ns ms (omega arith)) ∙ sym (append_assoc (low_bits s (natural_of n)) (bits_of_each sizes ns) (bits_of_each more ms))
 
 -- one more number behind others
-pub bits_of_each-more : (parts : List Unsigned) (numbers : List Whole) (i : ℕ) (e : Unsigned) (n : Whole) → length numbers ≡ length parts → i < length parts → e ≡ get_or parts i e → n ≡ get_or numbers i n
-    → bits_of_each (entry_sizes (take (i + 1) parts)) (take (i + 1) numbers) ≡ bits_of_each (entry_sizes (take i parts)) (take i numbers) ++ low_bits e.size (natural_of n)
-bits_of_each-more parts numbers i e n each within e_is n_is =
-    let front = entry_sizes (take i parts) in
-    let sizes : entry_sizes (take (i + 1) parts) ≡ front ++ e.size ∷ [] = map_more size_of parts i e within ∙ ap (λ (u : Unsigned). front ++ u.size ∷ []) (sym e_is) in
+pub bits_of_each-more : (sizes : List ℕ) (numbers : List Whole) (i size : ℕ) (n : Whole) → length numbers ≡ length sizes → i < length sizes → size ≡ get_or sizes i size → n ≡ get_or numbers i n
+    → bits_of_each (take (i + 1) sizes) (take (i + 1) numbers) ≡ bits_of_each (take i sizes) (take i numbers) ++ low_bits size (natural_of n)
+bits_of_each-more sizes numbers i size n each within size_is n_is =
+    let front = take i sizes in
+    let longer : take (i + 1) sizes ≡ front ++ size ∷ [] = take_more sizes i size within ∙ ap (λ (s : ℕ). front ++ s ∷ []) (sym size_is) in
     let more : take (i + 1) numbers ≡ take i numbers ++ n ∷ [] = take_more numbers i n (omega arith) ∙ ap (λ (w : Whole). take i numbers ++ w ∷ []) (sym n_is) in
-    let same : length (take i numbers) ≡ length front = length-take-le i numbers (omega arith) ∙ sym (length-map (take i parts) size_of ∙ length-take-le i parts (omega arith)) in
-    rw (sizes, more, bits_of_each-append front (e.size ∷ []) (take i numbers) (n ∷ []) same) (ap (λ (b : Bits). bits_of_each front (take i numbers) ++ b) (append-nil (low_bits e.size (natural_of n))))
+    let same : length (take i numbers) ≡ length front = length-take-le i numbers (omega arith) ∙ sym (length-take-le i sizes (omega arith)) in
+    rw (longer, more, bits_of_each-append front (size ∷ []) (take i numbers) (n ∷ []) same) (ap (λ (b : Bits). bits_of_each front (take i numbers) ++ b) (append-nil (low_bits size (natural_of n))))
 
 -- the bits of a room with numbers written, and with one more
-pub written-more : (parts : List Unsigned) (numbers : List Whole) (i at : ℕ) (e : Unsigned) (n : Whole) (old now new : Bits) → length numbers ≡ length parts → i < length parts → e ≡ get_or parts i e → n ≡ get_or numbers i n
-    → at ≡ sum_by (λ e. e.size) (take i parts) → sum_by (λ e. e.size) parts ≤ length old
-    → now ≡ with_piece 0 (bits_of_each (entry_sizes (take i parts)) (take i numbers)) old → new ≡ with_piece at (low_bits e.size (natural_of n)) now
-    → new ≡ with_piece 0 (bits_of_each (entry_sizes (take (i + 1) parts)) (take (i + 1) numbers)) old
-written-more parts numbers i at e n old now new each within e_is n_is at_is fits so_far put =
-    let front = bits_of_each (entry_sizes (take i parts)) (take i numbers) in
-    let piece = low_bits e.size (natural_of n) in
-    let same : length (take i numbers) ≡ length (take i parts) = length-take-le i numbers (omega arith) ∙ sym (length-take-le i parts (omega arith)) in
-    let size : 0 + length front ≡ at = omega (arith, length-bits_of_each (take i parts) (take i numbers) same, at_is) in
-    let room : sum_by size_of (take i parts) + (get_or parts i e).size ≤ sum_by size_of parts = sum_by_more_le size_of parts i e within in
-    let e_size : e.size ≡ (get_or parts i e).size = ap size_of e_is in
-    let ends : 0 + length front + length piece ≤ length old = omega (arith, size, length-low e.size (natural_of n), room, e_size, at_is, fits) in
-    put ∙ rw (← size, so_far) (with_piece-append 0 front piece old ends) ∙ ap (λ (b : Bits). with_piece 0 b old) (sym (bits_of_each-more parts numbers i e n each within e_is n_is))
+pub written-more : (sizes : List ℕ) (numbers : List Whole) (i at size : ℕ) (n : Whole) (old now new : Bits) → length numbers ≡ length sizes → i < length sizes → size ≡ get_or sizes i size → n ≡ get_or numbers i n
+    → at ≡ sum (take i sizes) → sum sizes ≤ length old
+    → now ≡ with_piece 0 (bits_of_each (take i sizes) (take i numbers)) old → new ≡ with_piece at (low_bits size (natural_of n)) now
+    → new ≡ with_piece 0 (bits_of_each (take (i + 1) sizes) (take (i + 1) numbers)) old
+written-more sizes numbers i at size n old now new each within size_is n_is at_is fits so_far put =
+    let front = bits_of_each (take i sizes) (take i numbers) in
+    let piece = low_bits size (natural_of n) in
+    let same : length (take i numbers) ≡ length (take i sizes) = length-take-le i numbers (omega arith) ∙ sym (length-take-le i sizes (omega arith)) in
+    let behind : 0 + length front ≡ at = omega (arith, length-bits_of_each (take i sizes) (take i numbers) same, at_is) in
+    let room : sum (take i sizes) + get_or sizes i size ≤ sum sizes = sum_by_more_le (λ size. size) sizes i size within in
+    let ends : 0 + length front + length piece ≤ length old = omega (arith, behind, length-low size (natural_of n), room, size_is, at_is, fits) in
+    put ∙ rw (← behind, so_far) (with_piece-append 0 front piece old ends) ∙ ap (λ (b : Bits). with_piece 0 b old) (sym (bits_of_each-more sizes numbers i size n each within size_is n_is))
 
 -- no number is outside behind one that isn't
-pub first_out-more : (parts : List Unsigned) (numbers : List Whole) (i : ℕ) (e : Unsigned) (n : Whole) → length numbers ≡ length parts → i < length parts → e ≡ get_or parts i e → n ≡ get_or numbers i n
-    → first_out (entry_sizes (drop i parts)) (drop i numbers) i ≡ None → first_out (entry_sizes (drop (i + 1) parts)) (drop (i + 1) numbers) (i + 1) ≡ None
-first_out-more parts numbers i e n each within e_is n_is none =
-    let left : drop i parts ≡ e ∷ drop (i + 1) parts = drop_more parts i e within ∙ ap (λ (u : Unsigned). u ∷ drop (i + 1) parts) (sym e_is) in
+pub first_out-more : (sizes : List ℕ) (numbers : List Whole) (i size : ℕ) (n : Whole) → length numbers ≡ length sizes → i < length sizes → size ≡ get_or sizes i size → n ≡ get_or numbers i n
+    → first_out (drop i sizes) (drop i numbers) i ≡ None → first_out (drop (i + 1) sizes) (drop (i + 1) numbers) (i + 1) ≡ None
+first_out-more sizes numbers i size n each within size_is n_is none =
+    let left : drop i sizes ≡ size ∷ drop (i + 1) sizes = drop_more sizes i size within ∙ ap (λ (s : ℕ). s ∷ drop (i + 1) sizes) (sym size_is) in
     let more : drop i numbers ≡ n ∷ drop (i + 1) numbers = drop_more numbers i n (omega arith) ∙ ap (λ (w : Whole). w ∷ drop (i + 1) numbers) (sym n_is) in
-    behind (is_of_size e.size n) (rw (left, more) at none)
+    behind (is_of_size size n) (rw (left, more) at none)
   where
-    behind : (t : Bool) → (if t then first_out (entry_sizes (drop (i + 1) parts)) (drop (i + 1) numbers) (i + 1) else Some i) ≡ None → first_out (entry_sizes (drop (i + 1) parts)) (drop (i + 1) numbers) (i + 1) ≡ None
+    behind : (t : Bool) → (if t then first_out (drop (i + 1) sizes) (drop (i + 1) numbers) (i + 1) else Some i) ≡ None → first_out (drop (i + 1) sizes) (drop (i + 1) numbers) (i + 1) ≡ None
     behind true h = h
     behind false h = absurd (cc h)
 

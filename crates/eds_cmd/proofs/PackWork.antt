@@ -1,7 +1,6 @@
 -- What packing comes to is what the code computes.
-use Rattle.std.proofs.Common.{◌≡◌, ◌≢◌, ℕ, ◌<◌, ◌≤◌, List, [], ◌∷◌, length, map, ◌==◌, nat_le, Bool, true, false, inl, inr, Option, Some, None, Result, Ok, Err, if◌then◌else◌, refl, sym, ◌∙◌, ap, subst, arith}
+use Rattle.std.proofs.Common.{◌≡◌, ℕ, List, [], ◌∷◌, length, map, ◌==◌, nat_le, Bool, true, false, inl, inr, Option, Some, None, Result, Ok, Err, if◌then◌else◌, refl, ◌∙◌, ap, arith}
 use Rattle.std.proofs.lemmas.Bool.{le-leb, lt-leb, leb-true, leb-false, eqb-false, eqb-true, eq-eqb, ne_eqb}
-use Rattle.std.proofs.lemmas.List.{length-map}
 use Rattle.serde_json.specs.Data.{Data}
 use Rattle.eds_base.specs.Answering.{◌>>=◌, or_stop}
 use Rattle.eds_base.specs.declared.fault.Step.{Step}
@@ -9,21 +8,20 @@ use Rattle.eds_base.specs.declared.fault.Step.TheVariants.{Choice}
 use Rattle.eds_bits.specs.Bits.{Bits}
 use Rattle.eds_cmd.specs.declared.pack_fail.PackReason.TheVariants.{OutOfRange, NotDerived, TooLong}
 use Rattle.eds_cmd.specs.declared.shape.Given.{Given}
-use Rattle.eds_cmd.specs.declared.shape.Whole.{Whole}
 use Rattle.eds_cmd.specs.declared.shape.Whole.TheVariants.{Natural}
 use Rattle.eds_cmd.specs.declared.status.Status.{Status}
 use Rattle.eds_cmd.specs.declared.stop.Stop.{Stop}
 use Rattle.eds_cmd.specs.declared.value.FlatValue.{FlatValue}
 use Rattle.eds_cmd.specs.Answer.{report_from, status_from}
 use Rattle.eds_cmd.specs.Limits.{value_bits}
-use Rattle.eds_cmd.specs.Pack.{IsOutside, IsPacked, IsPacking, IsTooLong, IsUnderived, Packs, PacksGiven, PacksJson, PacksShape, bits_of_each, first_out, numbers_of, or_shape, packed, packed_bits, packed_given, packed_parts, packed_report, part_path}
+use Rattle.eds_cmd.specs.Pack.{IsPacking, Packs, PacksGiven, PacksJson, PacksShape, bits_of_each, first_out, numbers_of, or_shape, packed, packed_bits, packed_given, packed_parts, packed_report, part_path}
 use Rattle.eds_cmd.specs.Shape.{shape_of}
-use Rattle.eds_cmd.specs.Stops.{IsStop, not_json, pack_fault, wrong_shape}
+use Rattle.eds_cmd.specs.Stops.{not_json, pack_fault, wrong_shape}
 use Rattle.eds_cmd.specs.Target.{TypeIn, tree_of}
 use Rattle.eds_cmd.specs.Values.{part_sizes}
 use Rattle.eds_cmd.proofs.PackAnswer.{inside_written, out_found, out_is_found, row_spelled, spelled_inside, spelled_written, value_of}
 use Rattle.eds_cmd.proofs.Results.{IsResult, stopped}
-use Rattle.eds_cmd.proofs.ShapeLemmas.{shape, shape_fits}
+use Rattle.eds_cmd.proofs.ShapeLemmas.{shape_fits}
 
 -- the numbers given are as many as the type has parts, where it is the type's own container
 abbrev pub Fits : TypeIn → Given → Type 0
@@ -35,7 +33,7 @@ Computed type given r = PacksGiven type given (status_from r) (report_from r)
 -- ---- what is computed is the answer
 
 computed_bits : (type : TypeIn) (given : Given) (value : FlatValue) (bits : Bits) → IsPacking type given value bits → (t : Bool) → nat_le (length bits) value_bits ≡ t
-    → Computed type given (if t then Ok (packed_report bits) else Err (pack_fault type.sheet TooLong []))
+    → Computed type given (if t then Ok (packed_report bits) else Err (pack_fault type.rows TooLong []))
 computed_bits type given value bits packing true h =
     inl (record { value = value; bits = bits; packing = packing; within = leb-true (length bits) value_bits h; status_is = refl; report_is = refl })
 computed_bits type given value bits packing false h =
@@ -50,7 +48,7 @@ computed_parts type given own each (Some k) is =
       own = own;
       i = found.0;
       out = found.2;
-      stop = record { status_is = ap (λ (i : ℕ). status_from (Err (pack_fault type.sheet OutOfRange (part_path type.row type.id i)))) here; report_is = ap (λ (i : ℕ). report_from (Err (pack_fault type.sheet OutOfRange (part_path type.row type.id i)))) here };
+      stop = record { status_is = ap (λ (i : ℕ). status_from (Err (pack_fault type.rows OutOfRange (part_path type.row type.id i)))) here; report_is = ap (λ (i : ℕ). report_from (Err (pack_fault type.rows OutOfRange (part_path type.row type.id i)))) here };
     })))
 computed_parts type given own each None is =
     let written = inside_written (part_sizes type.row) given.numbers 0 each is in
@@ -60,7 +58,7 @@ computed_parts type given own each None is =
     computed_bits type given value.value bits packing (nat_le (length bits) value_bits) refl
 
 computed_own : (type : TypeIn) (given : Given) → Fits type given → (t : Bool) → (given.id.0 == type.id) ≡ t
-    → Computed type given (if t then packed_parts type given.numbers (first_out (part_sizes type.row) given.numbers 0) else Err (pack_fault type.sheet NotDerived (Choice given.id ∷ [])))
+    → Computed type given (if t then packed_parts type given.numbers (first_out (part_sizes type.row) given.numbers 0) else Err (pack_fault type.rows NotDerived (Choice given.id ∷ [])))
 computed_own type given each true is =
     let own = eqb-true given.id.0 type.id is in
     computed_parts type given own (each own) (first_out (part_sizes type.row) given.numbers 0) refl
@@ -106,7 +104,7 @@ given_one type given status report each (inr (inr (inr t))) =
 shape_one : (type : TypeIn) (json : Data) (status : Status) (report : List ℕ) (read : Result Given (List Step)) → shape_of type json ≡ read → PacksShape type read status report
     → IsResult (or_shape type read >>= packed_given type) status report
 shape_one type json status report (Ok given) is a = given_one type given status report (shape_fits type json given is) a
-shape_one type json status report (Err path) is a = stopped (wrong_shape type.sheet path) status report a
+shape_one type json status report (Err path) is a = stopped (wrong_shape type.rows path) status report a
 
 json_one : (type : TypeIn) (status : Status) (report : List ℕ) (json : Option Data) → PacksJson type json status report
     → IsResult (or_stop not_json json >>= (λ json. or_shape type (shape_of type json) >>= packed_given type)) status report

@@ -1,9 +1,9 @@
 -- The text of a path, step by step.
-use Rattle.std.proofs.Common.{◌≡◌, ℕ, zero, suc, ◌+◌, ◌<◌, List, [], ◌∷◌, ◌++◌, length, drop, Option, Some, None, slice_get, refl, sym, ◌∙◌, ap, append_assoc, arith}
+use Rattle.std.proofs.Common.{◌≡◌, ℕ, zero, suc, ◌+◌, ◌<◌, List, [], ◌∷◌, ◌++◌, length, drop, Some, None, slice_get, sym, ◌∙◌, ap, append_assoc, arith}
 use Rattle.std.proofs.lemmas.List.{drop_more}
-use Rattle.std.proofs.lemmas.Option.{slice_get_within, get_or_from_slice_get, slice_get-get_or}
+use Rattle.std.proofs.lemmas.Option.{slice_get_within, get_or_from_slice_get}
 use Rattle.eds_base.specs.declared.fault.Step.{Step}
-use Rattle.eds_cmd.specs.declared.sheet.Sheet.{Sheet}
+use Rattle.eds_read_types.specs.declared.row.Row.{Row}
 use Rattle.eds_cmd.specs.Reports.{step_text, steps_text}
 
 -- a list from an item on
@@ -11,10 +11,10 @@ pub drop-read : {A : Type 0} (xs : List A) (i : ℕ) (x : A) → slice_get xs i 
 drop-read {A} xs i x is = drop_more xs i x (slice_get_within xs i x is) ∙ ap (λ (y : A). y ∷ drop (i + 1) xs) (get_or_from_slice_get xs i x x is)
 
 -- one more step
-pub steps_text-more : (sheet : Sheet) (path : List Step) (i : ℕ) (step : Step) (text new whole part : List ℕ) → slice_get path i ≡ Some step
-    → text ++ steps_text sheet (drop i path) ≡ whole → part ≡ step_text sheet step → new ≡ text ++ part → new ++ steps_text sheet (drop (i + 1) path) ≡ whole
-steps_text-more sheet path i step text new whole part is so_far reads appended =
-    rw (appended, reads) (append_assoc text (step_text sheet step) (steps_text sheet (drop (i + 1) path)) ∙ ap (λ (l : List Step). text ++ steps_text sheet l) (sym (drop-read path i step is)) ∙ so_far)
+pub steps_text-more : (rows : List Row) (path : List Step) (i : ℕ) (step : Step) (text new whole part : List ℕ) → slice_get path i ≡ Some step
+    → text ++ steps_text rows (drop i path) ≡ whole → part ≡ step_text rows step → new ≡ text ++ part → new ++ steps_text rows (drop (i + 1) path) ≡ whole
+steps_text-more rows path i step text new whole part is so_far reads appended =
+    rw (appended, reads) (append_assoc text (step_text rows step) (steps_text rows (drop (i + 1) path)) ∙ ap (λ (l : List Step). text ++ steps_text rows l) (sym (drop-read path i step is)) ∙ so_far)
 
 -- an item that is there isn't missing
 pub not_missing : {A : Type 0} (xs : List A) (i : ℕ) → i < length xs → slice_get xs i ≡ None → ⊥

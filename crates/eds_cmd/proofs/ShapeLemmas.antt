@@ -1,5 +1,5 @@
 -- What the JSON of a value gives has a number for each part of its type.
-use Rattle.std.proofs.Common.{◌≡◌, ℕ, ◌+◌, List, [], ◌∷◌, ◌++◌, length, codes, ◌==◌, Bool, true, false, if◌then◌else◌, Option, Some, None, Result, Ok, Err, refl, sym, ◌∙◌, ap, arith}
+use Rattle.std.proofs.Common.{◌≡◌, ℕ, ◌+◌, List, [], ◌∷◌, length, codes, ◌==◌, Bool, true, false, if◌then◌else◌, Option, Some, None, Result, Ok, Err, refl, sym, ◌∙◌, ap, arith}
 use Rattle.std.proofs.lemmas.Bool.{eqb-false}
 use Rattle.std.proofs.lemmas.List.{length-map}
 use Rattle.serde_json.specs.Data.{Data}
@@ -9,14 +9,14 @@ use Rattle.eds_base.specs.Reading.{◌>>=◌, only}
 use Rattle.eds_base.specs.declared.fault.Step.{Step}
 use Rattle.eds_cmd.specs.declared.shape.Given.{Given}
 use Rattle.eds_cmd.specs.declared.shape.Whole.{Whole}
-use Rattle.eds_cmd.specs.declared.sheet.Unsigned.{Unsigned}
-use Rattle.eds_cmd.specs.declared.sheet.Row.{Row}
-use Rattle.eds_cmd.specs.declared.sheet.Row.TheVariants.{Int, Con}
+use Rattle.eds_read_types.specs.declared.row.Unsigned.{Unsigned}
+use Rattle.eds_read_types.specs.declared.row.Row.{Row}
+use Rattle.eds_read_types.specs.declared.row.Row.TheVariants.{Int, Con}
 use Rattle.eds_cmd.specs.Pack.{or_shape}
 use Rattle.eds_cmd.specs.Reports.{row_entries}
-use Rattle.eds_cmd.specs.Shape.{container_by, container_for, container_named, fields_given, has_fields, is_container, member_before, member_of, members_of, number_given, or_field, own_or, put_before, shape_by, shape_of, whole_of}
-use Rattle.eds_cmd.specs.Target.{TypeIn, type_from}
-use Rattle.eds_cmd.specs.Values.{entry_sizes, part_sizes}
+use Rattle.eds_cmd.specs.Shape.{container_by, container_for, container_named, fields_given, has_fields, is_container, member_before, member_of, members_of, number_given, or_field, own_or, shape_by, shape_of, whole_of}
+use Rattle.eds_cmd.specs.Target.{TypeIn, type_named}
+use Rattle.eds_cmd.specs.Values.{part_sizes}
 
 abbrev members : List Whole → Result (List Whole) ℕ
 members ns = Ok ns
@@ -54,7 +54,7 @@ named_is type (Some other) container h same =
 
 word_is : (type : TypeIn) (word : Option (List ℕ)) (container : TypeIn) → (word >>= container_named type) ≡ Some container → container.id ≡ type.id → container ≡ type
 word_is type None container h same = absurd (cc h)
-word_is type (Some word) container h same = named_is type (type_from type.sheet word type.sheet.rows 0) container h same
+word_is type (Some word) container h same = named_is type (type_named type.rows word) container h same
 
 by_is : (type : TypeIn) (member : Option Data) (container : TypeIn) → container_by type member ≡ Some container → container.id ≡ type.id → container ≡ type
 by_is type None container h same = let own : type ≡ container = cc h in sym own
@@ -74,9 +74,9 @@ container_is type d container h same = for_is type d (container_by type (get (co
 
 -- ---- numbers
 
-number_fits : (own : Unsigned) (id : ℕ) (n : Option Whole) (given : Given) → number_given id n ≡ shape given → length given.numbers ≡ 1
-number_fits own id None given h = absurd (cc h)
-number_fits own id (Some n) given h =
+number_fits : (id : ℕ) (n : Option Whole) (given : Given) → number_given id n ≡ shape given → length given.numbers ≡ 1
+number_fits id None given h = absurd (cc h)
+number_fits id (Some n) given h =
     let same : record { id = record { 0 = id }; numbers = n ∷ [] } ≡ given = cc h in
     ap (λ (g : Given). length g.numbers) (sym same)
 
@@ -100,7 +100,7 @@ fields_fit type d (Some container) given is h same =
 
 fits_by : (type : TypeIn) (d : Data) (given : Given) (row : Row) → type.row ≡ row → shape_by row type d ≡ shape given → given.id.0 ≡ type.id → length given.numbers ≡ length (part_sizes row)
 unfolding fields_given
-fits_by type d given (Int own) is h same = number_fits own type.id (whole_of d) given h
+fits_by type d given (Int name size) is h same = number_fits type.id (whole_of d) given h
 fits_by type d given (Con name entries) is h same =
     fields_fit type d (container_for type d) given refl h same ∙ ap (λ (r : Row). length (row_entries r)) is ∙ sym (length-map entries (λ (e : Unsigned). e.size))
 

@@ -1,5 +1,5 @@
 -- Members put one after another.
-use Rattle.std.proofs.Common.{◌≡◌, ℕ, zero, suc, List, [], ◌∷◌, length, Bool, true, false, ◌||◌, min, Ordering, Less, Equal, Greater, nat_cmp, String, Global, string_bytes, string_cmp, refl, sym, ◌∙◌, ap, arith}
+use Rattle.std.proofs.Common.{◌≡◌, ℕ, List, [], ◌∷◌, length, Bool, true, false, ◌||◌, min, Ordering, Less, Equal, Greater, nat_cmp, String, Global, string_bytes, string_cmp, refl, arith}
 use Rattle.std.specs.Cmp.Lexicographic.{slice_cmp}
 use Rattle.std.specs.Ordering.{match_ordering}
 use Rattle.std.specs.BTreeMap.{insert_entry}
@@ -8,8 +8,8 @@ use Rattle.serde_json.specs.declared.value.Value.{Value}
 use Rattle.serde_json.proofs.Views.{members_view-insert_entry}
 use Rattle.serde_json.specs.Data.{Data, number, unsigned, Members, no_members, member, put}
 use Rattle.serde_json.specs.Written.{has_float, members_have_float}
-use Rattle.eds_cmd.specs.declared.sheet.Unsigned.{Unsigned}
-use Rattle.eds_cmd.specs.declared.sheet.Row.{Row}
+use Rattle.eds_read_types.specs.declared.row.Unsigned.{Unsigned}
+use Rattle.eds_read_types.specs.declared.row.Row.{Row}
 use Rattle.eds_cmd.specs.declared.value.FlatValue.{FlatValue}
 use Rattle.eds_cmd.specs.declared.value.FlatValue.TheVariants.{Number, Fields}
 use Rattle.eds_cmd.specs.Reports.{row_entries}
@@ -59,6 +59,6 @@ with_fields-insert left e es more n ns old new k v is are put_in key value =
     rw (put_in, members_view-insert_entry old k v, key, value, is, are) refl
 
 -- the JSON of a value has no float
-pub value_float : (type_name : List ℕ) (row : Row) (value : FlatValue) → has_float (value_data type_name row value) ≡ false
-value_float type_name row (Number n) = refl
-value_float type_name row (Fields ns) = with_fields_float (row_entries row) ns _ refl
+pub value_float : (row : Row) (value : FlatValue) → has_float (value_data row value) ≡ false
+value_float row (Number n) = refl
+value_float row (Fields ns) = with_fields_float (row_entries row) ns _ refl

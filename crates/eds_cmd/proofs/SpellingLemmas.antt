@@ -1,18 +1,18 @@
 -- Numbers spelled one after another, and numbers read one after another.
-use Rattle.std.proofs.Common.{◌≡◌, ℕ, zero, suc, ◌+◌, ◌<◌, ◌≤◌, List, [], ◌∷◌, ◌++◌, length, take, drop, get_or, map, Bool, true, false, nat_lt, if◌then◌else◌, subst, Result, Ok, Err, refl, sym, ◌∙◌, ap, arith, append_assoc, length-append, ⊎_elim}
+use Rattle.std.proofs.Common.{◌≡◌, ℕ, suc, ◌+◌, ◌<◌, ◌≤◌, List, [], ◌∷◌, ◌++◌, length, take, drop, get_or, map, Bool, true, false, nat_lt, if◌then◌else◌, subst, Result, Ok, Err, refl, sym, ◌∙◌, ap, arith, append_assoc, length-append, ⊎_elim}
 use Rattle.std.specs.List.{flat_map}
 use Rattle.std.proofs.lemmas.Bool.{le-ltb, ltb-false, ltb-true, lt-ltb, cases_lt}
 use Rattle.std.proofs.lemmas.List.{take_at, drop_at, take-append-drop, length-take-le, drop_more, get_or_past, length-map}
 use Rattle.eds_base.specs.declared.fault.Step.{Step}
 use Rattle.eds_base.specs.declared.fault.Step.TheVariants.{Part}
 use Rattle.eds_bits.specs.Bits.{Bits, unsigned_of}
-use Rattle.eds_cmd.specs.declared.sheet.Unsigned.{Unsigned}
-use Rattle.eds_cmd.specs.declared.sheet.Row.{Row}
-use Rattle.eds_cmd.specs.declared.sheet.Row.TheVariants.{Int, Con}
+use Rattle.eds_read_types.specs.declared.row.Unsigned.{Unsigned}
+use Rattle.eds_read_types.specs.declared.row.Row.{Row}
+use Rattle.eds_read_types.specs.declared.row.Row.TheVariants.{Int, Con}
 use Rattle.eds_cmd.specs.declared.value.FlatValue.{FlatValue}
 use Rattle.eds_cmd.specs.declared.value.FlatValue.TheVariants.{Number, Fields}
-use Rattle.eds_cmd.specs.Reading.{put_before, read_each, read_number, read_value, fields_from}
-use Rattle.eds_cmd.specs.Values.{IsUnsigned, SpellsEach, Begins, IsShortAt, IsShort, entry_sizes, Spells}
+use Rattle.eds_cmd.specs.Reading.{put_before, read_each, read_value, fields_from}
+use Rattle.eds_cmd.specs.Values.{SpellsEach, Begins, IsShortAt, IsShort, entry_sizes, Spells}
 
 abbrev pub joined : List Bits → Bits
 joined pieces = flat_map (λ piece. piece) pieces
@@ -167,10 +167,10 @@ each_short (size ∷ sizes) at k bits h =
 -- ---- values
 
 pub value_read : (id : ℕ) (row : Row) (value : FlatValue) (front rest bits : Bits) → Begins row value front rest bits → read_value id row bits ≡ Ok (value, rest)
-value_read id (Int own) (Number n) front rest bits b =
+value_read id (Int name size) (Number n) front rest bits b =
     let one = one_piece front rest in
     rw (b.split, ← b.spelled.size_is, one.0, one.1, one.2, b.spelled.number_is) refl
-value_read id (Int own) (Fields ns) front rest bits b = absurd b.spelled
+value_read id (Int name size) (Fields ns) front rest bits b = absurd b.spelled
 value_read id (Con name entries) (Number n) front rest bits b = absurd b.spelled
 value_read id (Con name entries) (Fields ns) front rest bits b = rw (b.split, each_read (entry_sizes entries) ns 0 front rest b.spelled) refl
 
@@ -180,18 +180,18 @@ found_same v w r s h =
     (ap (λ (q : FlatValue × Bits). q.0) pair, ap (λ (q : FlatValue × Bits). q.1) pair)
 
 -- a number, where there are bits enough
-number_spelled : (own : Unsigned) (value : FlatValue) (rest bits : Bits) (t : Bool) → nat_lt (length bits) own.size ≡ t
-    → (if t then cut [] else found (Number (unsigned_of (take own.size bits))) (drop own.size bits)) ≡ found value rest → (front : Bits) × Begins (Int own) value front rest bits
-number_spelled own value rest bits true few h = absurd (cc h)
-number_spelled own value rest bits false fits h =
-    let parts = found_same (Number (unsigned_of (take own.size bits))) value (drop own.size bits) rest h in
+number_spelled : (name : List ℕ) (size : ℕ) (value : FlatValue) (rest bits : Bits) (t : Bool) → nat_lt (length bits) size ≡ t
+    → (if t then cut [] else found (Number (unsigned_of (take size bits))) (drop size bits)) ≡ found value rest → (front : Bits) × Begins (Int name size) value front rest bits
+number_spelled name size value rest bits true few h = absurd (cc h)
+number_spelled name size value rest bits false fits h =
+    let parts = found_same (Number (unsigned_of (take size bits))) value (drop size bits) rest h in
     let behind = parts.1 in
-    let size_fits : own.size ≤ length bits = ltb-false (length bits) own.size fits in
-    let P : FlatValue → Type 0 = λ v. Spells (Int own) v (take own.size bits) in (
-      take own.size bits,
+    let size_fits : size ≤ length bits = ltb-false (length bits) size fits in
+    let P : FlatValue → Type 0 = λ v. Spells (Int name size) v (take size bits) in (
+      take size bits,
       record {
-        split = rw (← behind) (sym (take-append-drop own.size bits));
-        spelled = subst P parts.0 (record { size_is = length-take-le own.size bits size_fits; number_is = refl });
+        split = rw (← behind) (sym (take-append-drop size bits));
+        spelled = subst P parts.0 (record { size_is = length-take-le size bits size_fits; number_is = refl });
       },
     )
 
@@ -207,17 +207,17 @@ fields_spelled id name entries value rest bits (Ok p) is h =
 fields_spelled id name entries value rest bits (Err i) is h = absurd (cc h)
 
 pub value_spelled : (id : ℕ) (row : Row) (value : FlatValue) (rest bits : Bits) → read_value id row bits ≡ found value rest → (front : Bits) × Begins row value front rest bits
-value_spelled id (Int own) value rest bits h = number_spelled own value rest bits (nat_lt (length bits) own.size) refl h
+value_spelled id (Int name size) value rest bits h = number_spelled name size value rest bits (nat_lt (length bits) size) refl h
 value_spelled id (Con name entries) value rest bits h = fields_spelled id name entries value rest bits (read_each (entry_sizes entries) 0 bits) refl h
 
 pub value_cut : (id : ℕ) (row : Row) (bits : Bits) (path : List Step) → IsShort id row bits path → read_value id row bits ≡ cut path
-value_cut id (Int own) bits path s = rw (lt-ltb (length bits) own.size s.1, s.0) refl
+value_cut id (Int name size) bits path s = rw (lt-ltb (length bits) size s.1, s.0) refl
 value_cut id (Con name entries) bits path (i, is, s) = rw (short_read (entry_sizes entries) bits i s, is) refl
 
-number_short : (own : Unsigned) (bits : Bits) (path : List Step) (v : FlatValue) (rest : Bits) (t : Bool) → nat_lt (length bits) own.size ≡ t
-    → (if t then cut [] else found v rest) ≡ cut path → (path ≡ []) × (length bits < own.size)
-number_short own bits path v rest true few h = (sym (cc h), ltb-true (length bits) own.size few)
-number_short own bits path v rest false fits h = absurd (cc h)
+number_short : (size : ℕ) (bits : Bits) (path : List Step) (v : FlatValue) (rest : Bits) (t : Bool) → nat_lt (length bits) size ≡ t
+    → (if t then cut [] else found v rest) ≡ cut path → (path ≡ []) × (length bits < size)
+number_short size bits path v rest true few h = (sym (cc h), ltb-true (length bits) size few)
+number_short size bits path v rest false fits h = absurd (cc h)
 
 fields_short : (id : ℕ) (entries : List Unsigned) (bits : Bits) (path : List Step) (read : Result (List ℕ × Bits) ℕ)
     → read_each (entry_sizes entries) 0 bits ≡ read → fields_from id read ≡ cut path → (i : ℕ) × (path ≡ Part (record { 0 = id }) i ∷ []) × IsShortAt (entry_sizes entries) bits i
@@ -229,5 +229,5 @@ fields_short id entries bits path (Err j) is h =
     (found_short.0, sym here ∙ ap (λ (i : ℕ). Part (record { 0 = id }) i ∷ []) at, found_short.2)
 
 pub cut_value : (id : ℕ) (row : Row) (bits : Bits) (path : List Step) → read_value id row bits ≡ cut path → IsShort id row bits path
-cut_value id (Int own) bits path h = number_short own bits path _ _ (nat_lt (length bits) own.size) refl h
+cut_value id (Int name size) bits path h = number_short size bits path _ _ (nat_lt (length bits) size) refl h
 cut_value id (Con name entries) bits path h = fields_short id entries bits path (read_each (entry_sizes entries) 0 bits) refl h

@@ -1,27 +1,29 @@
 -- What a command answers over files.
-use Rattle.std.specs.Prelude.{◌≡◌, ℕ, ◌≤◌, nat_le, List, length, if◌then◌else◌, Option, Some, None, Result, Ok, Err, IsOk, ◌⊎◌}
+use Rattle.std.specs.Prelude.{◌≡◌, ℕ, ◌+◌, ◌<◌, ◌≤◌, nat_le, List, [], ◌∷◌, ◌++◌, length, Bool, true, false, if◌then◌else◌, Option, Some, None, Result, Ok, Err, IsOk, sum_by, ⊤, ◌⊎◌}
 use Rattle.serde_json.specs.Data.{Data}
 use Rattle.eds_base.specs.Answering.{◌>>=◌}
+use Rattle.eds_base.specs.declared.refusal.Refusal.{Refusal}
 use Rattle.eds_bits.specs.Bits.{Bits, bits_of}
 use Rattle.eds_io.specs.Files.{Files, file_named}
+use Rattle.eds_sheet.specs.declared.sheet.Sheet.{Sheet}
+use Rattle.eds_sheet.specs.Compiled.{compiled}
 use Rattle.eds_cmd.specs.declared.command.Verb.{Verb}
 use Rattle.eds_cmd.specs.declared.command.Verb.TheVariants.{Unpack, Pack}
-use Rattle.eds_cmd.specs.Limits.{frame_octets, sheet_octets, value_bits}
+use Rattle.eds_cmd.specs.Limits.{frame_octets, report_octets, sheet_count, sheet_octets, sheets_octets, value_bits}
 use Rattle.eds_cmd.specs.declared.shape.Given.{Given}
-use Rattle.eds_cmd.specs.declared.sheet.Sheet.{Sheet}
 use Rattle.eds_cmd.specs.declared.status.Status.{Status}
 use Rattle.eds_cmd.specs.declared.status.Status.TheVariants as statuses
 use Rattle.eds_cmd.specs.declared.status.What.{What}
-use Rattle.eds_cmd.specs.declared.status.What.TheVariants.{File, Input}
+use Rattle.eds_cmd.specs.declared.status.What.TheVariants as what
 use Rattle.eds_cmd.specs.declared.stop.Stop.{Stop}
 use Rattle.eds_cmd.specs.declared.value.FlatValue.{FlatValue}
-use Rattle.eds_cmd.specs.Command.{CommandWords, command_of, input_most}
+use Rattle.eds_cmd.specs.Command.{CommandWords, JobWords, command_of, input_most, word_of}
 use Rattle.eds_cmd.specs.Hex.{hex_octets}
 use Rattle.eds_cmd.specs.Pack.{IsPacking, Packs, packed}
-use Rattle.eds_cmd.specs.Reports.{usage_line}
+use Rattle.eds_cmd.specs.Reports.{counts_line, usage_line}
 use Rattle.eds_cmd.specs.Shape.{shape_of}
-use Rattle.eds_cmd.specs.Stops.{IsStop, limited, missing, status_of}
-use Rattle.eds_cmd.specs.Target.{TypeIn, flat_sheet, sheet_for, tree_of, type_for, type_from}
+use Rattle.eds_cmd.specs.Stops.{IsStop, limited, missing, refused, status_of}
+use Rattle.eds_cmd.specs.Target.{TypeIn, tree_of, type_of}
 use Rattle.eds_cmd.specs.Unpack.{Unpacks, unpacked}
 use Rattle.eds_cmd.specs.Values.{Begins}
 
@@ -35,34 +37,78 @@ whole_from (Some file) name what most = if nat_le (length file) most then Ok fil
 abbrev pub whole_file : Files → List ℕ → What → ℕ → Result (List ℕ) Stop
 whole_file files name what most = whole_from (file_named name files) name what most
 
--- the type that the word of a command names in its sheet
-abbrev pub accepted : Files → CommandWords → Result TypeIn Stop
-accepted files c = do
-  octets ← whole_file files c.sheet File sheet_octets
-  sheet ← sheet_for octets
-  type_for sheet c.word
+-- the octets of a sheet file, behind files of so many octets: together they are no more than all sheet files may have
+abbrev pub within_sheets : ℕ → List ℕ → Result (List ℕ) Stop
+within_sheets before octets = if nat_le (before + length octets) sheets_octets then Ok octets else Err (limited what.Sheets sheets_octets)
 
--- that type, and the octets of the input file
-abbrev pub prepared : Files → CommandWords → Result (TypeIn × List ℕ) Stop
-prepared files c = do
-  type ← accepted files c
-  input ← whole_file files c.input Input (input_most c.verb)
-  Ok (type, input)
+abbrev pub sheet_file : Files → ℕ → List ℕ → Result (List ℕ) Stop
+sheet_file files before name = whole_file files name what.File sheet_octets >>= within_sheets before
+
+-- the octets of sheet files in order, behind files of so many octets
+abbrev pub sheet_files : Files → ℕ → List (List ℕ) → Result (List (List ℕ)) Stop
+sheet_files files before [] = Ok []
+sheet_files files before (name ∷ names) = do
+  octets ← sheet_file files before name
+  others ← sheet_files files (before + length octets) names
+  Ok (octets ∷ others)
+
+abbrev pub or_refused : Result Sheet Refusal → Result Sheet Stop
+or_refused (Ok sheet) = Ok sheet
+or_refused (Err refusal) = Err (refused refusal)
+
+-- the sheet of a command, with the type that its word names
+abbrev pub accepted : Files → CommandWords → Result Sheet Stop
+accepted files c = sheet_files files 0 c.sheets >>= λ octets. or_refused (compiled octets (word_of c))
+
+-- the octets of the input file
+abbrev pub input_for : Files → JobWords → Result (List ℕ) Stop
+input_for files job = whole_file files job.input what.Input (input_most job.verb)
 
 -- ---- the answer
 
--- what the command does with its input comes to this status and report
+-- what is done with an input by a type comes to this status and report
 abbrev pub Works : Verb → TypeIn → List ℕ → Status → List ℕ → Type 0
 Works Unpack type input status report = Unpacks type input status report
 Works Pack type input status report = Packs type input status report
 
-abbrev pub AnswersFrom : Verb → Result (TypeIn × List ℕ) Stop → Status → List ℕ → Type 0
-AnswersFrom verb (Ok job) status report = Works verb job.0 job.1 status report
-AnswersFrom verb (Err stop) status report = IsStop stop status report
+abbrev pub WorksOn : Verb → TypeIn → Result (List ℕ) Stop → Status → List ℕ → Type 0
+WorksOn verb type (Ok input) status report = Works verb type input status report
+WorksOn verb type (Err stop) status report = IsStop stop status report
+
+-- the counts of an accepted sheet are reported
+pub record IsCounted (sheet : Sheet) (status : Status) (report : List ℕ) : Type 0 where
+  pub status_is : status ≡ statuses.Done
+  pub report_is : report ≡ counts_line sheet.counts
+
+-- what is done by an accepted sheet comes to this status and report
+abbrev pub DoesBy : Option JobWords → Files → Sheet → Status → List ℕ → Type 0
+DoesBy None files sheet status report = IsCounted sheet status report
+DoesBy (Some job) files sheet status report = WorksOn job.verb (type_of sheet.types) (input_for files job) status report
+
+-- that, where the report of what is done is no longer than a report may be
+pub record IsWithin (job : Option JobWords) (files : Files) (sheet : Sheet) (status : Status) (report : List ℕ) : Type 0 where
+  pub does : DoesBy job files sheet status report
+  pub within : status ≡ statuses.Done → length report ≤ report_octets
+
+-- the report of what is done is longer
+pub record IsPast (job : Option JobWords) (files : Files) (sheet : Sheet) (status : Status) (report : List ℕ) : Type 0 where
+  pub whole : List ℕ
+  pub does : DoesBy job files sheet statuses.Done whole
+  pub past : report_octets < length whole
+  pub stop : IsStop (limited what.Report report_octets) status report
+
+abbrev pub AnswersBy : Option JobWords → Files → Result Sheet Stop → Status → List ℕ → Type 0
+AnswersBy job files (Ok sheet) status report = IsWithin job files sheet status report ⊎ IsPast job files sheet status report
+AnswersBy job files (Err stop) status report = IsStop stop status report
+
+-- the sheet files are no more than a command may have, or they are
+abbrev pub AnswersFew : Bool → CommandWords → Files → Status → List ℕ → Type 0
+AnswersFew true c files status report = AnswersBy c.job files (accepted files c) status report
+AnswersFew false c files status report = IsStop (limited what.Files sheet_count) status report
 
 abbrev pub AnswersCommand : Option CommandWords → Files → Status → List ℕ → Type 0
 AnswersCommand None files status report = (status ≡ statuses.Usage) × (report ≡ usage_line)
-AnswersCommand (Some c) files status report = AnswersFrom c.verb (prepared files c) status report
+AnswersCommand (Some c) files status report = AnswersFew (nat_le (length c.sheets) sheet_count) c files status report
 
 -- the answer to words over files is this status and report
 abbrev pub Answer : List (List ℕ) → Files → Status → List ℕ → Type 0
@@ -74,9 +120,24 @@ abbrev pub worked : Verb → TypeIn → List ℕ → Result (List ℕ) Stop
 worked Unpack type input = unpacked type input
 worked Pack type input = packed type input
 
--- the report of a command that is done, or the stop
+-- the report of what is done by an accepted sheet, or the stop
+abbrev pub done_by : Option JobWords → Files → Sheet → Result (List ℕ) Stop
+done_by None files sheet = Ok (counts_line sheet.counts)
+done_by (Some job) files sheet = input_for files job >>= worked job.verb (type_of sheet.types)
+
+abbrev pub within_report : List ℕ → Result (List ℕ) Stop
+within_report report = if nat_le (length report) report_octets then Ok report else Err (limited what.Report report_octets)
+
+-- the report of a command of at most so many sheet files that is done, or the stop
 abbrev pub performed : Files → CommandWords → Result (List ℕ) Stop
-performed files c = prepared files c >>= λ job. worked c.verb job.0 job.1
+performed files c = do
+  sheet ← accepted files c
+  report ← done_by c.job files sheet
+  within_report report
+
+-- the report of a command that is done, or the stop
+abbrev pub performed_few : Files → CommandWords → Result (List ℕ) Stop
+performed_few files c = if nat_le (length c.sheets) sheet_count then performed files c else Err (limited what.Files sheet_count)
 
 abbrev pub status_from : Result (List ℕ) Stop → Status
 status_from (Ok report) = statuses.Done
@@ -88,16 +149,31 @@ report_from (Err stop) = stop.report
 
 abbrev pub answered : Option CommandWords → Files → Status × List ℕ
 answered None files = (statuses.Usage, usage_line)
-answered (Some c) files = (status_from (performed files c), report_from (performed files c))
+answered (Some c) files = (status_from (performed_few files c), report_from (performed_few files c))
 
 abbrev pub answer_of : List (List ℕ) → Files → Status × List ℕ
 answer_of words files = answered (command_of words) files
 
 -- ---- a read fault, and a command that is done
 
--- no case of the answer stands before the reading of that file
-abbrev pub IsReached : Files → CommandWords → List ℕ → Type 0
-IsReached files c name = (name ≡ c.sheet) ⊎ ((name ≡ c.input) × IsOk (accepted files c))
+-- a sheet file has the name, and the sheet files before it are there and within their limits
+pub record IsReachedSheet (files : Files) (names : List (List ℕ)) (name : List ℕ) : Type 0 where
+  pub before : List (List ℕ)
+  pub behind : List (List ℕ)
+  pub split : names ≡ before ++ name ∷ behind
+  pub are_read : IsOk (sheet_files files 0 before)
+
+-- the input file has the name, and the sheet is accepted
+pub record IsReachedInput (files : Files) (c : CommandWords) (name : List ℕ) : Type 0 where
+  pub job : JobWords
+  pub job_is : c.job ≡ Some job
+  pub name_is : name ≡ job.input
+  pub is_accepted : IsOk (accepted files c)
+
+-- no case of the answer stands before the reading of a file of that name
+pub record IsReached (files : Files) (c : CommandWords) (name : List ℕ) : Type 0 where
+  pub few : length c.sheets ≤ sheet_count
+  pub reached : IsReachedSheet files c.sheets name ⊎ IsReachedInput files c name
 
 -- the text is hex of a frame that isn't too long, whose bits begin with a spelling and have at most 7 bits after it
 pub record IsValidFrame (type : TypeIn) (text : List ℕ) : Type 0 where
@@ -125,16 +201,33 @@ abbrev pub IsValidInput : Verb → TypeIn → List ℕ → Type 0
 IsValidInput Unpack type text = IsValidFrame type text
 IsValidInput Pack type text = IsValidJson type text
 
--- the files of the command are there and within their limits, the sheet is accepted, and the input is valid
-pub record IsValid (files : Files) (c : CommandWords) : Type 0 where
-  pub octets : List ℕ
-  pub sheet_there : file_named c.sheet files ≡ Some octets
-  pub sheet_within : length octets ≤ sheet_octets
-  pub sheet : Sheet
-  pub sheet_accepted : flat_sheet octets ≡ Some sheet
-  pub type : TypeIn
-  pub type_named : type_from sheet c.word sheet.rows 0 ≡ Some type
+-- the input file is there and within its limit, and valid for the type
+pub record IsValidJob (files : Files) (job : JobWords) (type : TypeIn) : Type 0 where
   pub input : List ℕ
-  pub input_there : file_named c.input files ≡ Some input
-  pub input_within : length input ≤ input_most c.verb
-  pub input_valid : IsValidInput c.verb type input
+  pub there : file_named job.input files ≡ Some input
+  pub within : length input ≤ input_most job.verb
+  pub valid : IsValidInput job.verb type input
+
+-- a sheet that is only checked has no input
+abbrev pub IsValidFor : Files → Option JobWords → Sheet → Type 0
+IsValidFor files None sheet = ⊤
+IsValidFor files (Some job) sheet = IsValidJob files job (type_of sheet.types)
+
+-- each sheet file is there and within its limit
+abbrev pub AreThere : Files → List (List ℕ) → List (List ℕ) → Type 0
+AreThere files [] [] = ⊤
+AreThere files [] (octets ∷ others) = ⊥
+AreThere files (name ∷ names) [] = ⊥
+AreThere files (name ∷ names) (octets ∷ others) = (file_named name files ≡ Some octets) × (length octets ≤ sheet_octets) × AreThere files names others
+
+-- The files of the command are there and within their limits, the sheet is accepted, the input is valid, and the report
+-- of what is done is within its limit.
+pub record IsValid (files : Files) (c : CommandWords) : Type 0 where
+  pub few : length c.sheets ≤ sheet_count
+  pub octets : List (List ℕ)
+  pub there : AreThere files c.sheets octets
+  pub within : sum_by length octets ≤ sheets_octets
+  pub sheet : Sheet
+  pub sheet_accepted : compiled octets (word_of c) ≡ Ok sheet
+  pub input_valid : IsValidFor files c.job sheet
+  pub short : (report : List ℕ) → DoesBy c.job files sheet statuses.Done report → length report ≤ report_octets

@@ -2,7 +2,7 @@
 use Rattle.std.specs.Prelude.{◌≡◌, ℕ, ◌+◌, List, ◌++◌, length, Ok, Err}
 use Rattle.eds_base.specs.declared.fault.Step.{Step}
 use Rattle.eds_bits.specs.Bits.{Bits}
-use Rattle.eds_cmd.specs.declared.sheet.Row.{Row}
+use Rattle.eds_read_types.specs.declared.row.Row.{Row}
 use Rattle.eds_cmd.specs.declared.value.FlatValue.{FlatValue}
 use Rattle.eds_io.specs.Files.{Files}
 use Rattle.eds_cmd.specs.declared.status.Status.{Status}

@@ -1,6 +1,4 @@
 pub mod Limits
-pub mod Flat
-pub mod Sizes
 pub mod Status
 pub mod Reports
 pub mod Values

@@ -1,9 +1,17 @@
 -- The most that a command takes.
 use Rattle.std.specs.Prelude.{ℕ}
 
--- the octets of a sheet file
+-- the sheet files
+abbrev pub sheet_count : ℕ
+sheet_count = 64
+
+-- the octets of one sheet file
 abbrev pub sheet_octets : ℕ
 sheet_octets = 4194304
+
+-- the octets of all sheet files
+abbrev pub sheets_octets : ℕ
+sheets_octets = 16777216
 
 -- the octets of the text of a frame
 abbrev pub hex_octets : ℕ
@@ -21,10 +29,6 @@ value_bits = 524288
 abbrev pub frame_octets : ℕ
 frame_octets = 65536
 
--- the types of a sheet
-abbrev pub types : ℕ
-types = 4096
-
--- the entries of a container
-abbrev pub entries : ℕ
-entries = 32767
+-- the octets of a report
+abbrev pub report_octets : ℕ
+report_octets = 67108864

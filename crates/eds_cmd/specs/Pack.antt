@@ -1,5 +1,5 @@
 -- What packing the text of a value comes to.
-use Rattle.std.specs.Prelude.{◌≡◌, ◌≢◌, ℕ, ◌+◌, ◌^◌, ◌<◌, ◌≤◌, ◌==◌, nat_le, nat_lt, List, [], ◌∷◌, ◌++◌, length, map, take, slice_get, slice_index, Bool, true, false, if◌then◌else◌, Option, Some, None, Result, Ok, Err, ◌⊎◌}
+use Rattle.std.specs.Prelude.{◌≡◌, ◌≢◌, ℕ, ◌+◌, ◌^◌, ◌<◌, ◌≤◌, ◌==◌, nat_le, nat_lt, List, [], ◌∷◌, ◌++◌, length, map, take, slice_get, slice_index, Bool, false, if◌then◌else◌, Option, Some, None, Result, Ok, Err, ◌⊎◌}
 use Rattle.hex.specs.Hex.{encode_lower}
 use Rattle.serde_json.specs.Data.{Data}
 use Rattle.eds_base.specs.Answering.{◌>>=◌, or_stop}
@@ -10,8 +10,8 @@ use Rattle.eds_cmd.specs.declared.pack_fail.PackReason.TheVariants.{OutOfRange, 
 use Rattle.eds_cmd.specs.declared.shape.Given.{Given}
 use Rattle.eds_cmd.specs.declared.shape.Whole.{Whole}
 use Rattle.eds_cmd.specs.declared.shape.Whole.TheVariants.{Natural, Negative}
-use Rattle.eds_cmd.specs.declared.sheet.Row.{Row}
-use Rattle.eds_cmd.specs.declared.sheet.Row.TheVariants.{Int, Con}
+use Rattle.eds_read_types.specs.declared.row.Row.{Row}
+use Rattle.eds_read_types.specs.declared.row.Row.TheVariants.{Int, Con}
 use Rattle.eds_cmd.specs.declared.status.Status.{Status}
 use Rattle.eds_cmd.specs.declared.status.Status.TheVariants as statuses
 use Rattle.eds_cmd.specs.declared.stop.Stop.{Stop}
@@ -30,7 +30,7 @@ numbers_of (Fields ns) = ns
 
 -- the place of a part of the type
 abbrev pub part_path : Row → ℕ → ℕ → List Step
-part_path (Int own) id i = []
+part_path (Int name size) id i = []
 part_path (Con name entries) id i = Part (record { 0 = id }) i ∷ []
 
 -- the octets in lower-case hex, the last filled with zeros, and the number of bits
@@ -60,12 +60,12 @@ pub record IsTooLong (type : TypeIn) (given : Given) (status : Status) (report :
   pub bits : Bits
   pub packing : IsPacking type given value bits
   pub past : value_bits < length bits
-  pub stop : IsStop (pack_fault type.sheet TooLong []) status report
+  pub stop : IsStop (pack_fault type.rows TooLong []) status report
 
 -- the JSON names another container
 pub record IsUnderived (type : TypeIn) (given : Given) (status : Status) (report : List ℕ) : Type 0 where
   pub other : given.id.0 ≢ type.id
-  pub stop : IsStop (pack_fault type.sheet NotDerived (Choice given.id ∷ [])) status report
+  pub stop : IsStop (pack_fault type.rows NotDerived (Choice given.id ∷ [])) status report
 
 -- the number is one of that size: at least 0, and below 2^size
 abbrev pub IsOfSize : ℕ → Whole → Type 0
@@ -87,7 +87,7 @@ pub record IsOutside (type : TypeIn) (given : Given) (status : Status) (report :
   pub own : given.id.0 ≡ type.id
   pub i : ℕ
   pub out : IsOutAt (part_sizes type.row) given.numbers i
-  pub stop : IsStop (pack_fault type.sheet OutOfRange (part_path type.row type.id i)) status report
+  pub stop : IsStop (pack_fault type.rows OutOfRange (part_path type.row type.id i)) status report
 
 -- packing what the JSON gives comes to this status and report
 abbrev pub PacksGiven : TypeIn → Given → Status → List ℕ → Type 0
@@ -96,7 +96,7 @@ PacksGiven type given status report =
 
 abbrev pub PacksShape : TypeIn → Result Given (List Step) → Status → List ℕ → Type 0
 PacksShape type (Ok given) status report = PacksGiven type given status report
-PacksShape type (Err path) status report = IsStop (wrong_shape type.sheet path) status report
+PacksShape type (Err path) status report = IsStop (wrong_shape type.rows path) status report
 
 abbrev pub PacksJson : TypeIn → Option Data → Status → List ℕ → Type 0
 PacksJson type None status report = IsStop not_json status report
@@ -129,20 +129,20 @@ bits_of_each (size ∷ sizes) [] = []
 bits_of_each (size ∷ sizes) (n ∷ ns) = low_bits size (natural_of n) ++ bits_of_each sizes ns
 
 abbrev pub packed_bits : TypeIn → Bits → Result (List ℕ) Stop
-packed_bits type bits = if nat_le (length bits) value_bits then Ok (packed_report bits) else Err (pack_fault type.sheet TooLong [])
+packed_bits type bits = if nat_le (length bits) value_bits then Ok (packed_report bits) else Err (pack_fault type.rows TooLong [])
 
 abbrev pub packed_parts : TypeIn → List Whole → Option ℕ → Result (List ℕ) Stop
-packed_parts type numbers (Some i) = Err (pack_fault type.sheet OutOfRange (part_path type.row type.id i))
+packed_parts type numbers (Some i) = Err (pack_fault type.rows OutOfRange (part_path type.row type.id i))
 packed_parts type numbers None = packed_bits type (bits_of_each (part_sizes type.row) numbers)
 
 unfoldable pub packed_given : TypeIn → Given → Result (List ℕ) Stop
 packed_given type given =
     if given.id.0 == type.id then packed_parts type given.numbers (first_out (part_sizes type.row) given.numbers 0)
-    else Err (pack_fault type.sheet NotDerived (Choice given.id ∷ []))
+    else Err (pack_fault type.rows NotDerived (Choice given.id ∷ []))
 
 abbrev pub or_shape : TypeIn → Result Given (List Step) → Result Given Stop
 or_shape type (Ok given) = Ok given
-or_shape type (Err path) = Err (wrong_shape type.sheet path)
+or_shape type (Err path) = Err (wrong_shape type.rows path)
 
 -- the report of what is done, or the stop
 unfoldable pub packed : TypeIn → List ℕ → Result (List ℕ) Stop

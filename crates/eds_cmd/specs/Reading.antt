@@ -5,8 +5,8 @@ use Rattle.eds_base.specs.declared.fail.Fail.TheVariants.{Named, Memory}
 use Rattle.eds_base.specs.declared.fault.Step.{Step}
 use Rattle.eds_base.specs.declared.fault.Step.TheVariants.{Part}
 use Rattle.eds_bits.specs.Bits.{Bits, unsigned_of}
-use Rattle.eds_cmd.specs.declared.sheet.Row.{Row}
-use Rattle.eds_cmd.specs.declared.sheet.Row.TheVariants.{Int, Con}
+use Rattle.eds_read_types.specs.declared.row.Row.{Row}
+use Rattle.eds_read_types.specs.declared.row.Row.TheVariants.{Int, Con}
 use Rattle.eds_cmd.specs.declared.value.FlatValue.{FlatValue}
 use Rattle.eds_cmd.specs.declared.value.FlatValue.TheVariants.{Number, Fields}
 use Rattle.eds_cmd.specs.declared.value.PartAt.{PartAt}
@@ -33,7 +33,7 @@ fields_from id (Err i) = Err (Part (record { 0 = id }) i ∷ [])
 
 -- a value of the type with this position and the bits behind it, or the path of the first part for which there are too few
 abbrev pub read_value : ℕ → Row → Bits → Result (FlatValue × Bits) (List Step)
-read_value id (Int own) bits = read_number own.size bits
+read_value id (Int name size) bits = read_number size bits
 read_value id (Con name entries) bits = fields_from id (read_each (entry_sizes entries) 0 bits)
 
 -- ---- what a reader gives, and leaves

@@ -11,12 +11,11 @@ use Rattle.eds_base.specs.declared.refusal.Refusal.{Refusal}
 use Rattle.eds_base.specs.declared.fault.Step.{Step}
 use Rattle.eds_base.specs.declared.fault.Step.TheVariants.{Part, Item, Choice}
 use Rattle.eds_cmd.specs.declared.status.What.{What}
-use Rattle.eds_cmd.specs.declared.status.What.TheVariants.{File, Input, Frame}
-use Rattle.eds_cmd.specs.declared.sheet.Unsigned.{Unsigned}
-use Rattle.eds_cmd.specs.declared.sheet.Row.{Row}
-use Rattle.eds_cmd.specs.declared.sheet.Row.TheVariants.{Int, Con}
-use Rattle.eds_cmd.specs.declared.sheet.Sheet.{Sheet}
-use Rattle.eds_cmd.specs.Flat.{row_name}
+use Rattle.eds_cmd.specs.declared.status.What.TheVariants.{Files, File, Sheets, Input, Frame, Report}
+use Rattle.eds_read_types.specs.declared.row.Unsigned.{Unsigned}
+use Rattle.eds_read_types.specs.declared.row.Row.{Row}
+use Rattle.eds_read_types.specs.declared.row.Row.TheVariants.{Int, Con}
+use Rattle.eds_sheet.specs.declared.sheet.Counts.{Counts}
 
 -- ---- refusals
 
@@ -50,9 +49,12 @@ abbrev pub read_fault_line : List ℕ → List ℕ
 read_fault_line name = codes "read fault " ++ name ++ codes "\n"
 
 abbrev pub what_text : What → List ℕ
+what_text Files = codes "files"
 what_text File = codes "file"
+what_text Sheets = codes "sheets"
 what_text Input = codes "input"
 what_text Frame = codes "frame"
+what_text Report = codes "report"
 
 abbrev pub limit_line : What → ℕ → List ℕ
 limit_line what most = codes "limit " ++ what_text what ++ codes " " ++ decimal most ++ codes "\n"
@@ -60,18 +62,30 @@ limit_line what most = codes "limit " ++ what_text what ++ codes " " ++ decimal 
 abbrev pub usage_line : List ℕ
 usage_line = codes "usage: eds COMMAND ARGUMENTS\n"
 
+-- ---- an accepted sheet
+
+unfoldable pub count_text : List ℕ → ℕ → List ℕ
+count_text name count = codes " " ++ name ++ codes " " ++ decimal count
+
+-- `accepted types T containers C interfaces I components M`
+abbrev pub counts_line : Counts → List ℕ
+counts_line c =
+    codes "accepted" ++ count_text (codes "types") c.types ++ count_text (codes "containers") c.containers
+    ++ count_text (codes "interfaces") c.interfaces ++ count_text (codes "components") c.components ++ codes "\n"
+
 -- ---- faults
 
--- the name of a package's type with the package's name
-abbrev pub qualified : List ℕ → List ℕ → List ℕ
-qualified package_name name = package_name ++ codes "/" ++ name
+-- the qualified name of a type
+abbrev pub row_name : Row → List ℕ
+row_name (Int name size) = name
+row_name (Con name entries) = name
 
 abbrev pub name_or_none : Option Row → List ℕ
 name_or_none None = []
 name_or_none (Some row) = row_name row
 
 abbrev pub row_entries : Row → List Unsigned
-row_entries (Int own) = []
+row_entries (Int name size) = []
 row_entries (Con name entries) = entries
 
 abbrev pub entries_or_none : Option Row → List Unsigned
@@ -87,17 +101,17 @@ abbrev pub part_name : List Row → ℕ → ℕ → List ℕ
 part_name rows id at = entry_name_or_none (slice_get (entries_or_none (slice_get rows id)) at)
 
 -- `.NAME` for an entry, `[I]` for an item, `<NAME>` for a choice
-abbrev pub step_text : Sheet → Step → List ℕ
-step_text sheet (Part id at) = codes "." ++ part_name sheet.rows id.0 at
-step_text sheet (Item i) = codes "[" ++ decimal i ++ codes "]"
-step_text sheet (Choice id) = codes "<" ++ qualified sheet.name (name_or_none (slice_get sheet.rows id.0)) ++ codes ">"
+abbrev pub step_text : List Row → Step → List ℕ
+step_text rows (Part id at) = codes "." ++ part_name rows id.0 at
+step_text rows (Item i) = codes "[" ++ decimal i ++ codes "]"
+step_text rows (Choice id) = codes "<" ++ name_or_none (slice_get rows id.0) ++ codes ">"
 
-abbrev pub steps_text : Sheet → List Step → List ℕ
-steps_text sheet [] = []
-steps_text sheet (step ∷ steps) = step_text sheet step ++ steps_text sheet steps
+abbrev pub steps_text : List Row → List Step → List ℕ
+steps_text rows [] = []
+steps_text rows (step ∷ steps) = step_text rows step ++ steps_text rows steps
 
-abbrev pub path_text : Sheet → List Step → List ℕ
-path_text sheet steps = codes "$" ++ steps_text sheet steps
+abbrev pub path_text : List Row → List Step → List ℕ
+path_text rows steps = codes "$" ++ steps_text rows steps
 
 -- `fault REASON at PATH`
 abbrev pub fault_line : List ℕ → List ℕ → List ℕ

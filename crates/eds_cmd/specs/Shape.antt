@@ -1,7 +1,9 @@
 -- What the JSON of a value gives.
 use Rattle.std.specs.Prelude.{◌≡◌, ℕ, ◌+◌, ◌==◌, ◌&&◌, List, [], ◌∷◌, ◌++◌, length, codes, Bool, true, false, is_some, if◌then◌else◌, Option, Some, None, option_and_then, Result, Ok, Err, ⊤}
 use Rattle.serde_json.specs.Data.{Data, Num, unsigned, negative, float}
-use Rattle.serde_json.specs.Find.{as_number, as_str, get}
+use Rattle.serde_json.specs.Events.{members_len}
+use Rattle.serde_json.specs.Find.{as_number, as_object, as_str, get}
+use Rattle.std.specs.Option.{option_map_or}
 use Rattle.eds_base.specs.Answering.{◌>>=◌, or_stop}
 use Rattle.eds_base.specs.Reading as reading
 use Rattle.eds_base.specs.Reading.{only}
@@ -9,16 +11,15 @@ use Rattle.eds_base.specs.declared.fail.Fail.{Fail}
 use Rattle.eds_base.specs.declared.fail.Fail.TheVariants.{Named, Memory}
 use Rattle.eds_base.specs.declared.fault.Step.{Step}
 use Rattle.eds_base.specs.declared.fault.Step.TheVariants.{Part}
-use Rattle.eds_cmd.specs.declared.sheet.Unsigned.{Unsigned}
-use Rattle.eds_cmd.specs.declared.sheet.Row.{Row}
-use Rattle.eds_cmd.specs.declared.sheet.Row.TheVariants.{Int, Con}
+use Rattle.eds_read_types.specs.declared.row.Unsigned.{Unsigned}
+use Rattle.eds_read_types.specs.declared.row.Row.{Row}
+use Rattle.eds_read_types.specs.declared.row.Row.TheVariants.{Int, Con}
 use Rattle.eds_cmd.specs.declared.shape.Given.{Given}
 use Rattle.eds_cmd.specs.declared.shape.Whole.{Whole}
 use Rattle.eds_cmd.specs.declared.shape.Whole.TheVariants.{Natural, Negative}
 use Rattle.eds_cmd.specs.declared.value.PartAt.{PartAt}
-use Rattle.eds_cmd.specs.Flat.{has_so_many}
 use Rattle.eds_cmd.specs.Reports.{row_entries}
-use Rattle.eds_cmd.specs.Target.{TypeIn, type_from}
+use Rattle.eds_cmd.specs.Target.{TypeIn, type_named}
 
 abbrev pub whole_from : Num → Option Whole
 whole_from (unsigned n) = Some (Natural n)
@@ -47,6 +48,10 @@ abbrev pub members_of : Data → List Unsigned → ℕ → Result (List Whole) �
 members_of d [] at = Ok []
 members_of d (e ∷ es) at = member_before (member_of d e) at (members_of d es (at + 1))
 
+-- an object of so many members
+abbrev pub has_so_many : ℕ → Data → Bool
+has_so_many count d = option_map_or (λ ms. members_len ms == count) (as_object d) false
+
 -- each entry has a member
 abbrev pub has_each : Data → List Unsigned → Bool
 has_each d [] = true
@@ -58,7 +63,7 @@ has_fields d entries =
     has_so_many (length entries + (if is_some (get (codes "$type") d) then 1 else 0)) d && has_each d entries
 
 abbrev pub is_container : Row → Bool
-is_container (Int own) = false
+is_container (Int name size) = false
 is_container (Con name entries) = true
 
 -- of two types of one position the first
@@ -67,7 +72,7 @@ own_or type other = if other.id == type.id then type else other
 
 -- the container of that name
 abbrev pub container_named : TypeIn → List ℕ → Option TypeIn
-container_named type word = reading.◌>>=◌ (type_from type.sheet word type.sheet.rows 0) (λ other. only (is_container other.row) (own_or type other))
+container_named type name = reading.◌>>=◌ (type_named type.rows name) (λ other. only (is_container other.row) (own_or type other))
 
 abbrev pub container_by : TypeIn → Option Data → Option TypeIn
 container_by type None = Some type
@@ -96,7 +101,7 @@ number_given id None = Err []
 number_given id (Some n) = Ok (record { id = record { 0 = id }; numbers = n ∷ [] })
 
 abbrev pub shape_by : Row → TypeIn → Data → Result Given (List Step)
-shape_by (Int own) type d = number_given type.id (whole_of d)
+shape_by (Int name size) type d = number_given type.id (whole_of d)
 shape_by (Con name entries) type d = fields_given type d
 
 -- what the JSON gives for the type, or the path of the first value of a wrong shape

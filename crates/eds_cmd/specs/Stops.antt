@@ -3,12 +3,10 @@ use Rattle.std.specs.Prelude.{◌≡◌, ℕ, List, codes}
 use Rattle.eds_base.specs.Faults.{reason_name}
 use Rattle.eds_base.specs.declared.fault.Reason.{Reason}
 use Rattle.eds_base.specs.declared.fault.Step.{Step}
-use Rattle.eds_base.specs.declared.refusal.Kept.TheVariants.{Word}
 use Rattle.eds_base.specs.declared.refusal.Refusal.{Refusal}
-use Rattle.eds_base.specs.declared.rule.Rule.TheVariants.{Unsupported, Unresolved}
+use Rattle.eds_read_types.specs.declared.row.Row.{Row}
 use Rattle.eds_cmd.specs.declared.pack_fail.PackReason.{PackReason}
 use Rattle.eds_cmd.specs.declared.pack_fail.ValueFail.TheVariants as fails
-use Rattle.eds_cmd.specs.declared.sheet.Sheet.{Sheet}
 use Rattle.eds_cmd.specs.declared.status.Status.{Status}
 use Rattle.eds_cmd.specs.declared.status.Status.TheVariants as statuses
 use Rattle.eds_cmd.specs.declared.status.DataFault.TheVariants as faults
@@ -39,14 +37,6 @@ limited what most = record { cause = Limit what most; report = limit_line what m
 abbrev pub refused : Refusal → Stop
 refused refusal = record { cause = Refused refusal; report = refusal_line refusal }
 
--- the file is not of the flat form
-abbrev pub not_flat : Stop
-not_flat = refused (record { rule = Unsupported; place = record { file = 0; node = 0 }; kept = Word (codes "flat") })
-
--- the word, which stands behind the one sheet file, names no type
-abbrev pub unresolved : List ℕ → Stop
-unresolved word = refused (record { rule = Unresolved; place = record { file = 1; node = 0 }; kept = Word word })
-
 abbrev pub bad_hex : Stop
 bad_hex = record { cause = Data faults.Hex; report = fault_line (codes "BadHex") (codes "$") }
 
@@ -54,20 +44,20 @@ bad_hex = record { cause = Data faults.Hex; report = fault_line (codes "BadHex")
 abbrev pub not_json : Stop
 not_json = record { cause = Data (faults.Json fails.NotJson); report = fault_line (codes "NotJson") (codes "$") }
 
-abbrev pub wrong_shape : Sheet → List Step → Stop
-wrong_shape sheet path = record {
+abbrev pub wrong_shape : List Row → List Step → Stop
+wrong_shape rows path = record {
   cause = Data (faults.Json (fails.WrongShape path));
-  report = fault_line (codes "WrongShape") (path_text sheet path);
+  report = fault_line (codes "WrongShape") (path_text rows path);
 }
 
-abbrev pub pack_fault : Sheet → PackReason → List Step → Stop
-pack_fault sheet reason path = record {
+abbrev pub pack_fault : List Row → PackReason → List Step → Stop
+pack_fault rows reason path = record {
   cause = Data (faults.Pack (record { reason = reason; path = path }));
-  report = fault_line (reasons.reason_name reason) (path_text sheet path);
+  report = fault_line (reasons.reason_name reason) (path_text rows path);
 }
 
-abbrev pub frame_fault : Sheet → Reason → List Step → Stop
-frame_fault sheet reason path = record {
+abbrev pub frame_fault : List Row → Reason → List Step → Stop
+frame_fault rows reason path = record {
   cause = Data (faults.Frame (record { reason = reason; path = path }));
-  report = fault_line (reason_name reason) (path_text sheet path);
+  report = fault_line (reason_name reason) (path_text rows path);
 }

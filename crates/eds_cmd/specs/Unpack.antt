@@ -1,5 +1,5 @@
 -- What unpacking the text of a frame comes to.
-use Rattle.std.specs.Prelude.{◌≡◌, ℕ, ◌-◌, ◌≤◌, nat_le, List, [], ◌++◌, length, if◌then◌else◌, Result, Ok, Err, ◌⊎◌}
+use Rattle.std.specs.Prelude.{◌≡◌, ℕ, ◌-◌, ◌≤◌, nat_le, List, [], length, if◌then◌else◌, Result, Ok, Err, ◌⊎◌}
 use Rattle.eds_base.specs.declared.fault.Step.{Step}
 use Rattle.eds_base.specs.declared.fault.Reason.TheVariants.{Short, Trailing}
 use Rattle.eds_base.specs.Answering.{◌>>=◌, or_stop}
@@ -34,7 +34,7 @@ pub record IsUnpacked (type : TypeIn) (bits : Bits) (status : Status) (report : 
   pub begins : Begins type.row value front rest bits
   pub few : length rest ≤ 7
   pub status_is : status ≡ statuses.Done
-  pub report_is : report ≡ bits_report (value_text type.word type.row value) (length front)
+  pub report_is : report ≡ bits_report (value_text type.row value) (length front)
 
 -- a front of the bits spells a value, and 8 bits or more follow
 pub record IsTrailing (type : TypeIn) (bits : Bits) (status : Status) (report : List ℕ) : Type 0 where
@@ -43,13 +43,13 @@ pub record IsTrailing (type : TypeIn) (bits : Bits) (status : Status) (report : 
   pub rest : Bits
   pub begins : Begins type.row value front rest bits
   pub many : 8 ≤ length rest
-  pub stop : IsStop (frame_fault type.sheet Trailing []) status report
+  pub stop : IsStop (frame_fault type.rows Trailing []) status report
 
 -- the bits are too few for a value
 pub record IsCutShort (type : TypeIn) (bits : Bits) (status : Status) (report : List ℕ) : Type 0 where
   pub path : List Step
   pub short : IsShort type.id type.row bits path
-  pub stop : IsStop (frame_fault type.sheet Short path) status report
+  pub stop : IsStop (frame_fault type.rows Short path) status report
 
 -- unpacking the bits of a frame comes to this status and report
 abbrev pub UnpacksBits : TypeIn → Bits → Status → List ℕ → Type 0
@@ -67,15 +67,15 @@ Unpacks type text status report = UnpacksFrame type (frame_for text) status repo
 
 abbrev pub or_short : TypeIn → Result (FlatValue × Bits) (List Step) → Result (FlatValue × Bits) Stop
 or_short type (Ok read) = Ok read
-or_short type (Err path) = Err (frame_fault type.sheet Short path)
+or_short type (Err path) = Err (frame_fault type.rows Short path)
 
 abbrev pub closed : TypeIn → List ℕ → ℕ → ℕ → Result (List ℕ) Stop
-closed type text all left = if nat_le 8 left then Err (frame_fault type.sheet Trailing []) else Ok (bits_report text (all - left))
+closed type text all left = if nat_le 8 left then Err (frame_fault type.rows Trailing []) else Ok (bits_report text (all - left))
 
 unfoldable pub unpacked_bits : TypeIn → Bits → Result (List ℕ) Stop
 unpacked_bits type bits = do
   read ← or_short type (read_value type.id type.row bits)
-  closed type (value_text type.word type.row read.0) (length bits) (length read.1)
+  closed type (value_text type.row read.0) (length bits) (length read.1)
 
 -- the report of what is done, or the stop
 abbrev pub unpacked : TypeIn → List ℕ → Result (List ℕ) Stop

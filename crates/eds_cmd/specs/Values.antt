@@ -4,18 +4,18 @@ use Rattle.std.specs.List.{flat_map}
 use Rattle.eds_base.specs.declared.fault.Step.{Step}
 use Rattle.eds_base.specs.declared.fault.Step.TheVariants.{Part}
 use Rattle.eds_bits.specs.Bits.{Bits, unsigned_of}
-use Rattle.eds_cmd.specs.declared.sheet.Unsigned.{Unsigned}
-use Rattle.eds_cmd.specs.declared.sheet.Row.{Row}
-use Rattle.eds_cmd.specs.declared.sheet.Row.TheVariants.{Int, Con}
+use Rattle.eds_read_types.specs.declared.row.Unsigned.{Unsigned}
+use Rattle.eds_read_types.specs.declared.row.Row.{Row}
+use Rattle.eds_read_types.specs.declared.row.Row.TheVariants.{Int, Con}
 use Rattle.eds_cmd.specs.declared.value.FlatValue.{FlatValue}
 use Rattle.eds_cmd.specs.declared.value.FlatValue.TheVariants.{Number, Fields}
 
 abbrev pub entry_sizes : List Unsigned → List ℕ
 entry_sizes entries = map (λ e. e.size) entries
 
--- the sizes of the parts of a type: of itself, or of its entries
+-- the sizes of the parts of a type: its own, or those of its entries
 abbrev pub part_sizes : Row → List ℕ
-part_sizes (Int own) = own.size ∷ []
+part_sizes (Int name size) = size ∷ []
 part_sizes (Con name entries) = entry_sizes entries
 
 -- the bits are the unsigned number of that size
@@ -32,8 +32,8 @@ pub record SpellsEach (sizes numbers : List ℕ) (bits : Bits) : Type 0 where
 
 -- the bits spell the value of the type
 abbrev pub Spells : Row → FlatValue → Bits → Type 0
-Spells (Int own) (Number n) bits = IsUnsigned own.size n bits
-Spells (Int own) (Fields ns) bits = ⊥
+Spells (Int name size) (Number n) bits = IsUnsigned size n bits
+Spells (Int name size) (Fields ns) bits = ⊥
 Spells (Con name entries) (Number n) bits = ⊥
 Spells (Con name entries) (Fields ns) bits = SpellsEach (entry_sizes entries) ns bits
 
@@ -53,5 +53,5 @@ pub record IsShortAt (sizes : List ℕ) (bits : Bits) (i : ℕ) : Type 0 where
 
 -- the bits are too few for a value of the type with this position: the first part for which they are has this path
 abbrev pub IsShort : ℕ → Row → Bits → List Step → Type 0
-IsShort id (Int own) bits path = (path ≡ []) × (length bits < own.size)
+IsShort id (Int name size) bits path = (path ≡ []) × (length bits < size)
 IsShort id (Con name entries) bits path = (i : ℕ) × (path ≡ Part (record { 0 = id }) i ∷ []) × IsShortAt (entry_sizes entries) bits i

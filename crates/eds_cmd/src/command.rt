@@ -1,12 +1,12 @@
 //! The words of a command.
 
 ghost use Rattle.std.specs.Prelude.{◌≡◌, option_map};
-ghost use Rattle.eds_cmd.specs.Command.{command_of as command_in, input_most as most_input, verb_of as verb_in, words_of};
+ghost use Rattle.eds_cmd.specs.Command.{check_of as check_in, command_of as command_in, input_most as most_input, job_of as job_in, verb_of as verb_in, word_of as word_in, words_of};
 
 use crate::limits::{HEX_OCTETS, JSON_OCTETS};
 use eds_base::Text;
 
-/// What a command does with its input file.
+/// What is done with an input file.
 #[derive(Clone, Copy, Debug, PartialEq, Eq)]
 pub enum Verb {
     /// Reads the value of a frame.
@@ -15,14 +15,33 @@ pub enum Verb {
     Pack,
 }
 
-/// A command: what it does, the name of a type, and the names of the input file and of the sheet
-/// file.
+/// What is to be done with an input file, the name of the type by which it is done, and the name of
+/// the file.
 #[derive(Clone, Copy, Debug)]
-pub struct Command<'a> {
+pub struct Job<'a> {
     pub verb: Verb,
     pub word: &'a str,
     pub input: &'a str,
-    pub sheet: &'a str,
+}
+
+/// A command: what is to be done by a sheet, None where it is only checked, and the names of its
+/// files.
+#[derive(Clone, Copy, Debug)]
+pub struct Command<'a> {
+    pub job: Option<Job<'a>>,
+    pub sheets: &'a [Text],
+}
+
+impl<'a> Command<'a> {
+    /// The name of the type, where the command names one.
+    pub fn word(&self) -> Option<&'a str>
+        ensures { option_map (λ w. w.now) result ≡ word_in (words_of self.now) }
+    {
+        match self.job {
+            Some(job) => Some(job.word),
+            None => None,
+        }
+    }
 }
 
 fn verb_of(word: &str) -> Option<Verb>
@@ -37,25 +56,51 @@ fn verb_of(word: &str) -> Option<Verb>
     }
 }
 
+// The names of sheet files, of which there is at least one.
+fn check_of(words: &[Text]) -> Option<Command<'_>>
+    ensures { option_map words_of result ≡ check_in words.now }
+{
+    match words {
+        [] => None,
+        [_, ..] => Some(Command {
+            job: None,
+            sheets: words,
+        }),
+    }
+}
+
+// The names of a type, of an input file, and of sheet files, of which there is at least one.
+fn job_of(verb: Verb, words: &[Text]) -> Option<Command<'_>>
+    ensures { option_map words_of result ≡ job_in verb words.now }
+{
+    match words {
+        [] => None,
+        [_] => None,
+        [_, _] => None,
+        [word, input, sheets @ ..] => Some(Command {
+            job: Some(Job {
+                verb,
+                word: word.as_str(),
+                input: input.as_str(),
+            }),
+            sheets,
+        }),
+    }
+}
+
 /// The command that words are, None where they are none.
 pub fn command_of(words: &[Text]) -> Option<Command<'_>>
     ensures { option_map words_of result ≡ command_in words.now }
 {
     match words {
-        [verb, word, input, sheet] => match verb_of(verb.as_str()) {
-            Some(verb) => Some(Command {
-                verb,
-                word: word.as_str(),
-                input: input.as_str(),
-                sheet: sheet.as_str(),
-            }),
-            None => None,
-        },
         [] => None,
-        [_] => None,
-        [_, _] => None,
-        [_, _, _] => None,
-        [_, _, _, _, _, ..] => None,
+        [first, rest @ ..] => {
+            if first.as_str() == "check" {
+                check_of(rest)
+            } else {
+                job_of(verb_of(first.as_str())?, rest)
+            }
+        }
     }
 }
 

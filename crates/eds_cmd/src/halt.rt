@@ -2,6 +2,7 @@
 
 use crate::stop::Stop;
 use eds_base::{Fail, Memory, Text};
+use std::alloc::AllocError;
 
 /// What ends a command over a shelf before it is done.
 #[derive(Debug, Drop)]
@@ -35,6 +36,17 @@ impl From<Memory> for Halt {
     ghost from_gives = { λ _ e. e ≡ halts.Memory };
 
     fn from(_: Memory) -> Self {
+        Halt::Memory
+    }
+}
+
+impl From<AllocError> for Halt {
+    ghost use Rattle.std.specs.Prelude.{◌≡◌};
+    ghost use Rattle.eds_cmd.specs.declared.halt.Halt.TheVariants as halts;
+
+    ghost from_gives = { λ _ e. e ≡ halts.Memory };
+
+    fn from(_: AllocError) -> Self {
         Halt::Memory
     }
 }

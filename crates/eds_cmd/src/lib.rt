@@ -2,18 +2,15 @@
 #![tactic(auto)]
 
 mod command;
-mod flat;
 mod halt;
 mod hex_text;
 mod law;
 mod limits;
-mod names;
 mod pack;
 mod pack_fail;
 mod perform;
 mod report;
 mod shape;
-mod sheet;
 mod shown;
 mod status;
 mod stop;

@@ -1,6 +1,6 @@
 //! From the text of a value to the report on its bits.
 
-ghost use Rattle.std.specs.Prelude.{◌≡◌, ◌<◌, ◌≤◌, ◌+◌, ◌*◌, true, None, All, replicate, IfOk, sum_by, string_bytes, length};
+ghost use Rattle.std.specs.Prelude.{◌≡◌, ◌<◌, ◌≤◌, ◌+◌, ◌*◌, true, None, All, replicate, IfOk, sum, string_bytes, length};
 ghost use Rattle.serde_json.specs.View.{view};
 ghost use Rattle.eds_base.specs.Answering.{Answers, or_stop};
 ghost use Rattle.eds_bits.specs.Bits.{bits_of, low_bits, octets_of, with_piece};
@@ -8,29 +8,43 @@ ghost use Rattle.eds_cmd.specs.Pack.{bits_of_each, first_out as first_out_of, is
 ghost use Rattle.eds_cmd.specs.Shape.{shape_of};
 ghost use Rattle.eds_cmd.specs.Stops.{not_json as stop_of_json};
 ghost use Rattle.eds_cmd.specs.Target.{tree_of as tree_in, type_in};
-ghost use Rattle.eds_cmd.specs.Values.{entry_sizes, part_sizes};
+ghost use Rattle.eds_cmd.specs.Values.{entry_sizes as sizes_of_entries, part_sizes as sizes_of_parts};
 
 use crate::limits::VALUE_BITS;
 use crate::pack_fail::{PackFail, PackReason};
 use crate::shape::{Given, Whole, given_of};
-use crate::sheet::{Row, Size, Unsigned};
 use crate::shown::bits_report;
 use crate::stop::{Stop, not_json, pack_fault, wrong_shape};
 use crate::target::Target;
 use crate::tree::tree_of;
-use eds_base::{Fail, Memory, Path, Step, TypeId};
+use eds_base::{Fail, Items, Memory, Path, Step, TypeId};
 use eds_bits::put;
+use eds_read_types::{Row, Size, Unsigned};
 use serde_json::Value;
 use std::alloc::Global;
-use std::slice;
 
-fn row_parts(row: &Row) -> &[Unsigned]
-    ensures sizes { entry_sizes result.now ≡ part_sizes row.now }
-    ensures most { length result.now ≤ 32767 }
+fn entry_sizes(alloc: Global, entries: &[Unsigned]) -> Result<Items<Size>, Memory>
+    ensures { IfOk result (λ sizes. sizes ≡ sizes_of_entries entries.now) }
+{
+    let mut sizes = Items::new(alloc);
+    for entry in entries {
+        sizes.push(entry.size)?;
+    }
+    Ok(sizes)
+}
+
+// The sizes of the parts of a type.
+fn part_sizes(alloc: Global, row: &Row) -> Result<Items<Size>, Memory>
+    ensures sizes { IfOk result (λ sizes. sizes ≡ sizes_of_parts row.now) }
+    ensures most { IfOk result (λ sizes. length sizes ≤ 32767) }
 {
     match row {
-        Row::Int(own) => slice::from_ref(own),
-        Row::Con(_, entries) => entries.as_slice(),
+        Row::Int(_, size) => {
+            let mut sizes = Items::new(alloc);
+            sizes.push(*size)?;
+            Ok(sizes)
+        }
+        Row::Con(_, entries) => entry_sizes(alloc, entries.as_slice()),
     }
 }
 
@@ -43,29 +57,29 @@ fn is_of_size(size: Size, number: Whole) -> bool
     }
 }
 
-// The position of the first number that is outside its part.
-fn first_out(parts: &[Unsigned], numbers: &[Whole]) -> Option<u16>
-    requires most { length parts.now ≤ 32767 }
-    requires each { length numbers.now ≡ length parts.now }
-    ensures { result ≡ first_out_of (entry_sizes parts.now) numbers.now 0 }
+// The position of the first number that is outside its size.
+fn first_out(sizes: &[Size], numbers: &[Whole]) -> Option<u16>
+    requires most { length sizes.now ≤ 32767 }
+    requires each { length numbers.now ≡ length sizes.now }
+    ensures { result ≡ first_out_of sizes.now numbers.now 0 }
 {
-    for (at, part) in parts.iter().enumerate() {
-        if !is_of_size(part.size, numbers[at]) {
+    for (at, size) in sizes.iter().enumerate() {
+        if !is_of_size(*size, numbers[at]) {
             return Some(at as u16);
         }
     }
     None
 }
 
-// How many bits the parts have.
-fn count_bits(parts: &[Unsigned]) -> u64
-    requires { length parts.now ≤ 32767 }
-    ensures value { result ≡ sum_by (λ e. e.size) parts.now }
-    ensures bound { result ≤ 64 * length parts.now }
+// How many bits parts of these sizes have.
+fn count_bits(sizes: &[Size]) -> u64
+    requires { length sizes.now ≤ 32767 }
+    ensures value { result ≡ sum sizes.now }
+    ensures bound { result ≤ 64 * length sizes.now }
 {
     let mut count = 0u64;
-    for part in parts {
-        count += u64::from(part.size.bits());
+    for size in sizes {
+        count += u64::from(size.bits());
     }
     count
 }
@@ -83,19 +97,19 @@ fn write_part(room: &mut [u8], at: u64, size: Size, number: Whole)
 }
 
 // Writes numbers that are of their sizes, one after another, from the start of the room on.
-fn write_parts(room: &mut [u8], parts: &[Unsigned], numbers: &[Whole])
-    requires most { length parts.now ≤ 32767 }
-    requires each { length numbers.now ≡ length parts.now }
-    requires inside { first_out_of (entry_sizes parts.now) numbers.now 0 ≡ None }
-    requires fits { sum_by (λ e. e.size) parts.now ≤ 8 * length room.old }
+fn write_parts(room: &mut [u8], sizes: &[Size], numbers: &[Whole])
+    requires most { length sizes.now ≤ 32767 }
+    requires each { length numbers.now ≡ length sizes.now }
+    requires inside { first_out_of sizes.now numbers.now 0 ≡ None }
+    requires fits { sum sizes.now ≤ 8 * length room.old }
     requires octets { All (λ o. o < 256) room.old }
-    ensures written { bits_of room.new ≡ with_piece 0 (bits_of_each (entry_sizes parts.now) numbers.now) (bits_of room.old) }
+    ensures written { bits_of room.new ≡ with_piece 0 (bits_of_each sizes.now numbers.now) (bits_of room.old) }
     ensures octets { All (λ o. o < 256) room.new }
 {
     let mut at = 0u64;
-    for (i, part) in parts.iter().enumerate() {
-        write_part(room, at, part.size, numbers[i]);
-        at += u64::from(part.size.bits());
+    for (i, size) in sizes.iter().enumerate() {
+        write_part(room, at, *size, numbers[i]);
+        at += u64::from(size.bits());
     }
 }
 
@@ -109,18 +123,18 @@ fn zeros(alloc: Global, count: usize) -> Result<Vec<u8>, Memory>
 // The octets of numbers that are of their sizes, the last filled with zeros.
 fn packed_octets(
     alloc: Global,
-    parts: &[Unsigned],
+    sizes: &[Size],
     numbers: &[Whole],
     count: u64,
 ) -> Result<Vec<u8>, Memory>
-    requires most { length parts.now ≤ 32767 }
-    requires each { length numbers.now ≡ length parts.now }
-    requires inside { first_out_of (entry_sizes parts.now) numbers.now 0 ≡ None }
-    requires count { count ≡ sum_by (λ e. e.size) parts.now }
-    ensures { IfOk result (λ v. v.items ≡ octets_of (bits_of_each (entry_sizes parts.now) numbers.now)) }
+    requires most { length sizes.now ≤ 32767 }
+    requires each { length numbers.now ≡ length sizes.now }
+    requires inside { first_out_of sizes.now numbers.now 0 ≡ None }
+    requires count { count ≡ sum sizes.now }
+    ensures { IfOk result (λ v. v.items ≡ octets_of (bits_of_each sizes.now numbers.now)) }
 {
     let mut room = zeros(alloc, count.div_ceil(8) as usize)?;
-    write_parts(room.as_mut_slice(), parts, numbers);
+    write_parts(room.as_mut_slice(), sizes, numbers);
     Ok(room)
 }
 
@@ -128,42 +142,42 @@ fn packed_octets(
 fn packed_bits(
     alloc: Global,
     target: &Target<'_>,
-    parts: &[Unsigned],
+    sizes: &[Size],
     numbers: &[Whole],
 ) -> Result<String, Fail<Stop>>
-    requires most { length parts.now ≤ 32767 }
-    requires each { length numbers.now ≡ length parts.now }
-    requires inside { first_out_of (entry_sizes parts.now) numbers.now 0 ≡ None }
-    ensures { Answers string_bytes result (packed_from_bits (type_in target.now) (bits_of_each (entry_sizes parts.now) numbers.now)) }
+    requires most { length sizes.now ≤ 32767 }
+    requires each { length numbers.now ≡ length sizes.now }
+    requires inside { first_out_of sizes.now numbers.now 0 ≡ None }
+    ensures { Answers string_bytes result (packed_from_bits (type_in target.now) (bits_of_each sizes.now numbers.now)) }
 {
-    let count = count_bits(parts);
+    let count = count_bits(sizes);
     if count > VALUE_BITS {
         let fail = PackFail {
             reason: PackReason::TooLong,
             path: Path::root(),
         };
-        return Err(Fail::Named(pack_fault(alloc, target.sheet, fail)?));
+        return Err(Fail::Named(pack_fault(alloc, target.rows.as_slice(), fail)?));
     }
-    let octets = packed_octets(alloc, parts, numbers, count)?;
+    let octets = packed_octets(alloc, sizes, numbers, count)?;
     let digits = hex::encode(alloc, octets.as_slice())?;
     Ok(bits_report(alloc, digits.as_str(), count)?)
 }
 
 // The report on numbers, of which none may be outside its part.
 fn packed_parts(alloc: Global, target: &Target<'_>, numbers: &[Whole]) -> Result<String, Fail<Stop>>
-    requires { length numbers.now ≡ length (part_sizes target.now.row.now) }
+    requires { length numbers.now ≡ length (sizes_of_parts target.now.row.now) }
     ensures { Answers string_bytes result
-        (packed_from_parts (type_in target.now) numbers.now (first_out_of (part_sizes target.now.row.now) numbers.now 0)) }
+        (packed_from_parts (type_in target.now) numbers.now (first_out_of (sizes_of_parts target.now.row.now) numbers.now 0)) }
 {
-    let parts = row_parts(target.row);
-    if let Some(at) = first_out(parts, numbers) {
+    let sizes = part_sizes(alloc, target.row)?;
+    if let Some(at) = first_out(sizes.as_slice(), numbers) {
         let fail = PackFail {
             reason: PackReason::OutOfRange,
             path: part_path(target.row, target.id, at),
         };
-        return Err(Fail::Named(pack_fault(alloc, target.sheet, fail)?));
+        return Err(Fail::Named(pack_fault(alloc, target.rows.as_slice(), fail)?));
     }
-    packed_bits(alloc, target, parts, numbers)
+    packed_bits(alloc, target, sizes.as_slice(), numbers)
 }
 
 fn part_path(row: &Row, id: TypeId, at: u16) -> Path
@@ -178,7 +192,7 @@ fn part_path(row: &Row, id: TypeId, at: u16) -> Path
 
 #[tactic(auto, unfolding(crate::specs::Pack::packed_given))]
 fn packed_given(alloc: Global, target: &Target<'_>, given: &Given) -> Result<String, Fail<Stop>>
-    requires { given.now.id.0 ≡ target.now.id.0 → length given.now.numbers ≡ length (part_sizes target.now.row.now) }
+    requires { given.now.id.0 ≡ target.now.id.0 → length given.now.numbers ≡ length (sizes_of_parts target.now.row.now) }
     ensures { Answers string_bytes result (packed_from_given (type_in target.now) given.now) }
 {
     if given.id == target.id {
@@ -190,7 +204,7 @@ fn packed_given(alloc: Global, target: &Target<'_>, given: &Given) -> Result<Str
             reason: PackReason::NotDerived,
             path,
         };
-        Err(Fail::Named(pack_fault(alloc, target.sheet, fail)?))
+        Err(Fail::Named(pack_fault(alloc, target.rows.as_slice(), fail)?))
     }
 }
 
@@ -210,7 +224,11 @@ fn shape_for(alloc: Global, target: &Target<'_>, value: &Value) -> Result<Given,
     match given_of(alloc, target, value) {
         Ok(given) => Ok(given),
         Err(Fail::Memory) => Err(Fail::Memory),
-        Err(Fail::Named(path)) => Err(Fail::Named(wrong_shape(alloc, target.sheet, path)?)),
+        Err(Fail::Named(path)) => Err(Fail::Named(wrong_shape(
+            alloc,
+            target.rows.as_slice(),
+            path,
+        )?)),
     }
 }
 

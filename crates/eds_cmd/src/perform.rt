@@ -1,24 +1,28 @@
 //! A command over a shelf.
 
-ghost use Rattle.std.specs.Prelude.{◌≡◌, ◌≤◌, ℕ, List, Some, string_bytes, IfErr};
+ghost use Rattle.std.specs.Prelude.{◌≡◌, ◌≤◌, ◌<◌, ◌+◌, ◌^◌, ℕ, All, List, Some, IfErr, IfOk, IfSome, IsSomeAnd, is_some, length, option_map, string_bytes};
+ghost use Rattle.std.specs.List.{Contains};
 ghost use Rattle.eds_base.specs.Answering.{Answers};
 ghost use Rattle.eds_io.specs.Counts.{HasRisen};
 ghost use Rattle.eds_io.specs.Files.{Files};
-ghost use Rattle.eds_cmd.specs.Answer.{IsReached, performed, whole_file as whole, worked as worked_on};
-ghost use Rattle.eds_cmd.specs.Command.{ReadsFile, words_of};
+ghost use Rattle.eds_sheet.specs.Compiled.{compiled};
+ghost use Rattle.eds_cmd.specs.Answer.{IsReached, IsReachedSheet, accepted, done_by as done_with, input_for as input_of, or_refused, performed, sheet_file as sheet_of_name, sheet_files as sheets_of_names, whole_file as whole, within_report as within_limit, worked as worked_on};
+ghost use Rattle.eds_cmd.specs.Command.{ReadsFile, job_words, words_of};
 ghost use Rattle.eds_cmd.specs.Halts.{Comes, OnUnread};
 ghost use Rattle.eds_cmd.specs.Target.{type_in};
 
-use crate::command::{Command, Verb, input_most};
+use crate::command::{Command, Job, Verb, input_most};
 use crate::halt::Halt;
-use crate::limits::SHEET_OCTETS;
+use crate::limits::{REPORT_OCTETS, SHEET_OCTETS, SHEETS, SHEETS_OCTETS};
 use crate::pack::packed;
+use crate::report::counts_line;
 use crate::status::What;
-use crate::stop::{Stop, limited, missing};
-use crate::target::{Target, sheet_for, type_for};
+use crate::stop::{Stop, limited, missing, refused};
+use crate::target::{Target, target_of};
 use crate::unpack::unpacked;
-use eds_base::{Fail, Octets, Text};
+use eds_base::{Fail, Items, Octets, Text};
 use eds_io::{ReadEnd, Shelf, read_whole};
+use eds_sheet::{Sheet, compile};
 use std::alloc::Global;
 
 fn whole_file<S: Shelf>(
@@ -30,6 +34,7 @@ fn whole_file<S: Shelf>(
 ) -> Result<Octets, Halt>
     ensures told { (files : Files) → S.files shelf.old ≡ Some files
         → Comes (λ o. o) result (whole files name.now what most) }
+    ensures bound { IfOk result (λ o. length o ≤ most) }
     ensures files { S.files shelf.new ≡ S.files shelf.old }
     ensures calm { (other : List ℕ) → S.faults shelf.old other ≤ S.faults shelf.new other }
     ensures unread { IfErr result (λ halt. OnUnread halt
@@ -42,6 +47,94 @@ fn whole_file<S: Shelf>(
         Err(Fail::Named(ReadEnd::ReadFault)) => Err(Halt::Unread(Text::of(alloc, name)?)),
         Err(Fail::Named(ReadEnd::TooBig)) => Err(Halt::Stopped(limited(alloc, what, most)?)),
     }
+}
+
+// A sheet file behind files of so many octets.
+fn sheet_file<S: Shelf>(
+    alloc: Global,
+    shelf: &mut S,
+    name: &str,
+    before: u64,
+) -> Result<Octets, Halt>
+    requires { before ≤ SHEETS_OCTETS }
+    ensures told { (files : Files) → S.files shelf.old ≡ Some files
+        → Comes (λ o. o) result (sheet_of_name files before name.now) }
+    ensures bound { IfOk result (λ o. length o < 2 ^ 32) }
+    ensures all { IfOk result (λ o. before + length o ≤ SHEETS_OCTETS) }
+    ensures files { S.files shelf.new ≡ S.files shelf.old }
+    ensures calm { (other : List ℕ) → S.faults shelf.old other ≤ S.faults shelf.new other }
+    ensures unread { IfErr result (λ halt. OnUnread halt
+        (λ n. (n ≡ name.now) × HasRisen (S.faults shelf.old n) (S.faults shelf.new n))) }
+{
+    let octets = whole_file(alloc, shelf, name, What::File, SHEET_OCTETS)?;
+    if before + octets.len() as u64 <= SHEETS_OCTETS {
+        Ok(octets)
+    } else {
+        let stop = limited(alloc, What::Sheets, SHEETS_OCTETS)?;
+        Err(Halt::Stopped(stop))
+    }
+}
+
+// The sheet files of a command.
+fn sheet_files<S: Shelf>(
+    alloc: Global,
+    shelf: &mut S,
+    names: &[Text],
+) -> Result<Items<Octets>, Halt>
+    ensures told { (files : Files) → S.files shelf.old ≡ Some files
+        → Comes (λ sheets. sheets) result (sheets_of_names files 0 names.now) }
+    ensures short { IfOk result (λ sheets. All (λ sheet. length sheet < 2 ^ 32) sheets) }
+    ensures each { IfOk result (λ sheets. length sheets ≡ length names.now) }
+    ensures files { S.files shelf.new ≡ S.files shelf.old }
+    ensures calm { (other : List ℕ) → S.faults shelf.old other ≤ S.faults shelf.new other }
+    ensures cause { IfErr result (λ halt. OnUnread halt
+        (λ n. HasRisen (S.faults shelf.old n) (S.faults shelf.new n))) }
+    ensures file { IfErr result (λ halt. OnUnread halt (Contains names.now)) }
+    ensures reached { (files : Files) → S.files shelf.old ≡ Some files
+        → IfErr result (λ halt. OnUnread halt (IsReachedSheet files names.now)) }
+{
+    let mut sheets = Items::new(alloc);
+    let mut before = 0u64;
+    for name in names {
+        let octets = sheet_file(alloc, shelf, name.as_str(), before)?;
+        before += octets.len() as u64;
+        sheets.push(octets)?;
+    }
+    Ok(sheets)
+}
+
+// The sheet of files, with the type that a word names.
+fn sheet_by(alloc: Global, files: &Items<Octets>, word: Option<&str>) -> Result<Sheet, Fail<Stop>>
+    requires few { length files.now ≤ SHEETS }
+    requires short { All (λ file. length file < 2 ^ 32) files.now }
+    ensures answer { Answers (λ s. s) result (or_refused (compiled files.now (option_map (λ w. w.now) word.entry))) }
+    ensures word { IfOk result (λ s. IfSome s.types.word (λ id. id.0 < length s.types.rows)) }
+    ensures given { IfOk result (λ s. is_some s.types.word ≡ is_some word.entry) }
+{
+    match compile(alloc, files, word) {
+        Ok(sheet) => Ok(sheet),
+        Err(Fail::Memory) => Err(Fail::Memory),
+        Err(Fail::Named(refusal)) => Err(Fail::Named(refused(alloc, refusal)?)),
+    }
+}
+
+// The sheet of a command, with the type that its word names.
+fn sheet_for<S: Shelf>(alloc: Global, command: &Command<'_>, shelf: &mut S) -> Result<Sheet, Halt>
+    requires { length command.now.sheets.now ≤ SHEETS }
+    ensures told { (files : Files) → S.files shelf.old ≡ Some files
+        → Comes (λ s. s) result (accepted files (words_of command.now)) }
+    ensures word { IfOk result (λ s. IfSome s.types.word (λ id. id.0 < length s.types.rows)) }
+    ensures given { IfOk result (λ s. is_some s.types.word ≡ is_some command.now.job) }
+    ensures files { S.files shelf.new ≡ S.files shelf.old }
+    ensures calm { (other : List ℕ) → S.faults shelf.old other ≤ S.faults shelf.new other }
+    ensures cause { IfErr result (λ halt. OnUnread halt
+        (λ n. HasRisen (S.faults shelf.old n) (S.faults shelf.new n))) }
+    ensures file { IfErr result (λ halt. OnUnread halt (Contains command.now.sheets.now)) }
+    ensures reached { (files : Files) → S.files shelf.old ≡ Some files
+        → IfErr result (λ halt. OnUnread halt (IsReachedSheet files command.now.sheets.now)) }
+{
+    let files = sheet_files(alloc, shelf, command.sheets)?;
+    Ok(sheet_by(alloc, &files, command.word())?)
 }
 
 fn worked(
@@ -58,12 +151,74 @@ fn worked(
     }
 }
 
+fn input_for<S: Shelf>(alloc: Global, job: &Job<'_>, shelf: &mut S) -> Result<Octets, Halt>
+    ensures told { (files : Files) → S.files shelf.old ≡ Some files
+        → Comes (λ o. o) result (input_of files (job_words job.now)) }
+    ensures calm { (other : List ℕ) → S.faults shelf.old other ≤ S.faults shelf.new other }
+    ensures unread { IfErr result (λ halt. OnUnread halt
+        (λ n. (n ≡ job.now.input.now) × HasRisen (S.faults shelf.old n) (S.faults shelf.new n))) }
+{
+    whole_file(alloc, shelf, job.input, What::Input, input_most(job.verb))
+}
+
+// What is done with an input file by the type of a sheet.
+fn job_done<S: Shelf>(
+    alloc: Global,
+    job: &Job<'_>,
+    sheet: &Sheet,
+    shelf: &mut S,
+) -> Result<String, Halt>
+    requires { IsSomeAnd sheet.now.types.word (λ id. id.0 < length sheet.now.types.rows) }
+    ensures told { (files : Files) → S.files shelf.old ≡ Some files
+        → Comes string_bytes result (done_with (Some (job_words job.now)) files sheet.now) }
+    ensures calm { (other : List ℕ) → S.faults shelf.old other ≤ S.faults shelf.new other }
+    ensures unread { IfErr result (λ halt. OnUnread halt
+        (λ n. (n ≡ job.now.input.now) × HasRisen (S.faults shelf.old n) (S.faults shelf.new n))) }
+{
+    let target = target_of(&sheet.types);
+    let input = input_for(alloc, job, shelf)?;
+    Ok(worked(alloc, job.verb, &target, input.as_slice())?)
+}
+
+// What is done by an accepted sheet.
+fn done_by<S: Shelf>(
+    alloc: Global,
+    job: Option<Job<'_>>,
+    sheet: &Sheet,
+    shelf: &mut S,
+) -> Result<String, Halt>
+    requires word { IfSome sheet.now.types.word (λ id. id.0 < length sheet.now.types.rows) }
+    requires given { is_some sheet.now.types.word ≡ is_some job }
+    ensures told { (files : Files) → S.files shelf.old ≡ Some files
+        → Comes string_bytes result (done_with (option_map job_words job.entry) files sheet.now) }
+    ensures calm { (other : List ℕ) → S.faults shelf.old other ≤ S.faults shelf.new other }
+    ensures cause { IfErr result (λ halt. OnUnread halt
+        (λ n. HasRisen (S.faults shelf.old n) (S.faults shelf.new n))) }
+    ensures file { IfErr result (λ halt. OnUnread halt (λ n. IsSomeAnd job.entry (λ j. n ≡ j.input.now))) }
+{
+    match job {
+        Some(job) => job_done(alloc, &job, sheet, shelf),
+        None => Ok(counts_line(alloc, sheet.counts)?),
+    }
+}
+
+fn within_report(alloc: Global, report: String) -> Result<String, Fail<Stop>>
+    ensures { Answers string_bytes result (within_limit (string_bytes report)) }
+{
+    if report.len() as u64 <= REPORT_OCTETS {
+        Ok(report)
+    } else {
+        Err(Fail::Named(limited(alloc, What::Report, REPORT_OCTETS)?))
+    }
+}
+
 /// Does what a command says, and gives its report.
 pub fn perform<S: Shelf>(
     alloc: Global,
     command: &Command<'_>,
     shelf: &mut S,
 ) -> Result<String, Halt>
+    requires { length command.now.sheets.now ≤ SHEETS }
     ensures told { (files : Files) → S.files shelf.old ≡ Some files
         → Comes string_bytes result (performed files (words_of command.now)) }
     ensures calm { (other : List ℕ) → S.faults shelf.old other ≤ S.faults shelf.new other }
@@ -73,10 +228,7 @@ pub fn perform<S: Shelf>(
     ensures reached { (files : Files) → S.files shelf.old ≡ Some files
         → IfErr result (λ halt. OnUnread halt (IsReached files (words_of command.now))) }
 {
-    let octets = whole_file(alloc, shelf, command.sheet, What::File, SHEET_OCTETS)?;
-    let sheet = sheet_for(alloc, octets.as_slice())?;
-    let target = type_for(alloc, &sheet, command.word)?;
-    let most = input_most(command.verb);
-    let input = whole_file(alloc, shelf, command.input, What::Input, most)?;
-    Ok(worked(alloc, command.verb, &target, input.as_slice())?)
+    let sheet = sheet_for(alloc, command, shelf)?;
+    let report = done_by(alloc, command.job, &sheet, shelf)?;
+    Ok(within_report(alloc, report)?)
 }

@@ -1,12 +1,12 @@
 //! The lines that are reported.
 
 ghost use Rattle.std.specs.Prelude.{◌≡◌, ◌≤◌, IfOk, string_bytes, slice_get, length};
-ghost use Rattle.eds_cmd.specs.Reports.{common_text as text_of_common, entries_or_none, entry_name_or_none, row_entries as entries_of_row, fault_line as line_of_fault, kept_text as text_of_kept, limit_line as line_of_limit, name_or_none, no_file_line as line_of_no_file, part_name as name_of_part, path_text as text_of_path, place_text as text_of_place, qualified as joined, read_fault_line as line_of_read_fault, refusal_line as line_of_refusal, rule_text as text_of_rule, step_text as text_of_step, what_text as text_of_what};
+ghost use Rattle.eds_cmd.specs.Reports.{common_text as text_of_common, count_text as text_of_count, counts_line as line_of_counts, entries_or_none, entry_name_or_none, row_entries as entries_of_row, fault_line as line_of_fault, kept_text as text_of_kept, limit_line as line_of_limit, name_or_none, no_file_line as line_of_no_file, part_name as name_of_part, path_text as text_of_path, place_text as text_of_place, row_name as name_of_row, read_fault_line as line_of_read_fault, refusal_line as line_of_refusal, rule_text as text_of_rule, step_text as text_of_step, what_text as text_of_what};
 
-use crate::names::row_name;
-use crate::sheet::{Row, Sheet, Unsigned};
 use crate::status::What;
 use eds_base::{CommonNumber, Kept, Path, Place, Refusal, Rule, Step, TypeId};
+use eds_read_types::{Row, Unsigned};
+use eds_sheet::Counts;
 use std::alloc::{AllocError, Global};
 
 // ` PATH=NUMBER` for each.
@@ -96,9 +96,12 @@ fn what_text(what: What) -> &'static str
     ensures { result.now ≡ text_of_what what }
 {
     match what {
+        What::Files => "files",
         What::File => "file",
+        What::Sheets => "sheets",
         What::Input => "input",
         What::Frame => "frame",
+        What::Report => "report",
     }
 }
 
@@ -110,11 +113,38 @@ pub fn limit_line(alloc: Global, what: What, most: u64) -> Result<String, AllocE
     Ok(format!(in alloc; "limit {word} {most}\n")?)
 }
 
-/// The name of a package's type with the package's name.
-pub fn qualified(alloc: Global, package_name: &str, name: &str) -> Result<String, AllocError>
-    ensures { IfOk result (λ s. string_bytes s ≡ joined package_name.now name.now) }
+#[tactic(auto, unfolding(crate::specs::Reports::count_text))]
+fn count_text(alloc: Global, name: &str, count: u32) -> Result<String, AllocError>
+    ensures { IfOk result (λ s. string_bytes s ≡ text_of_count name.now count) }
 {
-    Ok(format!(in alloc; "{package_name}/{name}")?)
+    Ok(format!(in alloc; " {name} {count}")?)
+}
+
+/// The line of the counts of an accepted sheet.
+pub fn counts_line(alloc: Global, counts: Counts) -> Result<String, AllocError>
+    ensures { IfOk result (λ s. string_bytes s ≡ line_of_counts counts) }
+{
+    let types = count_text(alloc, "types", counts.types)?;
+    let containers = count_text(alloc, "containers", counts.containers)?;
+    let interfaces = count_text(alloc, "interfaces", counts.interfaces)?;
+    let components = count_text(alloc, "components", counts.components)?;
+    let mut line = String::from_str(alloc, "accepted")?;
+    line.push_str(types.as_str())?;
+    line.push_str(containers.as_str())?;
+    line.push_str(interfaces.as_str())?;
+    line.push_str(components.as_str())?;
+    line.push_str("\n")?;
+    Ok(line)
+}
+
+/// The qualified name of a type.
+pub fn row_name(row: &Row) -> &str
+    ensures { result.now ≡ name_of_row row.now }
+{
+    match row {
+        Row::Int(name, _) => name.as_str(),
+        Row::Con(name, _) => name.as_str(),
+    }
 }
 
 /// The entries of a type, none where it is no container.
@@ -123,7 +153,7 @@ pub fn row_entries(row: &Row) -> &[Unsigned]
     ensures most { length result.now ≤ 32767 }
 {
     match row {
-        Row::Int(_) => &[],
+        Row::Int(_, _) => &[],
         Row::Con(_, entries) => entries.as_slice(),
     }
 }
@@ -149,32 +179,30 @@ fn type_name(rows: &[Row], id: TypeId) -> &str
     }
 }
 
-fn step_text(alloc: Global, sheet: &Sheet, step: Step) -> Result<String, AllocError>
-    ensures { IfOk result (λ s. string_bytes s ≡ text_of_step sheet.now step) }
+fn step_text(alloc: Global, rows: &[Row], step: Step) -> Result<String, AllocError>
+    ensures { IfOk result (λ s. string_bytes s ≡ text_of_step rows.now step) }
 {
     match step {
         Step::Part(id, at) => {
-            let name = part_name(sheet.rows.as_slice(), id, at);
+            let name = part_name(rows, id, at);
             Ok(format!(in alloc; ".{name}")?)
         }
         Step::Item(i) => Ok(format!(in alloc; "[{i}]")?),
         Step::Choice(id) => {
-            let name = type_name(sheet.rows.as_slice(), id);
-            let whole = qualified(alloc, sheet.name.as_str(), name)?;
-            let whole = whole.as_str();
-            Ok(format!(in alloc; "<{whole}>")?)
+            let name = type_name(rows, id);
+            Ok(format!(in alloc; "<{name}>")?)
         }
     }
 }
 
 /// The text of a path.
-pub fn path_text(alloc: Global, sheet: &Sheet, path: &Path) -> Result<String, AllocError>
-    ensures { IfOk result (λ s. string_bytes s ≡ text_of_path sheet.now path.now) }
+pub fn path_text(alloc: Global, rows: &[Row], path: &Path) -> Result<String, AllocError>
+    ensures { IfOk result (λ s. string_bytes s ≡ text_of_path rows.now path.now) }
 {
     let mut text = String::from_str(alloc, "$")?;
     for i in 0..path.len() {
         if let Some(step) = path.get(i) {
-            let part = step_text(alloc, sheet, step)?;
+            let part = step_text(alloc, rows, step)?;
             text.push_str(part.as_str())?;
         }
     }

@@ -5,15 +5,14 @@ ghost use Rattle.serde_json.specs.Find.{get as get_at};
 ghost use Rattle.serde_json.specs.View.{view};
 ghost use Rattle.eds_base.specs.Answering.{Answers};
 ghost use Rattle.eds_cmd.specs.Reports.{row_entries as entries_of_row};
-ghost use Rattle.eds_cmd.specs.Shape.{GivesMembers, container_by as container_from, container_for as container_in, container_named as container_of_name, field_path as path_of_field, fields_given as fields_in, has_each as has_each_of, has_fields as has_fields_of, is_container as is_con, member_of, members_of, number_given as number_in, or_field, shape_of, whole_of as whole_in};
+ghost use Rattle.eds_cmd.specs.Shape.{GivesMembers, container_by as container_from, container_for as container_in, container_named as container_of_name, field_path as path_of_field, fields_given as fields_in, has_each as has_each_of, has_fields as has_fields_of, has_so_many, is_container as is_con, member_of, members_of, number_given as number_in, or_field, shape_of, whole_of as whole_in};
 ghost use Rattle.eds_cmd.specs.Target.{type_in};
 
-use crate::flat::has_members;
 use crate::report::row_entries;
-use crate::sheet::{Row, Unsigned};
-use crate::target::{Target, find_type};
+use crate::target::{Target, type_named};
 use crate::value::PartAt;
-use eds_base::{Fail, Items, Memory, Path, Step, TypeId};
+use eds_base::{Fail, Items, Path, Step, TypeId};
+use eds_read_types::{Row, Unsigned};
 use serde_json::Value;
 use std::alloc::Global;
 
@@ -71,6 +70,16 @@ fn whole_members(
     Ok(numbers)
 }
 
+// Whether an object has so many members.
+fn has_members(value: &Value, count: usize) -> bool
+    ensures { result ≡ has_so_many count (view value.now) }
+{
+    match value.as_object() {
+        Some(members) => members.len() == count,
+        None => false,
+    }
+}
+
 fn has_each(value: &Value, entries: &[Unsigned]) -> bool
     ensures { result ≡ has_each_of (view value.now) entries.now }
 {
@@ -95,64 +104,43 @@ fn is_container(row: &Row) -> bool
     ensures { result ≡ is_con row.now }
 {
     match row {
-        Row::Int(_) => false,
+        Row::Int(_, _) => false,
         Row::Con(_, _) => true,
     }
 }
 
 // The container of a name, which is the type itself where it has its position.
-fn container_named<'a>(
-    alloc: Global,
-    target: &Target<'a>,
-    word: &'a str,
-) -> Result<Option<Target<'a>>, Memory>
-    ensures { IfOk result (λ o. option_map type_in o ≡ container_of_name (type_in target.now) word.now) }
+fn container_named<'a>(target: &Target<'a>, name: &str) -> Option<Target<'a>>
+    ensures { option_map type_in result ≡ container_of_name (type_in target.now) name.now }
 {
-    match find_type(alloc, target.sheet, word)? {
-        None => Ok(None),
-        Some(other) => {
-            if !is_container(other.row) {
-                Ok(None)
-            } else if other.id == target.id {
-                Ok(Some(*target))
-            } else {
-                Ok(Some(other))
-            }
-        }
+    let other = type_named(target.rows, name)?;
+    if !is_container(other.row) {
+        None
+    } else if other.id == target.id {
+        Some(*target)
+    } else {
+        Some(other)
     }
 }
 
-fn container_by<'a>(
-    alloc: Global,
-    target: &Target<'a>,
-    value: &'a Value,
-) -> Result<Option<Target<'a>>, Memory>
-    ensures { IfOk result (λ o. option_map type_in o ≡ container_from (type_in target.now) (get_at (codes "$type") (view value.now))) }
+fn container_by<'a>(target: &Target<'a>, value: &Value) -> Option<Target<'a>>
+    ensures { option_map type_in result ≡ container_from (type_in target.now) (get_at (codes "$type") (view value.now)) }
 {
-    let Some(named) = value.get("$type") else {
-        return Ok(Some(*target));
-    };
-    match named.as_str() {
-        Some(word) => container_named(alloc, target, word),
-        None => Ok(None),
+    match value.get("$type") {
+        Some(named) => container_named(target, named.as_str()?),
+        None => Some(*target),
     }
 }
 
 #[tactic(auto, unfolding(crate::specs::Shape::container_for))]
-fn container_for<'a>(
-    alloc: Global,
-    target: &Target<'a>,
-    value: &'a Value,
-) -> Result<Option<Target<'a>>, Memory>
-    ensures { IfOk result (λ o. option_map type_in o ≡ container_in (type_in target.now) (view value.now)) }
+fn container_for<'a>(target: &Target<'a>, value: &Value) -> Option<Target<'a>>
+    ensures { option_map type_in result ≡ container_in (type_in target.now) (view value.now) }
 {
-    let Some(container) = container_by(alloc, target, value)? else {
-        return Ok(None);
-    };
+    let container = container_by(target, value)?;
     if has_fields(value, row_entries(container.row)) {
-        Ok(Some(container))
+        Some(container)
     } else {
-        Ok(None)
+        None
     }
 }
 
@@ -186,7 +174,7 @@ fn fields_for(
 fn fields_given(alloc: Global, target: &Target<'_>, value: &Value) -> Result<Given, Fail<Path>>
     ensures { Answers (λ g. g) result (fields_in (type_in target.now) (view value.now)) }
 {
-    let Some(container) = container_for(alloc, target, value)? else {
+    let Some(container) = container_for(target, value) else {
         return Err(Fail::Named(Path::root()));
     };
     let numbers = fields_for(alloc, target, &container, value)?;
@@ -212,7 +200,7 @@ pub fn given_of(alloc: Global, target: &Target<'_>, value: &Value) -> Result<Giv
     ensures { Answers (λ g. g) result (shape_of (type_in target.now) (view value.now)) }
 {
     match target.row {
-        Row::Int(_) => number_given(alloc, target.id, value),
+        Row::Int(_, _) => number_given(alloc, target.id, value),
         Row::Con(_, _) => fields_given(alloc, target, value),
     }
 }

@@ -4,9 +4,9 @@ ghost use Rattle.std.specs.Prelude.{◌≡◌, IfOk, string_bytes};
 ghost use Rattle.serde_json.specs.View.{view};
 ghost use Rattle.eds_cmd.specs.Shown.{bits_report as report_of_bits, fields_data as data_of_fields, value_data as data_of_value, value_text as text_of_value};
 
-use crate::report::row_entries;
-use crate::sheet::{Row, Unsigned};
+use crate::report::{row_entries, row_name};
 use crate::value::FlatValue;
+use eds_read_types::{Row, Unsigned};
 use serde_json::{Map, Value};
 use std::alloc::{AllocError, Global};
 
@@ -30,32 +30,22 @@ fn fields_data(
     Ok(Value::Object(members))
 }
 
-fn value_data(
-    alloc: Global,
-    type_name: &str,
-    row: &Row,
-    value: &FlatValue,
-) -> Result<Value, AllocError>
-    ensures { IfOk result (λ v. view v ≡ data_of_value type_name.now row.now value.now) }
+fn value_data(alloc: Global, row: &Row, value: &FlatValue) -> Result<Value, AllocError>
+    ensures { IfOk result (λ v. view v ≡ data_of_value row.now value.now) }
 {
     match value {
         FlatValue::Number(number) => Ok(Value::from(*number)),
         FlatValue::Fields(numbers) => {
-            fields_data(alloc, type_name, row_entries(row), numbers.as_slice())
+            fields_data(alloc, row_name(row), row_entries(row), numbers.as_slice())
         }
     }
 }
 
-/// The JSON text of a value of the type of that name.
-pub fn value_text(
-    alloc: Global,
-    type_name: &str,
-    row: &Row,
-    value: &FlatValue,
-) -> Result<String, AllocError>
-    ensures { IfOk result (λ s. string_bytes s ≡ text_of_value type_name.now row.now value.now) }
+/// The JSON text of a value of a type.
+pub fn value_text(alloc: Global, row: &Row, value: &FlatValue) -> Result<String, AllocError>
+    ensures { IfOk result (λ s. string_bytes s ≡ text_of_value row.now value.now) }
 {
-    let data = value_data(alloc, type_name, row, value)?;
+    let data = value_data(alloc, row, value)?;
     data.to_string(alloc)
 }
 

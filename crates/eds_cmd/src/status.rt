@@ -6,12 +6,18 @@ use eds_base::{Fault, Refusal, Text};
 /// What has passed its limit.
 #[derive(Clone, Copy, Debug, PartialEq, Eq)]
 pub enum What {
+    /// The sheet files.
+    Files,
     /// The octets of one sheet file.
     File,
+    /// The octets of all sheet files.
+    Sheets,
     /// The octets of the input file.
     Input,
     /// The octets of a frame.
     Frame,
+    /// The octets of a report.
+    Report,
 }
 
 /// What is wrong with the input file.

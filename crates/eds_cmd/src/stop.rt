@@ -5,9 +5,9 @@ ghost use Rattle.eds_cmd.specs.Stops as stops;
 
 use crate::pack_fail::{PackFail, ValueFail};
 use crate::report::{fault_line, limit_line, no_file_line, path_text, refusal_line};
-use crate::sheet::Sheet;
 use crate::status::{DataFault, Status, What};
-use eds_base::{Fault, Kept, Memory, Path, Place, Reason, Refusal, Rule, Text};
+use eds_base::{Fault, Memory, Path, Reason, Refusal, Text};
+use eds_read_types::Row;
 use std::alloc::Global;
 
 /// What ends a command before it is done.
@@ -66,7 +66,8 @@ pub fn limited(alloc: Global, what: What, most: u64) -> Result<Stop, Memory>
     })
 }
 
-fn refused(alloc: Global, refusal: Refusal) -> Result<Stop, Memory>
+/// A rule is broken.
+pub fn refused(alloc: Global, refusal: Refusal) -> Result<Stop, Memory>
     ensures { IfOk result (λ s. s ≡ stops.refused refusal) }
 {
     let report = refusal_line(alloc, &refusal)?;
@@ -74,30 +75,6 @@ fn refused(alloc: Global, refusal: Refusal) -> Result<Stop, Memory>
         cause: Cause::Sheet(refusal),
         report: Text::from_string(report),
     })
-}
-
-/// A sheet file is not of the flat form.
-pub fn not_flat(alloc: Global) -> Result<Stop, Memory>
-    ensures { IfOk result (λ s. s ≡ stops.not_flat) }
-{
-    let refusal = Refusal {
-        rule: Rule::Unsupported,
-        place: Place { file: 0, node: 0 },
-        kept: Kept::Word(Text::of(alloc, "flat")?),
-    };
-    refused(alloc, refusal)
-}
-
-/// The word of a type names none of the only sheet file.
-pub fn unresolved(alloc: Global, word: &str) -> Result<Stop, Memory>
-    ensures { IfOk result (λ s. s ≡ stops.unresolved word.now) }
-{
-    let refusal = Refusal {
-        rule: Rule::Unresolved,
-        place: Place { file: 1, node: 0 },
-        kept: Kept::Word(Text::of(alloc, word)?),
-    };
-    refused(alloc, refusal)
 }
 
 /// The text of a frame is no hex.
@@ -112,10 +89,10 @@ pub fn bad_hex(alloc: Global) -> Result<Stop, Memory>
 }
 
 /// A frame spells no value.
-pub fn frame_fault(alloc: Global, sheet: &Sheet, reason: Reason, path: Path) -> Result<Stop, Memory>
-    ensures { IfOk result (λ s. s ≡ stops.frame_fault sheet.now reason path) }
+pub fn frame_fault(alloc: Global, rows: &[Row], reason: Reason, path: Path) -> Result<Stop, Memory>
+    ensures { IfOk result (λ s. s ≡ stops.frame_fault rows.now reason path) }
 {
-    let place = path_text(alloc, sheet, &path)?;
+    let place = path_text(alloc, rows, &path)?;
     let report = fault_line(alloc, reason.name(), place.as_str())?;
     Ok(Stop {
         cause: Cause::Data(DataFault::Frame(Fault { reason, path })),
@@ -135,10 +112,10 @@ pub fn not_json(alloc: Global) -> Result<Stop, Memory>
 }
 
 /// A value of the JSON has another shape than its type wants.
-pub fn wrong_shape(alloc: Global, sheet: &Sheet, path: Path) -> Result<Stop, Memory>
-    ensures { IfOk result (λ s. s ≡ stops.wrong_shape sheet.now path) }
+pub fn wrong_shape(alloc: Global, rows: &[Row], path: Path) -> Result<Stop, Memory>
+    ensures { IfOk result (λ s. s ≡ stops.wrong_shape rows.now path) }
 {
-    let place = path_text(alloc, sheet, &path)?;
+    let place = path_text(alloc, rows, &path)?;
     let report = fault_line(alloc, "WrongShape", place.as_str())?;
     Ok(Stop {
         cause: Cause::Data(DataFault::Json(ValueFail::WrongShape(path))),
@@ -147,10 +124,10 @@ pub fn wrong_shape(alloc: Global, sheet: &Sheet, path: Path) -> Result<Stop, Mem
 }
 
 /// A value can't be packed.
-pub fn pack_fault(alloc: Global, sheet: &Sheet, fail: PackFail) -> Result<Stop, Memory>
-    ensures { IfOk result (λ s. s ≡ stops.pack_fault sheet.now fail.reason fail.path) }
+pub fn pack_fault(alloc: Global, rows: &[Row], fail: PackFail) -> Result<Stop, Memory>
+    ensures { IfOk result (λ s. s ≡ stops.pack_fault rows.now fail.reason fail.path) }
 {
-    let place = path_text(alloc, sheet, &fail.path)?;
+    let place = path_text(alloc, rows, &fail.path)?;
     let report = fault_line(alloc, fail.reason.name(), place.as_str())?;
     Ok(Stop {
         cause: Cause::Data(DataFault::Pack(fail)),

@@ -23,6 +23,61 @@ const MORE: &str = "[\"PackageFile\",[\"Package\",{\"name\":\"Flat\"},[\"DataTyp
 
 const WORD: &str = "{\"$type\":\"Flat/Word\",\"a\":1,\"b\":564}\nbits 16\n";
 
+// A package of one type, and another of a container of that type.
+const TYPES: &str = "[\"PackageFile\",[\"Package\",{\"name\":\"A\"},[\"DataTypeSet\",\
+[\"IntegerDataType\",{\"name\":\"U8\"},[\"IntegerDataEncoding\",{\"sizeInBits\":\"8\",\"encoding\":\"unsigned\"}]]]]]";
+
+const USES: &str = "[\"PackageFile\",[\"Package\",{\"name\":\"A/B\"},[\"DataTypeSet\",\
+[\"ContainerDataType\",{\"name\":\"C\"},[\"EntryList\",[\"Entry\",{\"name\":\"x\",\"type\":\"U8\"}]]]]]]";
+
+// A type that no sheet may have.
+const FLOAT: &str =
+    "[\"PackageFile\",[\"Package\",{\"name\":\"F\"},[\"DataTypeSet\",[\"FloatDataType\",{\"name\":\"X\"}]]]]";
+
+// Containers that derive from others, with an enumeration, a truth value and a length.
+const DEMO: &str =
+    "[\"PackageFile\",[\"Package\",{\"name\":\"Demo\"},[\"DataTypeSet\",[\"IntegerDataType\",{\"name\":\"U3\"},[\"IntegerDataEncoding\",{\"sizeInBits\":\"3\",\"encoding\":\"unsigned\"}]],\
+[\"BooleanDataType\",{\"name\":\"Bit\"},[\"BooleanDataEncoding\",{\"sizeInBits\":\"1\"}]],[\"IntegerDataType\",{\"name\":\"U11\"},[\"IntegerDataEncoding\",{\"sizeInBits\":\"11\",\"encoding\":\"unsigned\"}]],[\"IntegerDataType\",{\"name\":\"U14\"},[\"IntegerDataEncoding\",{\"sizeInBits\":\"14\",\"encoding\":\"unsigned\"}]],[\"IntegerDataType\",{\"name\":\"U16\"},[\"IntegerDataEncoding\",{\"sizeInBits\":\"16\",\"encoding\":\"unsigned\"}]],\
+[\"EnumeratedDataType\",{\"name\":\"Flags\"},[\"IntegerDataEncoding\",{\"sizeInBits\":\"2\",\"encoding\":\"unsigned\"}],\
+[\"EnumerationList\",[\"Enumeration\",{\"label\":\"CONT\",\"value\":\"0\"}],[\"Enumeration\",{\"label\":\"FIRST\",\"value\":\"1\"}],\
+[\"Enumeration\",{\"label\":\"LAST\",\"value\":\"2\"}],[\"Enumeration\",{\"label\":\"UNSEG\",\"value\":\"3\"}]]],\
+[\"ContainerDataType\",{\"name\":\"Packet\",\"abstract\":\"true\"},[\"EntryList\",[\"Entry\",{\"name\":\"Version\",\"type\":\"U3\"}],\
+[\"Entry\",{\"name\":\"Type\",\"type\":\"Bit\"}],[\"Entry\",{\"name\":\"SecHdr\",\"type\":\"Bit\"}],[\"Entry\",{\"name\":\"Apid\",\"type\":\"U11\"}],\
+[\"Entry\",{\"name\":\"SeqFlags\",\"type\":\"Flags\"}],[\"Entry\",{\"name\":\"SeqCount\",\"type\":\"U14\"}],\
+[\"LengthEntry\",{\"name\":\"Length\",\"type\":\"U16\"},[\"PolynomialCalibrator\",[\"Term\",{\"coefficient\":\"7\",\"exponent\":\"0\"}],\
+[\"Term\",{\"coefficient\":\"1\",\"exponent\":\"1\"}]]]]],\
+[\"ContainerDataType\",{\"name\":\"Hk\",\"baseType\":\"Packet\"},[\"ConstraintSet\",[\"ValueConstraint\",{\"entry\":\"Apid\",\"value\":\"291\"}]],\
+[\"EntryList\",[\"Entry\",{\"name\":\"Temp\",\"type\":\"U16\"}]]]]]]";
+
+// A container with a list.
+const LI: &str =
+    "[\"PackageFile\",[\"Package\",{\"name\":\"Li\"},[\"DataTypeSet\",[\"IntegerDataType\",{\"name\":\"U4\"},[\"IntegerDataEncoding\",{\"sizeInBits\":\"4\",\"encoding\":\"unsigned\"}]],[\"IntegerDataType\",{\"name\":\"U8\"},[\"IntegerDataEncoding\",{\"sizeInBits\":\"8\",\"encoding\":\"unsigned\"}]],[\"ContainerDataType\",{\"name\":\"L\"},[\"EntryList\",\
+[\"Entry\",{\"name\":\"Count\",\"type\":\"U8\"}],[\"ListEntry\",{\"name\":\"Items\",\"type\":\"U4\",\"listLengthField\":\"Count\"}]]]]]]";
+
+// A component with a machine.
+const DEV: &str =
+    "[\"PackageFile\",[\"Package\",{\"name\":\"Dev\"},[\"DataTypeSet\",[\"IntegerDataType\",{\"name\":\"U8\"},[\"IntegerDataEncoding\",{\"sizeInBits\":\"8\",\"encoding\":\"unsigned\"}]],[\"ContainerDataType\",{\"name\":\"Beat\"},[\"EntryList\",\
+[\"FixedValueEntry\",{\"type\":\"U8\",\"fixedValue\":\"165\"}],[\"Entry\",{\"name\":\"N\",\"type\":\"U8\"}]]]],\
+[\"DeclaredInterfaceSet\",[\"Interface\",{\"name\":\"Sub\",\"level\":\"subnetwork\"},[\"GenericTypeSet\",[\"GenericType\",{\"name\":\"Unit\"}]],\
+[\"CommandSet\",[\"Command\",{\"name\":\"send\"},[\"Argument\",{\"name\":\"unit\",\"type\":\"Unit\"}]],\
+[\"Command\",{\"name\":\"recv\"},[\"Argument\",{\"name\":\"unit\",\"type\":\"Unit\",\"mode\":\"notify\"}]]]],\
+[\"Interface\",{\"name\":\"Ctl\"},[\"ParameterSet\",[\"Parameter\",{\"name\":\"Count\",\"type\":\"U8\",\"readOnly\":\"true\"}]],\
+[\"CommandSet\",[\"Command\",{\"name\":\"On\"}]]]],\
+[\"ComponentSet\",[\"Component\",{\"name\":\"Heater\"},\
+[\"ProvidedInterfaceSet\",[\"Interface\",{\"name\":\"ctl\",\"type\":\"Ctl\"}]],\
+[\"RequiredInterfaceSet\",[\"Interface\",{\"name\":\"bus\",\"type\":\"Sub\"},[\"GenericTypeMapSet\",[\"GenericTypeMap\",{\"name\":\"Unit\",\"type\":\"Beat\"}]]]],\
+[\"Implementation\",[\"VariableSet\",[\"Variable\",{\"name\":\"n\",\"type\":\"U8\"}],[\"Variable\",{\"name\":\"b\",\"type\":\"Beat\"}]],\
+[\"ParameterMapSet\",[\"ParameterMap\",{\"interface\":\"ctl\",\"parameter\":\"Count\",\"variableRef\":\"n\"}]],\
+[\"ActivitySet\",[\"Activity\",{\"name\":\"beat\"},[\"Body\",\
+[\"MathOperation\",{\"outputVariableRef\":\"n\"},[\"VariableRef\",{\"variableRef\":\"n\"}],[\"Value\",{\"value\":\"1\"}],[\"Operator\",{\"operator\":\"add\"}]],\
+[\"Assignment\",{\"outputVariableRef\":\"b.N\"},[\"VariableRef\",{\"variableRef\":\"n\"}]],\
+[\"SendCommandPrimitive\",{\"interface\":\"bus\",\"command\":\"send\"},[\"ArgumentValue\",{\"name\":\"unit\"},[\"VariableRef\",{\"variableRef\":\"b\"}]]]]]],\
+[\"StateMachineSet\",[\"StateMachine\",{\"name\":\"m\"},[\"EntryState\",{\"name\":\"Off\"}],[\"State\",{\"name\":\"Run\"}],\
+[\"Transition\",{\"fromState\":\"Off\",\"toState\":\"Run\"},[\"OnCommandPrimitive\",{\"interface\":\"ctl\",\"command\":\"On\"}]],\
+[\"Transition\",{\"fromState\":\"Run\",\"toState\":\"Run\"},[\"OnTimer\",{\"nanosecondsAfterEntry\":\"1000\"}],[\"Do\",{\"activity\":\"beat\"}]]]]]]]]]";
+
+const USAGE: &str = "usage: eds COMMAND ARGUMENTS\n";
+
 // How the shelf and the sink behave: the most octets of a read and of a write, and the number of the
 // read and of the write that fails, 0 for none.
 #[derive(Clone, Copy)]
@@ -66,16 +121,36 @@ fn file(alloc: Global, name: &str, octets: &[u8]) -> Result<NamedFile, Memory> {
     })
 }
 
-// A sheet file and an input file, each only where it has octets.
-fn two_files(alloc: Global, sheet: &[u8], input: &[u8]) -> Result<NamedFiles, Memory>
+// The octets of a sheet file, of another one, and of an input file, each of which is there only where
+// it has octets.
+#[derive(Clone, Copy)]
+struct Held<'a> {
+    sheet: &'a [u8],
+    other: &'a [u8],
+    input: &'a [u8],
+}
+
+fn of_texts<'a>(sheet: &'a str, other: &'a str, input: &'a str) -> Held<'a> {
+    Held {
+        sheet: sheet.as_bytes(),
+        other: other.as_bytes(),
+        input: input.as_bytes(),
+    }
+}
+
+fn files_of(alloc: Global, held: Held<'_>) -> Result<NamedFiles, Memory>
     ensures { IfOk result HaveOwnNames }
 {
     let mut files = Items::new(alloc);
-    if !sheet.is_empty() {
-        files.push(file(alloc, "sheet", sheet)?)?;
-    }
-    if !input.is_empty() {
-        files.push(file(alloc, "input", input)?)?;
+    for (name, octets) in [
+        ("sheet", held.sheet),
+        ("other", held.other),
+        ("input", held.input),
+    ] {
+        if !octets.is_empty() {
+            let one = file(alloc, name, octets)?;
+            files.push(one)?;
+        }
     }
     if have_own_names(files.as_slice()) {
         Ok(files)
@@ -95,10 +170,9 @@ fn run(
     alloc: Global,
     outside: Outside,
     words: &str,
-    sheet: &[u8],
-    input: &[u8],
+    held: Held<'_>,
 ) -> Result<(u8, Vec<u8>), Memory> {
-    let files = two_files(alloc, sheet, input)?;
+    let files = files_of(alloc, held)?;
     let fails = one_number(alloc, outside.read_fails)?;
     let mut shelf = MemShelf::new(alloc, files, outside.read_most, fails)?;
     let fails = one_number(alloc, outside.write_fails)?;
@@ -112,132 +186,243 @@ fn run(
 fn commands_are_answered(rt: HostRuntime) -> Result<(), Fail> {
     let alloc = rt.alloc();
     let table = [
-        ("unpack Flat/Word input sheet", FLAT, "1234", 0, WORD),
+        ("unpack Flat/Word input sheet", "1234", 0, WORD),
+        ("unpack Flat/Word input sheet", " 1\t2\r\n34 ", 0, WORD),
+        ("unpack Flat/U12 input sheet", "fFfA", 0, "4095\nbits 12\n"),
+        ("unpack Flat/U12 input sheet", "fF", 3, "fault Short at $\n"),
         (
             "unpack Flat/Word input sheet",
-            FLAT,
-            " 1\t2\r\n34 ",
-            0,
-            WORD,
-        ),
-        (
-            "unpack Flat/U12 input sheet",
-            FLAT,
-            "fFfA",
-            0,
-            "4095\nbits 12\n",
-        ),
-        (
-            "unpack Flat/U12 input sheet",
-            FLAT,
-            "fF",
-            3,
-            "fault Short at $\n",
-        ),
-        (
-            "unpack Flat/None input sheet",
-            FLAT,
-            "1234",
-            1,
-            "refused 10 Unresolved at 1:0 Flat/None\n",
-        ),
-        (
-            "unpack Word input sheet",
-            FLAT,
-            "1234",
-            1,
-            "refused 10 Unresolved at 1:0 Word\n",
-        ),
-        (
-            "unpack Flat/Word input sheet",
-            "[\"PackageFile\"]",
-            "1234",
-            1,
-            "refused 4 Unsupported at 0:0 flat\n",
-        ),
-        (
-            "unpack Flat/Word gone sheet",
-            "{",
-            "1234",
-            1,
-            "refused 4 Unsupported at 0:0 flat\n",
-        ),
-        (
-            "unpack Flat/Word input sheet",
-            FLAT,
             "12",
             3,
             "fault Short at $.b\n",
         ),
         (
             "unpack Flat/Word input sheet",
-            FLAT,
             " ",
             3,
             "fault Short at $.a\n",
         ),
         (
             "unpack Flat/Word input sheet",
-            FLAT,
             "123456",
             3,
             "fault Trailing at $\n",
         ),
         (
             "unpack Flat/Word input sheet",
-            FLAT,
             "12g4",
             3,
             "fault BadHex at $\n",
         ),
         (
             "unpack Flat/Word input sheet",
-            FLAT,
             "123",
             3,
             "fault BadHex at $\n",
         ),
         (
+            "unpack Flat/None input sheet",
+            "1234",
+            1,
+            "refused 10 Unresolved at 1:0 Flat/None\n",
+        ),
+        (
+            "unpack Word input sheet",
+            "1234",
+            1,
+            "refused 10 Unresolved at 1:0 Word\n",
+        ),
+        (
             "unpack Flat/Word input gone.json",
-            FLAT,
+            "1234",
+            8,
+            "no file gone.json\n",
+        ),
+        (
+            "unpack Flat/Word input sheet gone.json",
             "1234",
             8,
             "no file gone.json\n",
         ),
         (
             "unpack Flat/Word gone.hex sheet",
-            FLAT,
             "1234",
             8,
             "no file gone.hex\n",
         ),
-        ("", FLAT, "1234", 2, "usage: eds COMMAND ARGUMENTS\n"),
+        ("check gone.json", "1234", 8, "no file gone.json\n"),
         (
-            "unpack Flat/Word input",
-            FLAT,
+            "check sheet",
             "1234",
-            2,
-            "usage: eds COMMAND ARGUMENTS\n",
+            0,
+            "accepted types 3 containers 1 interfaces 0 components 0\n",
         ),
         (
-            "unpack Flat/Word input sheet sheet",
-            FLAT,
+            "check sheet sheet",
             "1234",
-            2,
-            "usage: eds COMMAND ARGUMENTS\n",
+            1,
+            "refused 9 Duplicate at 1:3 U4\n",
         ),
-        (
-            "Unpack Flat/Word input sheet",
-            FLAT,
-            "1234",
-            2,
-            "usage: eds COMMAND ARGUMENTS\n",
-        ),
+        ("", "1234", 2, USAGE),
+        ("check", "1234", 2, USAGE),
+        ("Check sheet", "1234", 2, USAGE),
+        ("unpack", "1234", 2, USAGE),
+        ("unpack Flat/Word", "1234", 2, USAGE),
+        ("unpack Flat/Word input", "1234", 2, USAGE),
+        ("pack Flat/Word input", "1234", 2, USAGE),
+        ("Unpack Flat/Word input sheet", "1234", 2, USAGE),
     ];
-    for (words, sheet, input, number, report) in table {
-        let (got, written) = run(alloc, CALM, words, sheet.as_bytes(), input.as_bytes())?;
+    for (words, input, number, report) in table {
+        let (got, written) = run(alloc, CALM, words, of_texts(FLAT, "", input))?;
         assert_eq!(rt; got, number, "{words} of {input}");
         assert_eq!(rt; written.as_slice(), report.as_bytes(), "{words} of {input}");
+    }
+    Ok(())
+}
+
+#[test]
+fn sheets_are_judged(rt: HostRuntime) -> Result<(), Fail> {
+    let alloc = rt.alloc();
+    let table = [
+        ("check sheet", "{", "", 1, "refused 1 NotJson at 0:0\n"),
+        ("check sheet", "[]", "", 1, "refused 2 NotElement at 0:0\n"),
+        (
+            "check sheet",
+            "[\"Table\"]",
+            "",
+            1,
+            "refused 3 UnknownElement at 0:0 Table\n",
+        ),
+        (
+            "check sheet",
+            FLOAT,
+            "",
+            1,
+            "refused 4 Unsupported at 0:3 FloatDataType\n",
+        ),
+        (
+            "check sheet",
+            DEMO,
+            "",
+            1,
+            "refused 4 Unsupported at 0:5 BooleanDataType\n",
+        ),
+        (
+            "check sheet",
+            LI,
+            "",
+            1,
+            "refused 4 Unsupported at 0:10 ListEntry\n",
+        ),
+        (
+            "check sheet",
+            DEV,
+            "",
+            1,
+            "refused 4 Unsupported at 0:7 FixedValueEntry\n",
+        ),
+        (
+            "check sheet",
+            "[\"PackageFile\"]",
+            "",
+            0,
+            "accepted types 0 containers 0 interfaces 0 components 0\n",
+        ),
+        (
+            "check sheet",
+            TYPES,
+            USES,
+            0,
+            "accepted types 1 containers 0 interfaces 0 components 0\n",
+        ),
+        (
+            "check other",
+            TYPES,
+            USES,
+            1,
+            "refused 10 Unresolved at 0:5 U8\n",
+        ),
+        (
+            "check sheet other",
+            TYPES,
+            USES,
+            0,
+            "accepted types 2 containers 1 interfaces 0 components 0\n",
+        ),
+        (
+            "check other sheet",
+            TYPES,
+            USES,
+            0,
+            "accepted types 2 containers 1 interfaces 0 components 0\n",
+        ),
+        (
+            "check sheet other",
+            TYPES,
+            FLOAT,
+            1,
+            "refused 4 Unsupported at 1:3 FloatDataType\n",
+        ),
+        (
+            "check sheet other",
+            FLOAT,
+            "{",
+            1,
+            "refused 1 NotJson at 1:0\n",
+        ),
+        ("check sheet gone.json", "{", "", 8, "no file gone.json\n"),
+        (
+            "unpack A/B/C input sheet other",
+            TYPES,
+            USES,
+            0,
+            "{\"$type\":\"A/B/C\",\"x\":7}\nbits 8\n",
+        ),
+        (
+            "unpack A/B/C input other sheet",
+            TYPES,
+            USES,
+            0,
+            "{\"$type\":\"A/B/C\",\"x\":7}\nbits 8\n",
+        ),
+        ("unpack A/U8 input sheet", TYPES, USES, 0, "7\nbits 8\n"),
+        (
+            "unpack A/B/C input sheet",
+            TYPES,
+            USES,
+            1,
+            "refused 10 Unresolved at 1:0 A/B/C\n",
+        ),
+        (
+            "unpack C input sheet other",
+            TYPES,
+            USES,
+            1,
+            "refused 10 Unresolved at 2:0 C\n",
+        ),
+        (
+            "unpack A/B/C gone sheet other",
+            TYPES,
+            "{",
+            1,
+            "refused 1 NotJson at 1:0\n",
+        ),
+        (
+            "pack A/U8 input sheet other",
+            TYPES,
+            USES,
+            3,
+            "fault NotJson at $\n",
+        ),
+    ];
+    for (words, sheet, other, number, report) in table {
+        let (got, written) = run(alloc, CALM, words, of_texts(sheet, other, "07"))?;
+        assert_eq!(rt; got, number, "{words} to {report}");
+        assert_eq!(rt;
+            written.as_slice(),
+            report.as_bytes(),
+            "{words} to {report}"
+        );
     }
     Ok(())
 }
@@ -276,24 +461,12 @@ fn values_are_packed_and_read_again(rt: HostRuntime) -> Result<(), Fail> {
     ];
     for (name, value, digits, bits) in table {
         let pack = format!(in alloc; "pack {name} input sheet")?;
-        let (packed, octets) = run(
-            alloc,
-            CALM,
-            pack.as_str(),
-            MORE.as_bytes(),
-            value.as_bytes(),
-        )?;
+        let (packed, octets) = run(alloc, CALM, pack.as_str(), of_texts(MORE, "", value))?;
         let want = format!(in alloc; "{digits}\nbits {bits}\n")?;
         assert_eq!(rt; packed, 0, "{name} of {value}");
         assert_eq!(rt; octets.as_slice(), want.as_bytes(), "{name} of {value}");
         let unpack = format!(in alloc; "unpack {name} input sheet")?;
-        let (read, text) = run(
-            alloc,
-            CALM,
-            unpack.as_str(),
-            MORE.as_bytes(),
-            digits.as_bytes(),
-        )?;
+        let (read, text) = run(alloc, CALM, unpack.as_str(), of_texts(MORE, "", digits))?;
         let want = format!(in alloc; "{value}\nbits {bits}\n")?;
         assert_eq!(rt; read, 0, "{name} of {digits}");
         assert_eq!(rt; text.as_slice(), want.as_bytes(), "{name} of {digits}");
@@ -413,13 +586,7 @@ fn values_are_refused(rt: HostRuntime) -> Result<(), Fail> {
     ];
     for (name, value, number, report) in table {
         let words = format!(in alloc; "pack {name} input sheet")?;
-        let (got, written) = run(
-            alloc,
-            CALM,
-            words.as_str(),
-            MORE.as_bytes(),
-            value.as_bytes(),
-        )?;
+        let (got, written) = run(alloc, CALM, words.as_str(), of_texts(MORE, "", value))?;
         assert_eq!(rt; got, number, "{name} of {value}");
         assert_eq!(rt; written.as_slice(), report.as_bytes(), "{name} of {value}");
     }
@@ -429,20 +596,32 @@ fn values_are_refused(rt: HostRuntime) -> Result<(), Fail> {
 #[test]
 fn faults_of_the_outside_are_told(rt: HostRuntime) -> Result<(), Fail> {
     let alloc = rt.alloc();
+    let unpack = "unpack Flat/Word input sheet";
+    let check = "check sheet other";
     let table = [
-        (1, 0, 1, 0, 0, WORD),
-        (65536, 1, 65536, 0, 4, "read fault sheet\n"),
-        (65536, 3, 65536, 0, 4, "read fault input\n"),
-        (65536, 0, 4, 2, 5, "{\"$t"),
-        (65536, 0, 4, 1, 5, ""),
-        (65536, 1, 4, 2, 5, "read"),
+        (unpack, 1, 0, 1, 0, 0, WORD),
+        (unpack, 65536, 1, 65536, 0, 4, "read fault sheet\n"),
+        (unpack, 65536, 3, 65536, 0, 4, "read fault input\n"),
+        (unpack, 65536, 0, 4, 2, 5, "{\"$t"),
+        (unpack, 65536, 0, 4, 1, 5, ""),
+        (unpack, 65536, 1, 4, 2, 5, "read"),
+        (check, 65536, 1, 65536, 0, 4, "read fault sheet\n"),
+        (check, 65536, 3, 65536, 0, 4, "read fault other\n"),
+        (check, 65536, 0, 8, 2, 5, "accepted"),
     ];
-    for (read_most, read_fails, write_most, write_fails, number, report) in table {
+    for (words, read_most, read_fails, write_most, write_fails, number, report) in table {
         let outside = failing_outside(read_most, read_fails, write_most, write_fails);
-        let words = "unpack Flat/Word input sheet";
-        let (got, written) = run(alloc, outside, words, FLAT.as_bytes(), b"1234")?;
-        assert_eq!(rt; got, number, "read {read_fails}, write {write_fails}");
-        assert_eq!(rt; written.as_slice(), report.as_bytes());
+        let (got, written) = run(alloc, outside, words, of_texts(FLAT, TYPES, "1234"))?;
+        assert_eq!(rt;
+            got,
+            number,
+            "{words}: read {read_fails}, write {write_fails}"
+        );
+        assert_eq!(rt;
+            written.as_slice(),
+            report.as_bytes(),
+            "{words}: read {read_fails}, write {write_fails}"
+        );
     }
     Ok(())
 }
@@ -451,42 +630,65 @@ fn repeated(alloc: Global, octet: u8, count: usize) -> Result<Vec<u8>, Memory> {
     Ok(vec![in alloc; octet; count]?)
 }
 
-#[test]
-fn limits_are_kept(rt: HostRuntime) -> Result<(), Fail> {
-    let alloc = rt.alloc();
-    let sheets = [
-        (4194305, 7, "limit file 4194304\n"),
-        (4194304, 1, "refused 4 Unsupported at 0:0 flat\n"),
-    ];
-    for (count, number, report) in sheets {
-        let sheet = repeated(alloc, b' ', count)?;
-        let (got, written) = run(
-            alloc,
-            CALM,
-            "unpack Flat/Word input sheet",
-            sheet.as_slice(),
-            b"1234",
-        )?;
-        assert_eq!(rt; got, number, "{report}");
-        assert_eq!(rt; written.as_slice(), report.as_bytes());
+// The words of a check of the file `sheet`, named so many times.
+fn check_words(alloc: Global, count: u32) -> Result<String, Memory> {
+    let mut words = String::from_str(alloc, "check")?;
+    for _ in 0..count {
+        words.push_str(" sheet")?;
     }
-    let inputs = [
+    Ok(words)
+}
+
+#[test]
+fn sheet_limits_are_kept(rt: HostRuntime) -> Result<(), Fail> {
+    let alloc = rt.alloc();
+    let table = [
+        (1, 4194305, 7, "limit file 4194304\n"),
+        (1, 4194304, 1, "refused 1 NotJson at 0:0\n"),
+        (4, 4194304, 1, "refused 1 NotJson at 0:0\n"),
+        (5, 4194304, 7, "limit sheets 16777216\n"),
+        (64, 1, 1, "refused 1 NotJson at 0:0\n"),
+        (65, 1, 7, "limit files 64\n"),
+        (65, 4194305, 7, "limit files 64\n"),
+    ];
+    for (count, size, number, report) in table {
+        let sheet = repeated(alloc, b' ', size)?;
+        let words = check_words(alloc, count)?;
+        let files = Held {
+            sheet: sheet.as_slice(),
+            other: b"",
+            input: b"",
+        };
+        let (got, written) = run(alloc, CALM, words.as_str(), files)?;
+        assert_eq!(rt; got, number, "{count} files of {size} octets");
+        assert_eq!(rt;
+            written.as_slice(),
+            report.as_bytes(),
+            "{count} files of {size} octets"
+        );
+    }
+    Ok(())
+}
+
+#[test]
+fn input_limits_are_kept(rt: HostRuntime) -> Result<(), Fail> {
+    let alloc = rt.alloc();
+    let table = [
         (b' ', 1048577, 7, "limit input 1048576\n"),
         (b' ', 1048576, 3, "fault Short at $.a\n"),
         (b'0', 131074, 7, "limit frame 65536\n"),
         (b'0', 131072, 3, "fault Trailing at $\n"),
     ];
-    for (octet, count, number, report) in inputs {
-        let input = repeated(alloc, octet, count)?;
-        let (got, written) = run(
-            alloc,
-            CALM,
-            "unpack Flat/Word input sheet",
-            FLAT.as_bytes(),
-            input.as_slice(),
-        )?;
-        assert_eq!(rt; got, number, "{report}");
-        assert_eq!(rt; written.as_slice(), report.as_bytes());
+    for (octet, size, number, report) in table {
+        let input = repeated(alloc, octet, size)?;
+        let files = Held {
+            sheet: FLAT.as_bytes(),
+            other: b"",
+            input: input.as_slice(),
+        };
+        let (got, written) = run(alloc, CALM, "unpack Flat/Word input sheet", files)?;
+        assert_eq!(rt; got, number, "{size} octets");
+        assert_eq!(rt; written.as_slice(), report.as_bytes(), "{size} octets");
     }
     Ok(())
 }
@@ -515,13 +717,8 @@ fn long_values_are_refused(rt: HostRuntime) -> Result<(), Fail> {
     let table = [(8192, 0), (8193, 3)];
     for (count, number) in table {
         let (sheet, value) = wide(alloc, count)?;
-        let (got, written) = run(
-            alloc,
-            CALM,
-            "pack P/K input sheet",
-            sheet.as_bytes(),
-            value.as_bytes(),
-        )?;
+        let files = of_texts(sheet.as_str(), "", value.as_str());
+        let (got, written) = run(alloc, CALM, "pack P/K input sheet", files)?;
         assert_eq!(rt; got, number, "{count} entries");
         if number == 3 {
             assert_eq!(rt; written.as_slice(), b"fault TooLong at $\n".as_slice());

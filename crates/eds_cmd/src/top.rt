@@ -1,18 +1,20 @@
 //! The top call.
 
-ghost use Rattle.std.specs.Prelude.{◌≡◌, ◌≢◌, ◌≤◌, ◌++◌, ◌⊎◌, ℕ, List, Some, take, true, false, string_bytes, IfOk, IsSome, IsNone, IsSomeAnd};
+ghost use Rattle.std.specs.Prelude.{◌≡◌, ◌≢◌, ◌≤◌, ◌<◌, ◌++◌, ◌⊎◌, ℕ, List, Some, length, take, true, false, string_bytes, IfOk, IfSome, IsNone, IsSomeAnd};
 ghost use Rattle.eds_io.specs.Counts.{HasRisen};
 ghost use Rattle.eds_io.specs.Files.{Files};
 ghost use Rattle.eds_cmd.specs.Answer.{Answer, IsReached, IsValid};
 ghost use Rattle.eds_cmd.specs.Command.{CommandWords, ReadsFile, command_of as command_in, words_of};
 ghost use Rattle.eds_cmd.specs.Outcome.{ComesTo, IsFault, IsReport, has_report, is_usage};
+ghost use Rattle.eds_cmd.specs.Limits.{sheet_count};
 ghost use Rattle.eds_cmd.specs.Reports.{read_fault_line as line_of_read_fault};
 
 use crate::command::{Command, command_of};
 use crate::halt::Halt;
+use crate::limits::SHEETS;
 use crate::perform::perform;
 use crate::report::read_fault_line;
-use crate::status::Status;
+use crate::status::{Status, What};
 use crate::stop::Stop;
 use crate::words::Words;
 use eds_base::{Memory, Text};
@@ -20,6 +22,8 @@ use eds_io::{Shelf, Sink, write_whole};
 use std::alloc::Global;
 
 const USAGE: &str = "usage: eds COMMAND ARGUMENTS\n";
+
+const TOO_MANY_SHEETS: &str = "limit files 64\n";
 
 /// The status and the report of a command.
 #[derive(Debug, Drop)]
@@ -43,6 +47,7 @@ fn concluded<S: Shelf>(
     command: &Command<'_>,
     shelf: &mut S,
 ) -> Result<Outcome, Memory>
+    requires { length command.now.sheets.now ≤ SHEETS }
     ensures told { (files : Files) → S.files shelf.old ≡ Some files → IfOk result (λ o.
         ComesTo (λ n. HasRisen (S.faults shelf.old n) (S.faults shelf.new n)) files (words_of command.now) o.status o.report) }
     ensures cause { IfOk result (λ o. (name : List ℕ) → o.status ≡ Status.ReadFault name
@@ -109,8 +114,8 @@ pub fn eds<S: Shelf, K: Sink>(alloc: Global, words: &Words, shelf: &mut S, sink:
         → (report : List ℕ) × (n : ℕ) × IsReport (λ name. HasRisen (S.faults shelf.old name) (S.faults shelf.new name)) words.now files report
         × (K.written sink.new ≡ Some (before ++ take n report)) }
 
-    // Where memory is refused, the words are a command, and nothing is written.
-    ensures memory_command { result ≡ Status.Memory → IsSome (command_in words.now) }
+    // Where memory is refused, the words are a command of no more sheet files than there may be, and nothing is written.
+    ensures memory_command { result ≡ Status.Memory → IsSomeAnd (command_in words.now) (λ c. length c.sheets ≤ sheet_count) }
     ensures memory_nothing { result ≡ Status.Memory → K.written sink.new ≡ K.written sink.old }
 
     // A valid command over told files is done, where no fault is counted.
@@ -121,6 +126,10 @@ pub fn eds<S: Shelf, K: Sink>(alloc: Global, words: &Words, shelf: &mut S, sink:
     let Some(command) = command_of(words.as_slice()) else {
         return finish(sink, Status::Usage, USAGE);
     };
+    if command.sheets.len() > SHEETS {
+        let status = Status::Limit(What::Files, SHEETS as u64);
+        return finish(sink, status, TOO_MANY_SHEETS);
+    }
     match concluded(alloc, &command, shelf) {
         Ok(Outcome { status, report }) => finish(sink, status, report.as_str()),
         Err(_) => Status::Memory,

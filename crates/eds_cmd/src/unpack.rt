@@ -50,7 +50,7 @@ fn value_for(
         Err(Fail::Memory) => Err(Fail::Memory),
         Err(Fail::Named(path)) => Err(Fail::Named(frame_fault(
             alloc,
-            target.sheet,
+            target.rows.as_slice(),
             Reason::Short,
             path,
         )?)),
@@ -67,7 +67,12 @@ fn closed(
     ensures { Answers string_bytes result (closed_with (type_in target.now) text.now all left) }
 {
     if left >= 8 {
-        let stop = frame_fault(alloc, target.sheet, Reason::Trailing, Path::root())?;
+        let stop = frame_fault(
+            alloc,
+            target.rows.as_slice(),
+            Reason::Trailing,
+            Path::root(),
+        )?;
         return Err(Fail::Named(stop));
     }
     Ok(bits_report(alloc, text, all.saturating_sub(left))?)
@@ -81,7 +86,7 @@ fn unpacked_frame(alloc: Global, target: &Target<'_>, frame: &[u8]) -> Result<St
     let mut reader = BitReader::new(BitView::new(frame));
     let all = reader.left();
     let value = value_for(alloc, target, &mut reader)?;
-    let text = value_text(alloc, target.word, target.row, &value)?;
+    let text = value_text(alloc, target.row, &value)?;
     closed(alloc, target, text.as_str(), all, reader.left())
 }
 

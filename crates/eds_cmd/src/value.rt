@@ -6,9 +6,9 @@ ghost use Rattle.eds_bits.specs.Reader.{bits_left};
 ghost use Rattle.eds_cmd.specs.Values.{entry_sizes};
 ghost use Rattle.eds_cmd.specs.Reading.{GivesEach, read_each, read_value as value_from, read_number as number_from};
 
-use crate::sheet::{Row, Size, Unsigned};
 use eds_base::{Fail, Items, Path, Step, TypeId};
 use eds_bits::BitReader;
+use eds_read_types::{Row, Size, Unsigned};
 use std::alloc::Global;
 
 /// A value of a flat type: a number, or one number for each entry of a container.
@@ -61,7 +61,7 @@ pub fn read_value(
     ensures { Answers (λ v. (v, bits_left reader.new)) result (value_from id.0 row.now (bits_left reader.old)) }
 {
     match row {
-        Row::Int(own) => read_number(own.size, reader),
+        Row::Int(_, size) => read_number(*size, reader),
         Row::Con(_, entries) => match read_fields(alloc, entries.as_slice(), reader) {
             Ok(numbers) => Ok(FlatValue::Fields(numbers)),
             Err(Fail::Memory) => Err(Fail::Memory),

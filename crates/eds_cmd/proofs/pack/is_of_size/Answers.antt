@@ -1,4 +1,4 @@
-use Rattle.eds_cmd.proofs.PackLemmas.{is_of_size_shifted, length-bits_of_each, bits_of_each-more, written-more, first_out-more, octets_written}
+use Rattle.eds_cmd.proofs.PackLemmas.{is_of_size_shifted}
 use Rattle.eds_cmd.proofs.pack.is_of_size.Goals as goal
 
 pub returns-in-Natural : goal.returns-in-Natural

@@ -1,9 +1,9 @@
-use Rattle.std.proofs.Common.{◌≡◌, ◌+◌, ◌∷◌, ℕ, min, length, drop, sym, ◌∙◌, ap, arith, length-drop, codes, refl}
+use Rattle.std.proofs.Common.{◌≡◌, ◌+◌, ◌∷◌, min, length, drop, sym, ◌∙◌, ap, arith, length-drop}
 use Rattle.std.proofs.lemmas.List.{drop_more}
 use Rattle.serde_json.specs.Data.{object}
 use Rattle.serde_json.specs.View.{members_view}
-use Rattle.serde_json.proofs.Views.{members_view-insert_entry, view-Object}
-use Rattle.eds_cmd.specs.declared.sheet.Unsigned.{Unsigned}
+use Rattle.serde_json.proofs.Views.{view-Object}
+use Rattle.eds_read_types.specs.declared.row.Unsigned.{Unsigned}
 use Rattle.eds_cmd.proofs.ShownLemmas.{with_fields-insert, with_fields-done}
 use Rattle.eds_cmd.proofs.shown.fields_data.Goals as goal
 

@@ -7,5 +7,5 @@ use Rattle.eds_cmd.proofs.shown.value_text.Goals as goal
 
 pub returns : goal.returns
 returns c =
-    let no_float : has_float (view c.in_ok-data.data) ≡ false = rw c.in_ok-data.ensures (value_float c.args.type_name.now c.args.row.now c.args.value.now) in
+    let no_float : has_float (view c.in_ok-data.data) ≡ false = rw c.in_ok-data.ensures (value_float c.args.row.now c.args.value.now) in
     IfOk-weaker c.to_string.result _ _ (λ s h. h no_float ∙ ap compact_text c.in_ok-data.ensures) c.to_string.ensures.text

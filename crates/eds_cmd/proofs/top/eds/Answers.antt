@@ -1,9 +1,12 @@
-use Rattle.std.proofs.Common.{◌≡◌, ◌≢◌, ◌∙◌, ap, sym, subst, refl, inl, inr, ⊎_elim, Option, Some, None}
+use Rattle.std.proofs.Common.{◌≡◌, ◌≢◌, ◌∙◌, sym, subst, refl, inl, ⊎_elim, Some, None}
 use Rattle.eds_cmd.specs.declared.status.Status.{Status}
 use Rattle.eds_cmd.specs.declared.status.Status.TheVariants as statuses
-use Rattle.eds_cmd.specs.Command.{CommandWords, command_of, words_of}
+use Rattle.eds_cmd.specs.Command.{command_of, words_of}
 use Rattle.eds_cmd.specs.Outcome.{IsFault}
+use Rattle.eds_cmd.specs.declared.status.What.TheVariants as what
+use Rattle.eds_cmd.specs.Limits.{sheet_count}
 use Rattle.eds_cmd.specs.Reports.{usage_line}
+use Rattle.eds_cmd.proofs.AnswerLemmas.{past_answer, past_line, unread_reached}
 use Rattle.eds_cmd.proofs.ValidLemmas.{valid_done}
 use Rattle.eds_cmd.proofs.top.eds.Goals as goal
 
@@ -22,6 +25,27 @@ returns-in_default-clause-write_prefix g c = λ files before told written fault.
     let none : command_of c.args.words.now ≡ None = rw (← c.as_slice.ensures) (sym c.in_default.ensures) in
     let front = c.finish.ensures.prefix before written refl fault in
     (usage_line, front.0, (statuses.Usage, inl (rw none (refl, refl))), front.1)
+
+pub returns-then-command-gt-SHEETS-clause-answer : goal.returns-then-command-gt-SHEETS-clause-answer
+returns-then-command-gt-SHEETS-clause-answer g c = λ files before told written calm.
+    let some : command_of c.args.words.now ≡ Some (words_of c.in-Some.command) = rw (← c.as_slice.ensures) (sym c.in-Some.ensures) in
+    let whole = not_write_fault c.finish-then-command-gt-SHEETS.result calm in
+    let answer = past_answer files (words_of c.in-Some.command) c.if-command-gt-SHEETS.true in
+    (past_line, rw (some, c.finish-then-command-gt-SHEETS.ensures.kept whole) answer, c.finish-then-command-gt-SHEETS.ensures.whole before written whole)
+
+pub returns-then-command-gt-SHEETS-clause-write_prefix : goal.returns-then-command-gt-SHEETS-clause-write_prefix
+returns-then-command-gt-SHEETS-clause-write_prefix g c = λ files before told written fault.
+    let some : command_of c.args.words.now ≡ Some (words_of c.in-Some.command) = rw (← c.as_slice.ensures) (sym c.in-Some.ensures) in
+    let front = c.finish-then-command-gt-SHEETS.ensures.prefix before written refl fault in
+    let answer = past_answer files (words_of c.in-Some.command) c.if-command-gt-SHEETS.true in
+    (past_line, front.0, (statuses.Limit what.Files sheet_count, inl (rw some answer)), front.1)
+
+pub returns-in-Ok-clause-read_first : goal.returns-in-Ok-clause-read_first
+returns-in-Ok-clause-read_first g c = λ files name told fault.
+    let some : command_of c.args.words.now ≡ Some (words_of c.in-Some.command) = rw (← c.as_slice.ensures) (sym c.in-Some.ensures) in
+    let kept = c.finish-in-Ok.ensures.kept (λ e. cc (e, fault)) in
+    let reached = unread_reached _ files (words_of c.in-Some.command) c.in-Ok.field-0.status c.in-Ok.field-0.report name (c.in-Ok.ensures.told files told) (sym kept ∙ fault) in
+    rw some reached
 
 pub returns-in-Ok-clause-write_prefix : goal.returns-in-Ok-clause-write_prefix
 returns-in-Ok-clause-write_prefix g c = λ files before told written fault.
