@@ -1,12 +1,12 @@
 //! Reading the value of a type from the bits that are left, by the kind of the type.
 
-ghost use Rattle.std.specs.Prelude.{◌≡◌, ◌+◌, ◌<◌, ◌≤◌, Some, length, map, slice_get, IsSome};
+ghost use Rattle.std.specs.Prelude.{◌≡◌, ◌+◌, ◌<◌, ◌≤◌, Some, length, map, slice_get};
 ghost use Rattle.std.specs.List.{AllByRecursion};
 ghost use Rattle.eds_bits.specs.Reader.{bits_left};
 ghost use Rattle.eds_types.specs.FlatTables.{IsScalarEntry, IsFlatTable};
 ghost use Rattle.eds_types.specs.Plain.{plain};
 ghost use Rattle.eds_types.specs.Reading.{read_within, read_kind};
-ghost use Rattle.eds_types.specs.Rows.{container_of, entries_of};
+ghost use Rattle.eds_types.specs.Rows.{entries_of};
 ghost use Rattle.eds_unpack.specs.Readers.{Gives, FaultWithin};
 ghost use Rattle.eds_unpack.specs.Entries.{entry_step, read_entries, read_flat};
 

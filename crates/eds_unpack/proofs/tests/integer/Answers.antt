@@ -1,5 +1,4 @@
-use Rattle.std.proofs.Common.{rules, arith}
-use Rattle.std.proofs.lemmas.Int.{ints}
+use Rattle.std.proofs.Common.{rules}
 use Rattle.eds_types.specs.Sample.{IsRange}
 use Rattle.eds_unpack.proofs.FlatSampleKeeps.{range_domain}
 use Rattle.eds_unpack.proofs.tests.integer.Goals as goal

@@ -1,4 +1,3 @@
-use Rattle.std.proofs.Common.{rules, ◌≡◌}
 use Rattle.eds_unpack.proofs.FlatSampleKeeps.{is_sample}
 use Rattle.eds_unpack.proofs.tests.rows_of.Goals as goal
 
