@@ -1,0 +1,102 @@
+//! Values as JSON.
+
+ghost use Rattle.std.specs.Prelude.{◌≡◌, ◌<◌, ◌^◌, ◌≤ℤ◌, ◌-◌, IfOk, Ok, length, map, neg_ℤ, pos};
+ghost use Rattle.std.specs.List.{AllByRecursion};
+ghost use Rattle.serde_json.specs.Data.{number};
+ghost use Rattle.serde_json.specs.Find.{of_integer};
+ghost use Rattle.serde_json.specs.View.{view};
+ghost use Rattle.eds_types.specs.FlatTables.{IsFlatTable};
+ghost use Rattle.eds_types.specs.Plain.{plain};
+ghost use Rattle.eds_value.specs.Entries.{entries_along as entries_in};
+ghost use Rattle.eds_value.specs.Given.{given};
+ghost use Rattle.eds_value.specs.Json.{value_in};
+ghost use Rattle.eds_value.specs.Laws.{HasNoTypeEntry, IsValueOf};
+ghost use Rattle.eds_value.specs.Shown.{AreHeld, IsHeld, fields_data as data_of_fields, scalar_data as data_of_scalar, shown as shown_of, shown_text};
+
+use crate::entry::{Entry, entries_along};
+use crate::path::type_name;
+use eds_base::{Memory, Octets, TypeId};
+use eds_types::{TypeTable, Value};
+use serde_json::{Map, Value as Json};
+use std::alloc::Global;
+
+// A whole number that JSON holds as such.
+fn whole_data(n: i128) -> Json
+    requires least { neg_ℤ (pos (2 ^ 63)) ≤ℤ n }
+    requires most { n ≤ℤ pos (2 ^ 64 - 1) }
+    ensures { view result ≡ number (of_integer n) }
+{
+    if n < 0 {
+        Json::from(n as i64)
+    } else {
+        Json::from(n as u64)
+    }
+}
+
+fn scalar_data(alloc: Global, value: &Value) -> Result<Json, Memory>
+    requires { IsHeld (plain value.now) }
+    ensures { IfOk result (λ j. view j ≡ data_of_scalar (plain value.now)) }
+{
+    match value {
+        Value::Num(n) => Ok(whole_data(*n)),
+        Value::Label(label) => Ok(Json::String(String::from_str(alloc, label.as_str())?)),
+        Value::Bool(truth) => Ok(Json::Bool(*truth)),
+        _ => Ok(Json::Null),
+    }
+}
+
+fn fields_data(
+    alloc: Global,
+    type_name: &str,
+    entries: &[Entry<'_>],
+    values: &[Value],
+) -> Result<Json, Memory>
+    requires { AllByRecursion IsHeld (map plain values.now) }
+    ensures { IfOk result (λ j. view j ≡ data_of_fields type_name.now (map given entries.now) (map plain values.now)) }
+{
+    let mut members = Map::new(alloc);
+    let own = Json::String(String::from_str(alloc, type_name)?);
+    members.insert(String::from_str(alloc, "$type")?, own)?;
+    let count = entries.len().min(values.len());
+    for i in 0..count {
+        let key = String::from_str(alloc, entries[i].name)?;
+        let member = scalar_data(alloc, &values[i])?;
+        members.insert(key, member)?;
+    }
+    Ok(Json::Object(members))
+}
+
+fn shown(alloc: Global, table: &TypeTable, value: &Value) -> Result<Json, Memory>
+    requires { AreHeld (plain value.now) }
+    ensures { IfOk result (λ j. view j ≡ shown_of table.now (plain value.now)) }
+{
+    match value {
+        Value::Fields(container, values) => {
+            let entries = entries_along(alloc, table, *container)?;
+            fields_data(
+                alloc,
+                type_name(table, *container),
+                entries.as_slice(),
+                values.as_slice(),
+            )
+        }
+        _ => scalar_data(alloc, value),
+    }
+}
+
+/// The JSON text of a value of a type, with its members in byte order and without spaces. It is read as that value again.
+pub fn to_json(
+    alloc: Global,
+    table: &TypeTable,
+    id: TypeId,
+    value: &Value,
+) -> Result<Octets, Memory>
+    requires known { id.0 < length table.now }
+    requires flat { IsFlatTable table.now }
+    requires one { IsValueOf table.now id.0 (plain value.now) }
+    ensures text { IfOk result (λ o. o ≡ shown_text table.now (plain value.now)) }
+    ensures reads_back { HasNoTypeEntry table.now → IfOk result (λ o. value_in table.now id.0 o ≡ Ok (plain value.now)) }
+{
+    let json = shown(alloc, table, value)?;
+    Ok(Octets::from_vec(json.to_vec(alloc)?))
+}
