@@ -1,0 +1,9 @@
+pub mod Slashes
+pub mod Steps
+pub mod Chains
+pub mod Members
+pub mod WithValues
+pub mod Mapped
+pub mod FlatFacts
+pub mod ScalarValues
+pub mod EntryValues

@@ -1,5 +1,6 @@
 -- The value that JSON stands for, or the path of the first of a wrong shape.
 use Rattle.std.specs.Prelude.{ℕ, ◌+◌, ◌==◌, ◌&&◌, List, [], ◌∷◌, length, codes, Bool, true, false, is_some, if◌then◌else◌, Option, Some, None, option_map, option_and_then, Result, Ok, Err, slice_get}
+use Rattle.std.specs.Option.{option_map_or}
 use Rattle.serde_json.specs.Data.{Data}
 use Rattle.serde_json.specs.Events.{members_len}
 use Rattle.serde_json.specs.Find.{as_bool, as_integer, as_number, as_object, as_str, get}
@@ -54,8 +55,9 @@ container_named t id d = container_by t id (get (codes "$type") d)
 
 -- ---- its members
 
+-- an object of so many members
 abbrev pub has_so_many : ℕ → Data → Bool
-has_so_many n d = is_some (reading.◌>>=◌ (as_object d) (λ ms. only (members_len ms == n) ms))
+has_so_many n d = option_map_or (λ ms. members_len ms == n) (as_object d) false
 
 -- each entry has a member
 abbrev pub has_each : Data → List Entry → Bool

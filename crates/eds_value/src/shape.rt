@@ -1,9 +1,10 @@
 //! The value that JSON stands for.
 
-ghost use Rattle.std.specs.Prelude.{◌≡◌, ◌<◌, IfOk, codes, length, map, option_and_then, option_map};
+ghost use Rattle.std.specs.Prelude.{◌≡◌, ◌<◌, ◌&&◌, IfOk, codes, length, map, option_and_then, option_map};
 ghost use Rattle.serde_json.specs.Find.{as_integer, as_number, get as get_at};
 ghost use Rattle.serde_json.specs.View.{view};
 ghost use Rattle.eds_base.specs.Answering.{Answers};
+ghost use Rattle.eds_base.specs.Reading.{same};
 ghost use Rattle.eds_types.specs.FlatTables.{IsFlatTable};
 ghost use Rattle.eds_types.specs.Plain.{plain};
 ghost use Rattle.eds_types.specs.Rows.{chain, list_has};
@@ -70,13 +71,18 @@ fn is_container(row: &TypeRow) -> bool
     }
 }
 
+fn is_named(row: &TypeRow, word: &str) -> bool
+    ensures { result ≡ (is_con row.now && same row.now.name word.now) }
+{
+    is_container(row) && row.name.as_str() == word
+}
+
 // The first container of a qualified name: one pass over the rows.
 fn named(table: &TypeTable, word: &str) -> Option<TypeId>
     ensures { option_map (λ (id : TypeId). id.0) result ≡ named_from word.now table.now 0 }
 {
     for i in 0..table.len() {
-        let row = table.row(TypeId(i));
-        if is_container(row) && row.name.as_str() == word {
+        if is_named(table.row(TypeId(i)), word) {
             return Some(TypeId(i));
         }
     }

@@ -1,10 +1,10 @@
 //! Values as JSON.
 
-ghost use Rattle.std.specs.Prelude.{◌≡◌, ◌<◌, ◌^◌, ◌≤ℤ◌, ◌-◌, IfOk, Ok, length, map, neg_ℤ, pos};
+ghost use Rattle.std.specs.Prelude.{◌≡◌, ◌<◌, ◌^◌, ◌≤ℤ◌, ◌-◌, IfOk, Ok, OnOk, length, map, neg_ℤ, pos};
 ghost use Rattle.std.specs.List.{AllByRecursion};
-ghost use Rattle.serde_json.specs.Data.{number};
+ghost use Rattle.serde_json.specs.Data.{number, put};
 ghost use Rattle.serde_json.specs.Find.{of_integer};
-ghost use Rattle.serde_json.specs.View.{view};
+ghost use Rattle.serde_json.specs.View.{members_view, view};
 ghost use Rattle.eds_types.specs.FlatTables.{IsFlatTable};
 ghost use Rattle.eds_types.specs.Plain.{plain};
 ghost use Rattle.eds_value.specs.Entries.{entries_along as entries_in};
@@ -45,6 +45,22 @@ fn scalar_data(alloc: Global, value: &Value) -> Result<Json, Memory>
     }
 }
 
+// Puts the member of an entry among others.
+fn put_member(
+    alloc: Global,
+    members: &mut Map<String, Json>,
+    entry: &Entry<'_>,
+    value: &Value,
+) -> Result<(), Memory>
+    requires { IsHeld (plain value.now) }
+    ensures { OnOk result (members_view members.new.entries ≡ put (given entry.now).name (data_of_scalar (plain value.now)) (members_view members.old.entries)) }
+{
+    let key = String::from_str(alloc, entry.name)?;
+    let member = scalar_data(alloc, value)?;
+    members.insert(key, member)?;
+    Ok(())
+}
+
 fn fields_data(
     alloc: Global,
     type_name: &str,
@@ -59,9 +75,7 @@ fn fields_data(
     members.insert(String::from_str(alloc, "$type")?, own)?;
     let count = entries.len().min(values.len());
     for i in 0..count {
-        let key = String::from_str(alloc, entries[i].name)?;
-        let member = scalar_data(alloc, &values[i])?;
-        members.insert(key, member)?;
+        put_member(alloc, &mut members, &entries[i], &values[i])?;
     }
     Ok(Json::Object(members))
 }
