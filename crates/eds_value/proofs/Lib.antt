@@ -7,3 +7,8 @@ pub mod Mapped
 pub mod FlatFacts
 pub mod ScalarValues
 pub mod EntryValues
+pub mod ShownMembers
+pub mod ShownIsRead
+pub mod Named
+pub mod Plains
+pub mod Depths

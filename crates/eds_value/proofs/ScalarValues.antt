@@ -24,19 +24,19 @@ use Rattle.eds_value.specs.Shown.{IsHeld}
 
 least_held : (e : Encoding) (n : ℕ) → n ≤ 64 → neg_ℤ (pos (2 ^ 63)) ≤ℤ least_by e n
 least_held Unsigned n h = record { le = tt }
-least_held TwosComplement n h = let p : 2 ^ (n - 1) ≤ 2 ^ 63 = pow-le-pow_right (lit< tt) (omega arith) in omega (arith, ints)
-least_held SignMagnitude n h = let p : 2 ^ (n - 1) ≤ 2 ^ 63 = pow-le-pow_right (lit< tt) (omega arith) in omega (arith, ints)
-least_held OnesComplement n h = let p : 2 ^ (n - 1) ≤ 2 ^ 63 = pow-le-pow_right (lit< tt) (omega arith) in omega (arith, ints)
+least_held TwosComplement n h = let low : n - 1 ≤ 63 = omega arith in let p : 2 ^ (n - 1) ≤ 2 ^ 63 = pow-le-pow_right (lit< tt) low in omega (arith, ints)
+least_held SignMagnitude n h = let low : n - 1 ≤ 63 = omega arith in let p : 2 ^ (n - 1) ≤ 2 ^ 63 = pow-le-pow_right (lit< tt) low in omega (arith, ints)
+least_held OnesComplement n h = let low : n - 1 ≤ 63 = omega arith in let p : 2 ^ (n - 1) ≤ 2 ^ 63 = pow-le-pow_right (lit< tt) low in omega (arith, ints)
 least_held PackedBcd n h = record { le = tt }
 least_held Bcd n h = record { le = tt }
 
 greatest_held : (e : Encoding) (n : ℕ) → n ≤ 64 → greatest_by e n ≤ℤ pos (2 ^ 64 - 1)
 greatest_held Unsigned n h = let p : 2 ^ n ≤ 2 ^ 64 = pow-le-pow_right (lit< tt) h in omega (arith, ints)
-greatest_held TwosComplement n h = let p : 2 ^ (n - 1) ≤ 2 ^ 63 = pow-le-pow_right (lit< tt) (omega arith) in omega (arith, ints)
-greatest_held SignMagnitude n h = let p : 2 ^ (n - 1) ≤ 2 ^ 63 = pow-le-pow_right (lit< tt) (omega arith) in omega (arith, ints)
-greatest_held OnesComplement n h = let p : 2 ^ (n - 1) ≤ 2 ^ 63 = pow-le-pow_right (lit< tt) (omega arith) in omega (arith, ints)
-greatest_held PackedBcd n h = let p : 10 ^ (n / 4) ≤ 10 ^ 16 = pow-le-pow_right (lit< tt) (omega arith) in omega (arith, ints)
-greatest_held Bcd n h = let p : 10 ^ (n / 8) ≤ 10 ^ 8 = pow-le-pow_right (lit< tt) (omega arith) in omega (arith, ints)
+greatest_held TwosComplement n h = let low : n - 1 ≤ 63 = omega arith in let p : 2 ^ (n - 1) ≤ 2 ^ 63 = pow-le-pow_right (lit< tt) low in omega (arith, ints)
+greatest_held SignMagnitude n h = let low : n - 1 ≤ 63 = omega arith in let p : 2 ^ (n - 1) ≤ 2 ^ 63 = pow-le-pow_right (lit< tt) low in omega (arith, ints)
+greatest_held OnesComplement n h = let low : n - 1 ≤ 63 = omega arith in let p : 2 ^ (n - 1) ≤ 2 ^ 63 = pow-le-pow_right (lit< tt) low in omega (arith, ints)
+greatest_held PackedBcd n h = let low : n / 4 ≤ 16 = omega arith in let p : 10 ^ (n / 4) ≤ 10 ^ 16 = pow-le-pow_right (lit< tt) low in omega (arith, ints)
+greatest_held Bcd n h = let low : n / 8 ≤ 8 = omega arith in let p : 10 ^ (n / 8) ≤ 10 ^ 8 = pow-le-pow_right (lit< tt) low in omega (arith, ints)
 
 -- JSON holds the numbers of a form
 number_held : (form : IntForm) (n : ℤ) → HasNumber form n → IsHeld (num n)

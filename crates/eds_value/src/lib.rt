@@ -3,6 +3,7 @@
 
 mod entry;
 mod fail;
+pub mod law;
 mod path;
 mod read;
 mod shape;

@@ -137,10 +137,10 @@ fn member_value(
 ) -> Result<Option<Value>, Memory>
     ensures { IfOk result (λ v. option_map plain v ≡ value_of_member table.now (view json.now) (given entry.now)) }
 {
-    match json.get(entry.name) {
-        Some(member) => scalar(alloc, table, entry.id, member),
-        None => Ok(None),
-    }
+    let Some(member) = json.get(entry.name) else {
+        return Ok(None);
+    };
+    scalar(alloc, table, entry.id, member)
 }
 
 fn member_values(

@@ -111,6 +111,7 @@ pub fn to_json(
     ensures text { IfOk result (λ o. o ≡ shown_text table.now (plain value.now)) }
     ensures reads_back { HasNoTypeEntry table.now → IfOk result (λ o. value_in table.now id.0 o ≡ Ok (plain value.now)) }
 {
+    table.keeps_rules();
     let json = shown(alloc, table, value)?;
     Ok(Octets::from_vec(json.to_vec(alloc)?))
 }
