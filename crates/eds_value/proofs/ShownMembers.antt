@@ -27,9 +27,10 @@ Differ (e ∷ es) = Lacks e.name es × Differ es
 
 lacks_from : (name : List ℕ) (es : List Entry) → (Has (map (λ (e : Entry). e.name) es) name → ⊥) → Lacks name es
 lacks_from name [] h = tt
-lacks_from name (e ∷ es) h =
-    ((λ same. h (record { before = []; after = map (λ (e : Entry). e.name) es; is = ap (λ (n : List ℕ). n ∷ map (λ (e : Entry). e.name) es) same })),
-    lacks_from name es (λ has. h (record { before = e.name ∷ has.before; after = has.after; is = ap (λ (l : List (List ℕ)). e.name ∷ l) has.is })))
+lacks_from name (e ∷ es) h = (
+  (λ same. h (record { before = []; after = map (λ (e : Entry). e.name) es; is = ap (λ (n : List ℕ). n ∷ map (λ (e : Entry). e.name) es) same })),
+  lacks_from name es (λ has. h (record { before = e.name ∷ has.before; after = has.after; is = ap (λ (l : List (List ℕ)). e.name ∷ l) has.is })),
+)
 
 pub differ_from : (es : List Entry) → AreDistinct (map (λ (e : Entry). e.name) es) → Differ es
 differ_from [] h = tt

@@ -40,10 +40,7 @@ fn entry_at(table: &TypeTable, container: TypeId, place: u16) -> Option<Entry<'_
     }
 }
 
-fn push_entry<'a>(
-    entries: &mut Items<Entry<'a>>,
-    entry: Option<Entry<'a>>,
-) -> Result<(), Memory>
+fn push_entry<'a>(entries: &mut Items<Entry<'a>>, entry: Option<Entry<'a>>) -> Result<(), Memory>
     ensures { OnOk result (map given entries.new ≡ map given entries.old ++ option_to_list (option_map given entry.entry)) }
 {
     match entry {

@@ -53,12 +53,7 @@ fn name_at(table: &TypeTable, id: TypeId, place: u16) -> Option<&str>
     }
 }
 
-fn part_text(
-    alloc: Global,
-    table: &TypeTable,
-    id: TypeId,
-    place: u16,
-) -> Result<String, AllocError>
+fn part_text(alloc: Global, table: &TypeTable, id: TypeId, place: u16) -> Result<String, AllocError>
     ensures { IfOk result (λ s. string_bytes s ≡ text_of_part table.now id place) }
 {
     match name_at(table, id, place) {

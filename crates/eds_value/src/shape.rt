@@ -199,12 +199,7 @@ fn values_inside(
 }
 
 #[tactic(auto, unfolding(crate::specs::Shape::fields_in, crate::specs::Shape::container_for))]
-fn fields_in(
-    alloc: Global,
-    table: &TypeTable,
-    id: TypeId,
-    json: &Json,
-) -> Result<Value, Fail<Path>>
+fn fields_in(alloc: Global, table: &TypeTable, id: TypeId, json: &Json) -> Result<Value, Fail<Path>>
     ensures { Answers plain result (fields_from table.now id.0 (view json.now)) }
 {
     let Some(container) = container_named(table, id, json) else {
@@ -219,12 +214,7 @@ fn fields_in(
 }
 
 /// The value that JSON stands for where a type is declared, or the path of the first value of a wrong shape.
-pub fn shape(
-    alloc: Global,
-    table: &TypeTable,
-    id: TypeId,
-    json: &Json,
-) -> Result<Value, Fail<Path>>
+pub fn shape(alloc: Global, table: &TypeTable, id: TypeId, json: &Json) -> Result<Value, Fail<Path>>
     requires known { id.0 < length table.now }
     requires flat { IsFlatTable table.now }
     ensures { Answers plain result (shape_of table.now id.0 (view json.now)) }
