@@ -26,7 +26,7 @@ flat_container t id c flat e = go (slice_get t id) refl e
     go None e h = absurd cc
     go (Some row) e h = kinds row.kind (flat id row e) h
 
-flat_chain : (t : Table) (id : ℕ) (c : Container) → IsFlatTable t → container_of t id ≡ Some c → chain t id ≡ id ∷ []
+pub flat_chain : (t : Table) (id : ℕ) (c : Container) → IsFlatTable t → container_of t id ≡ Some c → chain t id ≡ id ∷ []
 unfolding chain_within
 flat_chain t id c flat e = ap (λ o. chain_before (chain_within 15 t) o ++ id ∷ []) (flat_container t id c flat e).root
 

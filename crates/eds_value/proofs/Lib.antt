@@ -12,3 +12,5 @@ pub mod ShownIsRead
 pub mod Named
 pub mod Plains
 pub mod Depths
+pub mod SampleKeeps
+pub mod SampleValue

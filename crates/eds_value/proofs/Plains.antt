@@ -1,9 +1,10 @@
 -- Values, seen by their trees.
-use Rattle.std.proofs.Common.{◌≡◌, ℕ, List, map, rules, Vec, Global, sym, ap, ◌∙◌, subst}
+use Rattle.std.proofs.Common.{◌≡◌, ℕ, ℤ, List, [], ◌∷◌, map, refl, rules, Vec, Global, sym, ap, ◌∙◌, subst}
+use Rattle.std.specs.Prelude.{Bool as Truth}
 use Rattle.std.specs.List.{AllByRecursion}
 use Rattle.eds_base.specs.declared.ids.TypeId.{TypeId}
-use Rattle.eds_types.specs.declared.value.Value.{Value, Fields, the_lemmas}
-use Rattle.eds_types.specs.Plain.{Plain, plain, fields, list_of, plains_of}
+use Rattle.eds_types.specs.declared.value.Value.{Value, Num, Bool, Label, Fields, the_lemmas}
+use Rattle.eds_types.specs.Plain.{Plain, num, truth, label, plain, fields, none, more, list_of, plains_of}
 use Rattle.eds_types.specs.Rows.{Table}
 use Rattle.eds_types.proofs.SameValues.{list_of-plains_of}
 use Rattle.eds_value.specs.Entries.{Entry, entries_along}
@@ -11,6 +12,21 @@ use Rattle.eds_value.specs.Shown.{AreHeld, IsHeld, shown, fields_data, type_name
 
 plain-Fields : (id : TypeId) (vs : Vec Value Global) → plain (Fields id vs) ≡ fields id.0 (plains_of (map plain vs.items))
 plain-Fields id vs = search (rules, the_lemmas)
+
+plain-Num : (n : ℤ) → plain (Num n) ≡ num n
+plain-Num n = search (rules, the_lemmas)
+
+plain-Bool : (b : Truth) → plain (Bool b) ≡ truth b
+plain-Bool b = search (rules, the_lemmas)
+
+plain-Label : (l : List ℕ) → plain (Label l) ≡ label l
+plain-Label l = search (rules, the_lemmas)
+
+-- a number, a truth value and a label as fields
+pub three_fields : (id : TypeId) (vs : Vec Value Global) (n : ℤ) (b : Truth) (l name : List ℕ) → vs.items ≡ Num n ∷ Bool b ∷ Label l ∷ [] → l ≡ name
+    → plain (Fields id vs) ≡ fields id.0 (more (num n) (more (truth b) (more (label name) none)))
+three_fields id vs n b l name items named =
+    plain-Fields id vs ∙ ap (λ (xs : List Value). fields id.0 (plains_of (map plain xs))) items ∙ rw (plain-Num n, plain-Bool b, plain-Label l, named) refl
 
 -- the values of fields hold numbers that JSON holds
 pub fields_held : (v : Value) (id : TypeId) (vs : Vec Value Global) (values : List Value) → v ≡ Fields id vs → values ≡ vs.items → AreHeld (plain v) → AllByRecursion IsHeld (map plain values)

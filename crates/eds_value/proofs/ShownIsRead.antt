@@ -99,6 +99,9 @@ concrete_row t k h = go (slice_get t k) refl h
     go None e h = absurd cc
     go (Some row) e h = con row (container_in (Some row)) e refl h
 
+pub concrete_container : (t : Table) (k : ℕ) → is_concrete t k ≡ true → (c : Container) × (container_of t k ≡ Some c)
+concrete_container t k h = let con = concrete_row t k h in (con.1, ap container_in con.2 ∙ con.3)
+
 -- the container is there, its entries have different names, and the values are theirs
 pub record HasValues (t : Table) (k : ℕ) (vs : List Plain) : Type 0 where
   pub row : TypeRow

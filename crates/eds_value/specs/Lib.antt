@@ -5,3 +5,4 @@ pub mod Json
 pub mod Paths
 pub mod Laws
 pub mod Given
+pub mod Sample
