@@ -1,17 +1,15 @@
 -- How deep the JSON of a value nests, and the text that it is read from.
-use Rattle.std.proofs.Common.{◌≡◌, ℕ, suc, ◌+◌, ◌≤◌, max, nat_cmp, List, [], ◌∷◌, codes, Bool, true, Ordering, Less, Equal, Greater, Option, Some, Result, Ok, if◌then◌else◌, refl, sym, ap, ◌∙◌, arith, lit≤}
+use Rattle.std.proofs.Common.{◌≡◌, ℕ, ◌≤◌, nat_cmp, List, [], ◌∷◌, codes, true, Ordering, Less, Equal, Greater, Some, Result, Ok, refl, arith, lit≤}
 use Rattle.std.specs.Ordering.{match_ordering}
 use Rattle.std.specs.Cmp.Lexicographic.{slice_cmp}
 use Rattle.std.specs.Str.{is_utf8}
-use Rattle.serde_json.specs.Data.{Data, string, object, Members, no_members, member, put, depth, members_depth}
+use Rattle.serde_json.specs.Data.{Data, string, Members, no_members, member, put, depth, members_depth}
 use Rattle.serde_json.specs.Read.{read}
-use Rattle.eds_base.specs.Answering.{◌>>=◌, or_stop}
 use Rattle.eds_base.specs.declared.fault.Step.{Step}
 use Rattle.eds_types.specs.Plain.{Plain, num, label, truth, text, bits, items, fields, list_of}
 use Rattle.eds_types.specs.Rows.{Table}
-use Rattle.eds_value.specs.declared.fail.ValueFail.TheVariants.{NotJson}
 use Rattle.eds_value.specs.Entries.{Entry, entries_along}
-use Rattle.eds_value.specs.Json.{json_of, or_wrong, value_in}
+use Rattle.eds_value.specs.Json.{value_in}
 use Rattle.eds_value.specs.Shape.{shape}
 use Rattle.eds_value.specs.Shown.{scalar_data, shown, type_name, with_values}
 

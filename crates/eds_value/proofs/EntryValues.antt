@@ -1,5 +1,5 @@
 -- The entries of a flat container and their values.
-use Rattle.std.proofs.Common.{◌≡◌, ℕ, zero, suc, ◌+◌, List, [], ◌∷◌, ◌++◌, length, map, Option, Some, None, refl, sym, ap, subst, ◌∙◌, append_assoc, append-nil, arith}
+use Rattle.std.proofs.Common.{◌≡◌, ℕ, suc, ◌+◌, List, [], ◌∷◌, ◌++◌, length, map, Some, refl, sym, ap, ◌∙◌, append_assoc, append-nil, arith}
 use Rattle.std.proofs.lemmas.List.{length-append}
 use Rattle.std.specs.Prelude.{slice_get}
 use Rattle.std.specs.List.{AllByRecursion, cons_option, filter_map}
@@ -12,9 +12,9 @@ use Rattle.eds_types.specs.declared.row.Part.TheVariants as part
 use Rattle.eds_types.specs.Fields.{Field, values_of, part_at}
 use Rattle.eds_types.specs.FlatTables.{IsScalarEntry, IsFlatTable}
 use Rattle.eds_types.specs.Plain.{Plain}
-use Rattle.eds_types.specs.Rows.{Table, address, container_of, entries_of, trailers_of, id_of, Placed, placed_from, sequence}
+use Rattle.eds_types.specs.Rows.{Table, address, container_of, entries_of, trailers_of, id_of, Placed, placed_from}
 use Rattle.eds_types.specs.Rules.{HasKind, KeepsRules, name_of}
-use Rattle.eds_types.specs.Spelling.{State, took, PartsPass, SpellsWithin}
+use Rattle.eds_types.specs.Spelling.{State, PartsPass, SpellsWithin}
 use Rattle.eds_value.specs.Entries.{Entry, entry_at, entries_along}
 use Rattle.eds_value.specs.Shown.{IsHeld}
 use Rattle.eds_value.proofs.FlatFacts.{flat_sequence}

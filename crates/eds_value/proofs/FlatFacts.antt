@@ -1,14 +1,13 @@
 -- What flat tables are like.
-use Rattle.std.proofs.Common.{◌≡◌, ℕ, List, [], ◌∷◌, ◌++◌, length, reverse, Option, Some, None, refl, sym, ap, subst, ◌∙◌, append-nil}
+use Rattle.std.proofs.Common.{◌≡◌, ℕ, [], ◌∷◌, ◌++◌, length, reverse, Option, Some, None, refl, sym, ap, subst, ◌∙◌, append-nil}
 use Rattle.std.specs.Prelude.{slice_get}
 use Rattle.std.specs.List.{AllByRecursion, flat_map}
 use Rattle.eds_types.specs.declared.row.TypeRow.{TypeRow}
 use Rattle.eds_types.specs.declared.row.Kind.{Kind}
 use Rattle.eds_types.specs.declared.row.Kind.TheVariants as kind
 use Rattle.eds_types.specs.declared.row.Container.{Container}
-use Rattle.eds_types.specs.declared.row.Part.{Part}
 use Rattle.eds_types.specs.FlatTables.{IsScalarEntry, IsFlat, IsFlatKind, IsFlatTable}
-use Rattle.eds_types.specs.Rows.{Table, base_of, container_of, container_in, container_by, entries_of, trailers_of, trailers_in, entries_in, chain, chain_before, chain_within, Placed, placed_from, placed_entries, placed_trailers, sequence}
+use Rattle.eds_types.specs.Rows.{Table, base_of, container_of, container_in, container_by, entries_of, trailers_of, trailers_in, entries_in, chain, chain_before, chain_within, placed_from, placed_entries, placed_trailers, sequence}
 
 pub flat_container : (t : Table) (id : ℕ) (c : Container) → IsFlatTable t → container_of t id ≡ Some c → IsFlat t (base_of t id) c
 flat_container t id c flat e = go (slice_get t id) refl e

@@ -1,5 +1,5 @@
 -- Members read one after another.
-use Rattle.std.proofs.Common.{◌≡◌, ℕ, List, [], ◌∷◌, ◌++◌, Option, Some, None, Result, Ok, Err, refl, sym, ap, ◌∙◌, append_assoc}
+use Rattle.std.proofs.Common.{◌≡◌, List, [], ◌∷◌, ◌++◌, Option, Some, None, Result, Ok, Err, refl, sym, ap, ◌∙◌, append_assoc}
 use Rattle.serde_json.specs.Data.{Data}
 use Rattle.eds_base.specs.Answering.{◌>>=◌, or_stop}
 use Rattle.eds_base.specs.declared.fault.Step.{Step}

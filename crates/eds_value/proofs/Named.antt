@@ -1,5 +1,5 @@
 -- Containers found by their name, row by row.
-use Rattle.std.proofs.Common.{◌≡◌, ℕ, ◌+◌, List, drop, Bool, true, false, ◌&&◌, if◌then◌else◌, Option, Some, refl, sym, ◌∙◌, ap}
+use Rattle.std.proofs.Common.{◌≡◌, ℕ, ◌+◌, List, drop, Bool, true, false, ◌&&◌, if◌then◌else◌, Option, Some, sym, ◌∙◌, ap}
 use Rattle.std.specs.Prelude.{slice_get}
 use Rattle.eds_base.specs.Reading.{same}
 use Rattle.eds_types.specs.declared.row.TypeRow.{TypeRow}

@@ -4,7 +4,7 @@ use Rattle.std.specs.Prelude.{Bool as Truth}
 use Rattle.std.specs.List.{AllByRecursion}
 use Rattle.eds_base.specs.declared.ids.TypeId.{TypeId}
 use Rattle.eds_types.specs.declared.value.Value.{Value, Num, Bool, Label, Fields, the_lemmas}
-use Rattle.eds_types.specs.Plain.{Plain, num, truth, label, plain, fields, none, more, list_of, plains_of}
+use Rattle.eds_types.specs.Plain.{num, truth, label, plain, fields, none, more, plains_of}
 use Rattle.eds_types.specs.Rows.{Table}
 use Rattle.eds_types.proofs.SameValues.{list_of-plains_of}
 use Rattle.eds_value.specs.Entries.{Entry, entries_along}

@@ -1,12 +1,9 @@
 -- The small table keeps the rules, and is flat.
-use Rattle.std.proofs.Common.{◌≡◌, ℕ, zero, suc, ◌+◌, ◌-◌, ◌^◌, ◌<◌, ◌≤◌, ◌==◌, ℤ, pos, ◌≤ℤ◌, Bool, true, false, cond, List, [], ◌∷◌, ◌++◌, map, length, filter, slice_get, Option, Some, None, refl, sym, ap, subst, ◌∙◌, arith, lit<, lit≤, int_eq}
-use Rattle.std.specs.Prelude.{codes}
+use Rattle.std.proofs.Common.{◌≡◌, ℕ, suc, ◌-◌, ◌^◌, ◌<◌, ◌≤◌, ℤ, pos, ◌≤ℤ◌, Bool, true, false, cond, List, [], ◌∷◌, ◌++◌, map, length, filter, slice_get, Option, Some, None, refl, sym, subst, arith, lit<, lit≤, int_eq}
 use Rattle.std.specs.List.{AllByRecursion, filter_map}
 use Rattle.std.specs.Int.Signed.{≤ℤ_refl}
 use Rattle.std.specs.Cmp.Lexicographic.{bytes_decides}
 use Rattle.std.proofs.lemmas.Bool.Decides.{Decides-int_eq}
-use Rattle.eds_base.specs.declared.spans.Span.{Span}
-use Rattle.eds_base.specs.Spans.{IsWithin}
 use Rattle.eds_base.specs.Reading.{same as same_text}
 use Rattle.eds_bits.specs.declared.forms.IntForm.{IntForm}
 use Rattle.eds_bits.specs.Encodings.{least_by, greatest_by}
@@ -14,10 +11,10 @@ use Rattle.eds_bits.specs.IntForms.{HasNumber}
 use Rattle.eds_types.specs.declared.row.TypeRow.{TypeRow}
 use Rattle.eds_types.specs.declared.row.Constraint.{Constraint}
 use Rattle.eds_types.specs.FlatTables.{IsFlatKind, IsFlatTable}
-use Rattle.eds_types.specs.Rows.{Table, base_in, base_of, container_in, entries_in, trailers_in, constraints_in, constraints_of, own_parts, Placed, placed_from, sequence, chain, chain_within, list_has, derived}
+use Rattle.eds_types.specs.Rows.{Table, base_in, base_of, container_in, entries_in, trailers_in, constraints_in, constraints_of, own_parts, Placed, placed_from, sequence, chain_within, list_has, derived}
 use Rattle.eds_types.specs.Fields.{type_by}
-use Rattle.eds_types.specs.Rules.{IsDomain, IsListing, KindKeeps, IsContainer, IsHollow, IsNested, ItemsNest, PartKeeps, name_of, is_length, ConstraintKeeps, SequenceKeeps, AreDistinct, HasKind, DerivesFrom, KeepsRules}
-use Rattle.eds_types.proofs.ByRows.{AllFrom, by_row, by_number, distinct, distinct_is, derived-le, none_hollow, not_hollow, sequence_past}
+use Rattle.eds_types.specs.Rules.{IsDomain, IsListing, KindKeeps, IsContainer, IsHollow, IsNested, ItemsNest, PartKeeps, name_of, is_length, ConstraintKeeps, SequenceKeeps, HasKind, DerivesFrom, KeepsRules}
+use Rattle.eds_types.proofs.ByRows.{by_row, by_number, distinct, distinct_is, derived-le, none_hollow, not_hollow, sequence_past}
 use Rattle.eds_value.specs.Sample.{Forms, IsBig, AreForms, flag_labels, sample, IsSample}
 
 infixr 20 ◌⊗◌

@@ -1,21 +1,19 @@
 -- The value of the small table has a canonical spelling.
-use Rattle.std.proofs.Common.{◌≡◌, ℕ, zero, suc, ◌+◌, ◌≤◌, ℤ, pos, Bool, true, false, List, [], ◌∷◌, ◌++◌, length, slice_get, Option, Some, None, refl, sym, ap, subst, ◌∙◌, arith, lit≤}
+use Rattle.std.proofs.Common.{◌≡◌, ℕ, suc, pos, true, false, List, [], ◌∷◌, ◌++◌, length, refl, sym, subst, ◌∙◌, lit≤}
 use Rattle.std.specs.Prelude.{codes}
 use Rattle.eds_bits.specs.declared.forms.IntForm.{IntForm}
 use Rattle.eds_bits.specs.declared.forms.BoolForm.{BoolForm}
 use Rattle.eds_bits.specs.Bits.{Bits, unsigned_of}
-use Rattle.eds_bits.specs.Encodings.{number_by, ordered}
 use Rattle.eds_bits.specs.IntForms.{IsNumber}
 use Rattle.eds_bits.specs.Lists.{Has}
 use Rattle.eds_bits.specs.Scalars.{IsBool}
 use Rattle.eds_bits.specs.Style.{canonical}
-use Rattle.eds_types.specs.declared.row.TypeRow.{TypeRow}
 use Rattle.eds_types.specs.Fields.{Field, IsCandidate, IsUnder}
-use Rattle.eds_types.specs.Plain.{Plain, num, label, truth, fields, none, more}
-use Rattle.eds_types.specs.Rows.{Table, chain, chain_within, Placed, container_of, sequence}
+use Rattle.eds_types.specs.Plain.{Plain, num, label, truth, none, more}
+use Rattle.eds_types.specs.Rows.{Table, chain_within, Placed, sequence}
 use Rattle.eds_types.specs.FlatTables.{IsFlatTable}
 use Rattle.eds_types.specs.Sample.{plain_part}
-use Rattle.eds_types.specs.Spelling.{Canon, ContainerSpells, PartsPass, SpellsWithin, State, started, took}
+use Rattle.eds_types.specs.Spelling.{ContainerSpells, PartsPass, SpellsWithin, State, started, took}
 use Rattle.eds_value.specs.Laws.{IsValueOf}
 use Rattle.eds_value.specs.Sample.{AreForms, Forms, IsBig, IsBit, IsSample, sample, sample_word}
 use Rattle.eds_value.proofs.FlatFacts.{flat_chain}

@@ -1,13 +1,13 @@
 -- What is shown of a value is read as that value.
-use Rattle.std.proofs.Common.{◌≡◌, ℕ, zero, suc, ◌+◌, ◌&&◌, ℤ, pos, negsuc, List, [], ◌∷◌, length, map, codes, Bool, true, false, if◌then◌else◌, is_some, Option, Some, None, Result, Ok, Err, refl, sym, ap, ap₂, subst, ◌∙◌, arith}
-use Rattle.std.specs.Prelude.{◌==◌, slice_get, option_map, option_and_then, nat_eq}
+use Rattle.std.proofs.Common.{◌≡◌, ℕ, zero, suc, ◌+◌, ◌&&◌, ℤ, pos, negsuc, List, [], ◌∷◌, length, map, codes, Bool, true, false, is_some, Option, Some, None, Result, Ok, refl, sym, ap, subst, ◌∙◌, arith}
+use Rattle.std.specs.Prelude.{slice_get, option_map}
 use Rattle.std.proofs.lemmas.Bool.{eq-eqb, false_from_ne_true}
-use Rattle.std.specs.List.{AllByRecursion, filter_map}
-use Rattle.serde_json.specs.Data.{Data, number, string, object, Members, no_members, member, put}
+use Rattle.std.specs.List.{filter_map}
+use Rattle.serde_json.specs.Data.{Data, string, object, Members, no_members, put}
 use Rattle.serde_json.specs.Events.{members_len}
-use Rattle.serde_json.specs.Find.{as_integer, as_number, as_str, get, get_member, of_integer}
+use Rattle.serde_json.specs.Find.{as_integer, get_member, of_integer}
 use Rattle.serde_json.proofs.Views.{get_member-put, get_member-put_other}
-use Rattle.eds_base.specs.Answering.{◌>>=◌, or_stop}
+use Rattle.eds_base.specs.Answering.{or_stop}
 use Rattle.eds_base.specs.Reading as reading
 use Rattle.eds_base.specs.Reading.{only, same}
 use Rattle.eds_base.specs.declared.fault.Step.{Step}
@@ -19,17 +19,17 @@ use Rattle.eds_types.specs.declared.row.Container.{Container}
 use Rattle.eds_types.specs.declared.row.Kind.{Kind}
 use Rattle.eds_types.specs.declared.row.Kind.TheVariants as kind
 use Rattle.eds_types.specs.FlatTables.{IsFlatTable, IsFlatKind}
-use Rattle.eds_types.specs.Plain.{Plain, num, label, truth, fields, Plains, list_of, plains_of}
-use Rattle.eds_types.specs.Rows.{Table, base_of, container_of, container_in, concrete_in, entries_of, is_concrete, Placed, sequence}
-use Rattle.eds_types.specs.Rules.{AreDistinct, HasKind, IsScalarKind, KeepsRules, KindKeeps, name_of}
-use Rattle.eds_types.specs.Spelling.{Canon, ContainerSpells, KindSpells, PartsPass, SpellsWithin, started}
+use Rattle.eds_types.specs.Plain.{Plain, num, fields, Plains, list_of, plains_of}
+use Rattle.eds_types.specs.Rows.{Table, base_of, container_of, container_in, concrete_in, entries_of, is_concrete, Placed}
+use Rattle.eds_types.specs.Rules.{AreDistinct, HasKind, KeepsRules, KindKeeps, name_of}
+use Rattle.eds_types.specs.Spelling.{ContainerSpells, KindSpells, PartsPass, SpellsWithin, started}
 use Rattle.eds_types.proofs.SameValues.{plains_of-list_of, same_text-is, text_same}
 use Rattle.eds_value.specs.Entries.{Entry, entries_along}
 use Rattle.eds_value.specs.Laws.{HasNoTypeEntry, IsValueOf, ShownIsRead}
-use Rattle.eds_value.specs.Shape.{scalar, scalar_by, scalar_in, is_container, named_from, container_named, has_so_many, has_each, has_members, container_for, member_value, member_values, or_inside, fields_in, shape, shape_by, shape_in}
-use Rattle.eds_value.specs.Shown.{AreHeld, IsHeld, fields_data, scalar_data, shown, type_name, name_in, with_values}
+use Rattle.eds_value.specs.Shape.{scalar, scalar_by, scalar_in, is_container, named_from, container_named, has_members, container_for, member_value, member_values, fields_in, shape_by, shape_in}
+use Rattle.eds_value.specs.Shown.{AreHeld, scalar_data, shown, type_name, name_in, with_values}
 use Rattle.eds_value.proofs.FlatFacts.{flat_entries, flat_sequence}
-use Rattle.eds_value.proofs.ScalarValues.{IsScalarOf, kind_value, scalar_held}
+use Rattle.eds_value.proofs.ScalarValues.{IsScalarOf, kind_value}
 use Rattle.eds_value.proofs.EntryValues.{AreValues, entries_from, entry_names, flat_along, length-values, parts_values, values_held}
 use Rattle.eds_value.proofs.ShownMembers.{Differ, Lacks, NoneStand, Stand, differ_from, each, kept, members_len-values, stand}
 

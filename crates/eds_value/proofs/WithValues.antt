@@ -1,6 +1,6 @@
 -- Members put one after another.
-use Rattle.std.proofs.Common.{◌≡◌, ℕ, zero, suc, List, [], ◌∷◌, length, map, Bool, true, false, ◌||◌, min, Ordering, Less, Equal, Greater, nat_cmp, String, Global, string_bytes, string_cmp, refl, sym, ◌∙◌, ap, arith}
-use Rattle.std.specs.Prelude.{ℤ, pos, negsuc}
+use Rattle.std.proofs.Common.{◌≡◌, ℕ, List, [], ◌∷◌, length, Bool, true, false, ◌||◌, min, Ordering, Less, Equal, Greater, nat_cmp, String, Global, string_bytes, string_cmp, refl, arith}
+use Rattle.std.specs.Prelude.{pos, negsuc}
 use Rattle.std.specs.Cmp.Lexicographic.{slice_cmp}
 use Rattle.std.specs.Ordering.{match_ordering}
 use Rattle.std.specs.BTreeMap.{insert_entry}

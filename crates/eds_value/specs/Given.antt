@@ -1,5 +1,4 @@
 -- An entry as the code has it.
-use Rattle.std.specs.Prelude.{Option, option_map}
 use Rattle.eds_value.specs.Entries.{Entry}
 use Rattle.eds_value.specs.declared.entry.Entry.{Entry as Given}
 

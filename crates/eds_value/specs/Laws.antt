@@ -1,5 +1,5 @@
 -- What is shown is read as the same value.
-use Rattle.std.specs.Prelude.{◌≡◌, ℕ, List, codes, Some, Ok}
+use Rattle.std.specs.Prelude.{◌≡◌, ℕ, codes, Ok}
 use Rattle.eds_bits.specs.Bits.{Bits}
 use Rattle.eds_types.specs.FlatTables.{IsFlatTable}
 use Rattle.eds_types.specs.Plain.{Plain}

@@ -1,4 +1,3 @@
-use Rattle.std.proofs.Common.{◌∙◌}
 use Rattle.eds_value.proofs.WithValues.{put-insert}
 use Rattle.eds_value.proofs.shown.put_member.Goals as goal
 

@@ -1,10 +1,9 @@
-use Rattle.std.proofs.Common.{◌≡◌, ◌≤◌, ◌∙◌, false, ap, sym, subst, arith, ℕ}
+use Rattle.std.proofs.Common.{◌≡◌, ◌≤◌, ◌∙◌, false, ap, arith}
 use Rattle.std.proofs.lemmas.Str.{is_utf8-from_IsUtf8}
-use Rattle.serde_json.specs.Data.{Data, depth}
+use Rattle.serde_json.specs.Data.{depth}
 use Rattle.serde_json.specs.View.{view}
 use Rattle.serde_json.specs.Written.{has_float, compact_text}
 use Rattle.eds_types.specs.Plain.{plain}
-use Rattle.eds_value.specs.Shown.{shown}
 use Rattle.eds_value.proofs.Depths.{shown_depth, value_read}
 use Rattle.eds_value.proofs.ShownIsRead.{shown_is_read, value_held}
 use Rattle.eds_value.proofs.WithValues.{shown_float}

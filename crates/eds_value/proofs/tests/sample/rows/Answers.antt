@@ -1,4 +1,4 @@
-use Rattle.std.proofs.Common.{◌≡◌, ◌++◌, ◌∙◌, List, [], refl, ap}
+use Rattle.std.proofs.Common.{◌++◌, ◌∙◌, List, [], refl, ap}
 use Rattle.std.specs.Prelude.{codes}
 use Rattle.eds_types.specs.declared.row.Part.{Part}
 use Rattle.eds_types.specs.declared.row.TypeRow.{TypeRow}

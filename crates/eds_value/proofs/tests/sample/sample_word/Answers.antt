@@ -1,5 +1,4 @@
 use Rattle.std.specs.Prelude.{codes, pos, true}
-use Rattle.eds_value.specs.Sample.{IsSample}
 use Rattle.eds_value.proofs.Plains.{three_fields}
 use Rattle.eds_value.proofs.SampleValue.{is_word}
 use Rattle.eds_value.proofs.tests.sample.sample_word.Goals as goal
