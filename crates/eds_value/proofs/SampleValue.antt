@@ -14,7 +14,7 @@ use Rattle.eds_types.specs.Rows.{Table, chain_within, Placed, sequence}
 use Rattle.eds_types.specs.FlatTables.{IsFlatTable}
 use Rattle.eds_types.specs.Sample.{plain_part}
 use Rattle.eds_types.specs.Spelling.{ContainerSpells, PartsPass, SpellsWithin, State, started, took}
-use Rattle.eds_value.specs.Laws.{IsValueOf}
+use Rattle.eds_value.specs.Laws.{IsOfType}
 use Rattle.eds_value.specs.Sample.{AreForms, Forms, IsBig, IsBit, IsSample, sample, sample_word}
 use Rattle.eds_value.proofs.FlatFacts.{flat_chain}
 use Rattle.eds_value.proofs.SampleKeeps.{sample_flat}
@@ -95,9 +95,9 @@ module _ (f : Forms) (is : AreForms f) where
     most_derived = λ l other under candidate. none_derives (sample f) (sample_flat f is) 3 l after_z.fields other under candidate;
   }
 
-  pub word_value : IsValueOf (sample f) 3 sample_word
+  pub word_value : IsOfType (sample f) 3 sample_word
   unfolding SpellsWithin
   word_value = (seven ++ (true ∷ []) ++ off, (_, refl, (3, more (num (pos 7)) (more (truth true) (more (label (codes "OFF")) none)), refl, spells_word)))
 
-pub is_word : (t : Table) (v : Plain) → IsSample t → v ≡ sample_word → IsValueOf t 3 v
-is_word t v s e = subst (λ (u : Table). IsValueOf u 3 v) (sym s.2) (subst (IsValueOf (sample s.0) 3) (sym e) (word_value s.0 s.1))
+pub is_word : (t : Table) (v : Plain) → IsSample t → v ≡ sample_word → IsOfType t 3 v
+is_word t v s e = subst (λ (u : Table). IsOfType u 3 v) (sym s.2) (subst (IsOfType (sample s.0) 3) (sym e) (word_value s.0 s.1))

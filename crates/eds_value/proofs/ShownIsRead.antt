@@ -25,7 +25,7 @@ use Rattle.eds_types.specs.Rules.{AreDistinct, HasKind, KeepsRules, KindKeeps, n
 use Rattle.eds_types.specs.Spelling.{ContainerSpells, KindSpells, PartsPass, SpellsWithin, started}
 use Rattle.eds_types.proofs.SameValues.{plains_of-list_of, same_text-is, text_same}
 use Rattle.eds_value.specs.Entries.{Entry, entries_along}
-use Rattle.eds_value.specs.Laws.{HasNoTypeEntry, IsValueOf, ShownIsRead}
+use Rattle.eds_value.specs.Laws.{HasNoTypeEntry, IsOfType, ShownIsRead}
 use Rattle.eds_value.specs.Shape.{scalar, scalar_by, scalar_in, is_container, named_from, container_named, has_members, container_for, member_value, member_values, fields_in, shape_by, shape_in}
 use Rattle.eds_value.specs.Shown.{AreHeld, scalar_data, shown, type_name, name_in, with_values}
 use Rattle.eds_value.proofs.FlatFacts.{flat_entries, flat_sequence}
@@ -228,7 +228,7 @@ kind_held t n id (kind.Con c) v b rules flat is keeps h =
     subst AreHeld (sym h.2) (values_held t (entries_along t h.0) (list_of h.1) (values_of_container t n id h.0 (list_of h.1) b rules flat h.3).values)
 
 -- a value of a type has only numbers that JSON holds
-pub value_held : (t : Table) (id : ℕ) (v : Plain) → KeepsRules t → IsFlatTable t → IsValueOf t id v → AreHeld v
+pub value_held : (t : Table) (id : ℕ) (v : Plain) → KeepsRules t → IsFlatTable t → IsOfType t id v → AreHeld v
 unfolding SpellsWithin
 value_held t id v rules flat value =
     let row = (value.1).0 in

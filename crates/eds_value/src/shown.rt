@@ -10,7 +10,7 @@ ghost use Rattle.eds_types.specs.Plain.{plain};
 ghost use Rattle.eds_value.specs.Entries.{entries_along as entries_in};
 ghost use Rattle.eds_value.specs.Given.{given};
 ghost use Rattle.eds_value.specs.Json.{value_in};
-ghost use Rattle.eds_value.specs.Laws.{HasNoTypeEntry, IsValueOf};
+ghost use Rattle.eds_value.specs.Laws.{HasNoTypeEntry, IsOfType};
 ghost use Rattle.eds_value.specs.Shown.{AreHeld, IsHeld, fields_data as data_of_fields, scalar_data as data_of_scalar, shown as shown_of, shown_text};
 
 use crate::entry::{Entry, entries_along};
@@ -98,7 +98,8 @@ fn shown(alloc: Global, table: &TypeTable, value: &Value) -> Result<Json, Memory
     }
 }
 
-/// The JSON text of a value of a type, with its members in byte order and without spaces. It is read as that value again.
+/// The JSON text of a value of a type, with its members in byte order and without spaces. Where no entry of the table is
+/// named `$type`, as in every sheet, it is read as that value again.
 pub fn to_json(
     alloc: Global,
     table: &TypeTable,
@@ -107,7 +108,7 @@ pub fn to_json(
 ) -> Result<Octets, Memory>
     requires known { id.0 < length table.now }
     requires flat { IsFlatTable table.now }
-    requires one { IsValueOf table.now id.0 (plain value.now) }
+    requires one { IsOfType table.now id.0 (plain value.now) }
     ensures text { IfOk result (λ o. o ≡ shown_text table.now (plain value.now)) }
     ensures reads_back { HasNoTypeEntry table.now → IfOk result (λ o. value_in table.now id.0 o ≡ Ok (plain value.now)) }
 {

@@ -4,7 +4,7 @@ ghost use Rattle.std.specs.Prelude.{◌≡◌, ◌≤◌, ◌++◌, [], ◌∷�
 ghost use Rattle.eds_types.specs.FlatTables.{IsFlatTable};
 ghost use Rattle.eds_types.specs.Plain.{plain};
 ghost use Rattle.eds_types.specs.Sample.{IsRange, container, label_of, plain_of, row};
-ghost use Rattle.eds_value.specs.Laws.{IsValueOf};
+ghost use Rattle.eds_value.specs.Laws.{IsOfType};
 ghost use Rattle.eds_value.specs.Sample.{IsBig, IsBit, IsSample, flag_labels, sample_word};
 
 use eds_base::{Memory, Spans, Text, TypeId};
@@ -118,7 +118,7 @@ pub fn sample_table(alloc: Global) -> Result<TypeTable, Memory>
 /// A value of `T/Word`.
 pub fn sample_word(alloc: Global, table: &TypeTable) -> Result<Value, Memory>
     requires { IsSample table.now }
-    ensures { IfOk result (λ v. IsValueOf table.now 3 (plain v)) }
+    ensures { IfOk result (λ v. IsOfType table.now 3 (plain v)) }
 {
     let _ = table;
     let label = Text::of(alloc, "OFF")?;
