@@ -1,0 +1,16 @@
+pub mod Slashes
+pub mod Steps
+pub mod Chains
+pub mod Members
+pub mod WithValues
+pub mod Mapped
+pub mod FlatFacts
+pub mod ScalarValues
+pub mod EntryValues
+pub mod ShownMembers
+pub mod ShownIsRead
+pub mod Named
+pub mod Plains
+pub mod Depths
+pub mod SampleKeeps
+pub mod SampleValue
