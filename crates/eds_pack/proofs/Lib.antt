@@ -1,2 +1,5 @@
 pub mod Plains
 pub mod ScalarLaws
+pub mod FlatTypes
+pub mod Sound
+pub mod Passes

@@ -39,7 +39,8 @@ scalar_size (kind.Enum form listing) v = label_size form listing v
 scalar_size (kind.Bool form) v = truth_size form v
 scalar_size k v = Err WrongKind
 
--- ---- the canonical bits of a value of a scalar type: nothing is nested in it
+-- ---- the canonical bits of a value of a scalar type
 
+-- nothing is nested in a scalar, so that the table doesn't matter
 abbrev pub ScalarSpells : Kind → Plain → Bits → Type 0
 ScalarSpells k v b = KindSpells canonical [] (λ id w c. ⊥) 0 k v b
