@@ -1,6 +1,6 @@
 -- Numbers, labels and truth values: their sizes are those of their canonical bits, and their faults are there.
 use Rattle.std.proofs.Common.{◌≡◌, ◌↔◌, ℕ, ℤ, Bool, true, false, cond, List, [], length, Option, Some, None, Result, Ok, Err, refl, sym, ap, subst, ◌∙◌, inl, inr, ◌⊎◌, arith}
-use Rattle.std.specs.Prelude.{IsTrue}
+use Rattle.std.specs.Prelude.{IsTrue, IsOkAnd}
 use Rattle.std.proofs.lemmas.Bool.{cases_Bool, both_ways}
 use Rattle.eds_base.specs.declared.spans.Span.{Span}
 use Rattle.eds_base.specs.Spans.{IsWithin}
@@ -8,6 +8,7 @@ use Rattle.eds_bits.specs.declared.forms.IntForm.{IntForm}
 use Rattle.eds_bits.specs.declared.forms.BoolForm.{BoolForm}
 use Rattle.eds_bits.proofs.FormLaws.{has_canonical}
 use Rattle.eds_bits.specs.Bits.{Bits}
+use Rattle.eds_bits.specs.IntForms.{HasNumber, IsNumber}
 use Rattle.eds_bits.specs.Style.{canonical}
 use Rattle.eds_types.specs.declared.reason.PackReason.{PackReason}
 use Rattle.eds_types.specs.declared.reason.PackReason.TheVariants.{WrongKind, OutOfRange, NoLabel}
@@ -24,6 +25,7 @@ use Rattle.eds_types.proofs.CanonicalPatterns.{bool_exists}
 use Rattle.eds_types.proofs.CanonicalSpelling.{listed_number}
 use Rattle.eds_types.proofs.ReadingTests.{within_from, within_in}
 use Rattle.eds_types.proofs.ScalarPacking.{int_decided, enum_decided, bool_decided}
+use Rattle.eds_codec.specs.Writing.{Written}
 use Rattle.eds_pack.specs.Scalars.{number_size, listed_size, label_size, truth_size, scalar_size, ScalarSpells}
 
 -- a test that holds exactly for the numbers of a set
@@ -159,3 +161,28 @@ module _ (t : Table) (E : ℕ → Plain → Bits → Type 0) (F : ℕ → Plain 
   scalar_faults (kind.Bin m) v r i e = absurd i
   scalar_faults (kind.Arr item m) v r i e = absurd i
   scalar_faults (kind.Con c) v r i e = absurd i
+
+-- ---- a number that is written
+
+module _ (k : Kind) (v : Plain) (form : IntForm) (keeps : KindKeeps k) (P : ℕ → Type 0) (packs : IsOkAnd (scalar_size k v) P) where
+  in_domain : (spans : List Span) (n : ℤ) → k ≡ kind.Int form spans → v ≡ num n → IsWithin spans n
+  in_domain spans n e f = go (is_within spans n) refl (subst (λ w. IsOkAnd (number_size form spans w) P) f (subst (λ q. IsOkAnd (scalar_size q v) P) e packs))
+    where
+      go : (b : Bool) → is_within spans n ≡ b → IsOkAnd (cond b (Ok form.bits) (Err OutOfRange)) P → IsWithin spans n
+      go true w h = within_from spans n w
+      go false w h = absurd h
+
+  -- the form has it
+  pub has_number : (spans : List Span) (n m : ℤ) → k ≡ kind.Int form spans → v ≡ num n → m ≡ n → HasNumber form m
+  has_number spans n m e f same = subst (HasNumber form) (sym same) ((subst KindKeeps e keeps).of_form n (in_domain spans n e f))
+
+  pub has_label : (listing : List (List ℕ × ℤ)) (l : List ℕ) (n m : ℤ) → k ≡ kind.Enum form listing → listed listing l ≡ Some n → m ≡ n → HasNumber form m
+  has_label listing l n m e there same = subst (HasNumber form) (sym same) (listed_number form listing l n (subst KindKeeps e keeps).of_form there)
+
+  -- and its pattern is the value's
+  pub number_written : (spans : List Span) (n m : ℤ) (at : ℕ) (old new : List ℕ) → k ≡ kind.Int form spans → v ≡ num n → m ≡ n → Written (IsNumber canonical form m) at old new → Written (ScalarSpells k v) at old new
+  number_written spans n m at old new e f same w = record {
+    piece = w.piece;
+    spelled = subst (λ q. ScalarSpells q v w.piece) (sym e) (n, f, in_domain spans n e f, subst (λ z. IsNumber canonical form z w.piece) same w.spelled);
+    placed = w.placed;
+  }
