@@ -3,3 +3,4 @@ pub mod ScalarLaws
 pub mod FlatTypes
 pub mod Sound
 pub mod Passes
+pub mod Writing

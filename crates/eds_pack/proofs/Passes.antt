@@ -1,6 +1,6 @@
 -- The passes over a value of any flat type: what is found is a canonical spelling's size, or a fault that is there.
 use Rattle.std.proofs.Common.{◌≡◌, ◌≢◌, ℕ, suc, ◌+◌, ◌<◌, ◌≤◌, Bool, true, false, cond, List, [], ◌∷◌, ◌++◌, length, map, reverse, Option, Some, None, Result, Ok, Err, refl, sym, ap, subst, ◌∙◌, append-nil, arith, ◌⊎◌, inl, inr, nat_le}
-use Rattle.std.specs.Prelude.{slice_get, is_some, IsSome, IsTrue, ◌==◌, ◌&&◌, IfSome, IfOk, IfErr, pos}
+use Rattle.std.specs.Prelude.{slice_get, is_some, IsSome, IsTrue, ◌==◌, ◌&&◌, IfSome, IfOk, IfErr, IsOkAnd, pos}
 use Rattle.std.specs.List.{AllByRecursion, flat_map}
 use Rattle.std.proofs.lemmas.Bool.{cases_Bool, both_ways, and_parts, and_from, eqb-true, eq-eqb, leb-true, leb-false}
 use Rattle.eds_base.specs.declared.fault.Step.{Step}
@@ -18,7 +18,7 @@ use Rattle.eds_types.specs.Failing.{Station, condition, entry, choice, end, late
 use Rattle.eds_types.specs.FlatTables.{IsScalarEntry, IsFlat, IsFlatKind, IsFlatTable}
 use Rattle.eds_types.specs.Fields.{Field, values_of, paired, IsUnder, IsCandidate}
 use Rattle.eds_types.specs.Packing.{Where, here, valued, HasFields, FirstFails, NoSizeFits, ContainerPackFails, KindPackFails, PackFailsWithin, IsTooLong, PackFailsAt, most_bits}
-use Rattle.eds_types.specs.Plain.{Plain, num, label, truth, text, bits, items, fields, Plains, list_of}
+use Rattle.eds_types.specs.Plain.{Plain, num, label, truth, text, bits, items, fields, Plains, list_of, plains_of}
 use Rattle.eds_types.specs.Rows.{Table, id_of, base_of, chain, container_of, container_in, container_by as kind_container, entries_of, concrete_in, is_concrete, constraints_of, placed_entries, placed_trailers, placed_from, sequence}
 use Rattle.eds_types.specs.Rules.{KeepsRules, KindKeeps, IsScalarKind}
 use Rattle.eds_types.specs.Spelling.{State, started, ContainerSpells, SpellsWithin, Canon}
@@ -27,6 +27,7 @@ use Rattle.eds_types.proofs.Ranks.{row_there}
 use Rattle.eds_types.proofs.RuleFacts.{table_of, facts_of}
 use Rattle.eds_types.proofs.PackingLaws.{packs_within}
 use Rattle.eds_pack.proofs.FlatTypes.{flat_of, chain_is, under_self, under_is, concrete_is, entries_is, constraints_none, along_none, sequence_is, entries_valued}
+use Rattle.eds_pack.proofs.Plains.{list_of-plains_of}
 use Rattle.eds_pack.proofs.ScalarLaws.{scalar_long, scalar_exists, scalar_spells, scalar_faults}
 use Rattle.eds_pack.proofs.Sound.{entries_long, entries_exist, Run, entries_run, first_fails}
 use Rattle.eds_pack.specs.declared.fail.PackFail.{PackFail}
@@ -156,6 +157,16 @@ module _ (t : Table) (rules : KeepsRules t) (flat : IsFlatTable t) (m : ℕ) whe
       go : (b : Bool) → (is_some (container_of t k) && (length vs == length (entries_of t k))) ≡ b → cond b (counted_size t id k vs) (Err (here WrongKind)) ≡ Ok n → Sized id k vs n
       go false q e = not_ok n (here WrongKind) e
       go true q e = let p = and_parts (is_some (container_of t k)) (length vs == length (entries_of t k)) q in derived (eqb-true (length vs) (length (entries_of t k)) p.1) (k == id) refl e
+
+  -- the values of a container's fields have the sizes of its entries
+  pub fields_of : (id k : ℕ) (vs : List Plain) (P : ℕ → Type 0) → IsOkAnd (container_size t id (fields k (plains_of vs))) P → (length vs ≡ length (entries_of t id)) × IsOkAnd (fields_size t id 0 0 (entries_of t id) vs) P
+  fields_of id k vs P h = go (own_size t id k vs) refl (subst (λ ws. IsOkAnd (own_size t id k ws) P) (list_of-plains_of vs) h)
+    where
+      go : (r : Result ℕ Where) → own_size t id k vs ≡ r → IsOkAnd r P → (length vs ≡ length (entries_of t id)) × IsOkAnd (fields_size t id 0 0 (entries_of t id) vs) P
+      go (Ok n) e h =
+          let z = own_sized id k vs n e in
+          (z.count ∙ ap (λ x. length (entries_of t x)) z.own, subst (λ r. IsOkAnd r P) (sym (subst (λ x. fields_size t x 0 0 (entries_of t x) vs ≡ Ok n) z.own z.size)) h)
+      go (Err g) e h = absurd h
 
   -- ---- a value of a container type
 

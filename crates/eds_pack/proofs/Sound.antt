@@ -74,7 +74,7 @@ module _ (t : Table) (rules : KeepsRules t) where
   entry_of (part.Length name id c0 c1) v h = absurd h
   entry_of (part.Check name id k) v h = absurd h
 
-  entry_long : (p : Part) (v : Plain) (b : Bits) (n : ℕ) → IsScalarEntry t p → EntrySpells t p v b → entry_size t p v ≡ Ok n → length b ≡ n
+  pub entry_long : (p : Part) (v : Plain) (b : Bits) (n : ℕ) → IsScalarEntry t p → EntrySpells t p v b → entry_size t p v ≡ Ok n → length b ≡ n
   entry_long p v b n h s e = let y = entry_of p v h in scalar_long (y.row).kind v b n y.scalar (y.spelled b s) (sym y.size ∙ e)
 
   entry_exists : (p : Part) (v : Plain) (n : ℕ) → IsScalarEntry t p → entry_size t p v ≡ Ok n → (b : Bits) × EntrySpells t p v b

@@ -3,6 +3,7 @@
 
 mod fail;
 mod fields;
+mod room;
 mod scalar;
 mod size;
 

@@ -106,6 +106,7 @@ pub(crate) fn write_scalar(kind: &Kind, value: &Value, room: &mut [u8], at: u64)
     requires fits { IsOkAnd (scalar_size_of kind.now (plain value.now)) (λ n. at + n ≤ 8 * length room.old) }
     ensures written { Written (ScalarSpells kind.now (plain value.now)) at room.old room.new }
     ensures size { scalar_size_of kind.now (plain value.now) ≡ Ok result }
+    ensures bound { result ≤ 64 }
 {
     match kind {
         Kind::Int(form, _) => match value {
