@@ -4,3 +4,5 @@ pub mod FlatTypes
 pub mod Sound
 pub mod Passes
 pub mod Writing
+pub mod Filling
+pub mod Rooms

@@ -279,6 +279,18 @@ module _ (t : Table) (id : ℕ) (is : IsThere t id) (flat : IsFlatTable t) where
   value_faults : (v : Plain) (g : Where) → value_size t id v ≡ Err g → PackFailsWithin 32 t id v g
   value_faults v g e = faults_within t is.rules flat 30 id the_row.0 the_row.1 v g e
 
+  -- a value that packs has its size
+  pub value_packs : OneCanonical → (v : Plain) (n : ℕ) → Packs t id v n → value_size t id v ≡ Ok n
+  value_packs one v n p = go (value_size t id v) refl
+    where
+      go : (r : Result ℕ Where) → value_size t id v ≡ r → r ≡ Ok n
+      go (Ok x) e = let h = value_exists v x e in ap Ok (sym h.2 ∙ ap length (one t id is v h.0 p.0 h.1 p.1) ∙ p.2)
+      go (Err g) e = absurd ((packs_within t (table_of t is.rules) (facts_of t is.rules) 32 id ((table_of t is.rules).nested id) is.there v).apart p.0 g p.1 (value_faults v g e))
+
+  -- and what the second pass writes is each canonical spelling of it
+  pub piece_is : OneCanonical → (v : Plain) (n : ℕ) → Packs t id v n → (piece : Bits) → ValueSpells t id v piece → (b : Bits) → Canon t id v b → (piece ≡ b) × (length b ≡ n)
+  piece_is one v n p piece s b c = (one t id is v piece b (value_spells v n piece (value_packs one v n p) s).0 c, ap length (one t id is v b p.0 c p.1) ∙ p.2)
+
   -- what the first pass finds is there
   abbrev pub Found : Plain → Result ℕ Where → Type 0
   Found v (Ok n) = Packs t id v n

@@ -1,8 +1,7 @@
 //! Where a value doesn't pack, and why.
 
 ghost use Rattle.std.specs.Prelude.{◌≡◌, [], ◌∷◌};
-ghost use Rattle.eds_base.specs.declared.fault.Step.{Step};
-ghost use Rattle.eds_pack.specs.Packs.{fail_at};
+ghost use Rattle.eds_pack.specs.Packs.{fail_at, no_room as no_room_of};
 
 use eds_base::{Path, Step};
 use eds_types::PackReason;
@@ -38,6 +37,17 @@ impl PackFail {
             reason,
             path,
             need: 0,
+        }
+    }
+
+    /// The fault of a room that is too small: so many octets are needed.
+    pub(crate) fn no_room(octets: u32) -> PackFail
+        ensures { result ≡ no_room_of octets }
+    {
+        PackFail {
+            reason: PackReason::Room,
+            path: Path::root(),
+            need: octets,
         }
     }
 }

@@ -8,4 +8,5 @@ mod scalar;
 mod size;
 
 pub use fail::PackFail;
+pub use room::pack_into;
 pub use size::packed_bits;
