@@ -107,9 +107,13 @@ module _ (t : Table) (rules : KeepsRules t) (flat : IsFlatTable t) (m : ℕ) whe
     }
 
     pub fields_fail : (vs : List Plain) (g : Where) → length vs ≡ length (entries_of t k) → fields_size t k 0 0 (entries_of t k) vs ≡ Err g → ContainerPackFails t C F k k vs g
-    fields_fail vs g l e = inr (inr (inr (has_fields vs l, under_self t rules k c there is_flat, concrete_is t rules k c there is_flat,
-        subst (λ ss. FirstFails t F fs NoSize (course t k k) k ss g) (sym course_is)
-        (first_fails t rules m fs NoSize (course t k k) k (entries_of t k) vs k 0 0 [] rest g scalars l tt (ap (λ ps. paired ps vs) (sequence_is t rules k c there is_flat)) e))))
+    fields_fail vs g l e = inr (inr (inr (
+      has_fields vs l,
+      under_self t rules k c there is_flat,
+      concrete_is t rules k c there is_flat,
+      subst (λ ss. FirstFails t F fs NoSize (course t k k) k ss g) (sym course_is)
+          (first_fails t rules m fs NoSize (course t k k) k (entries_of t k) vs k 0 0 [] rest g scalars l tt (ap (λ ps. paired ps vs) (sequence_is t rules k c there is_flat)) e),
+    )))
       where
         fs : List Field
         fs = paired (sequence t k) vs
@@ -178,9 +182,10 @@ module _ (t : Table) (rules : KeepsRules t) (flat : IsFlatTable t) (m : ℕ) whe
     container_spells (fields k f) n b e s =
         let z = own_sized id k (list_of f) n e in
         let l = z.count ∙ ap (λ x. length (entries_of t x)) z.own in
-        let size = subst (λ x. fields_size t x 0 0 (entries_of t x) (list_of f) ≡ Ok n) z.own z.size in
-        ((k, f, refl, subst (λ x. ContainerSpells canonical t C id x (list_of f) b) (sym z.own) (spelt id c there (list_of f) b l s)),
-        (let long = entries_long t rules (entries_of t id) (list_of f) b id 0 0 n (scalars id c there) s size in omega arith))
+        let size = subst (λ x. fields_size t x 0 0 (entries_of t x) (list_of f) ≡ Ok n) z.own z.size in (
+          (k, f, refl, subst (λ x. ContainerSpells canonical t C id x (list_of f) b) (sym z.own) (spelt id c there (list_of f) b l s)),
+          (let long = entries_long t rules (entries_of t id) (list_of f) b id 0 0 n (scalars id c there) s size in omega arith),
+        )
     container_spells v n b e s = not_ok n (here WrongKind) e
 
     container_exists : (v : Plain) (n : ℕ) → container_size t id v ≡ Ok n → (b : Bits) × FieldsSpell t id v b

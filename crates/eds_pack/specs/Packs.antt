@@ -1,5 +1,7 @@
 -- What packing a value comes to.
 use Rattle.std.specs.Prelude.{◌≡◌, ℕ, ◌≤◌, ◌<◌, [], length}
+use Rattle.eds_base.specs.declared.fail.Fail.{Fail}
+use Rattle.eds_base.specs.declared.fail.Fail.TheVariants.{Named, Memory}
 use Rattle.eds_bits.specs.Bits.{Bits, octets_for}
 use Rattle.eds_pack.specs.declared.fail.PackFail.{PackFail}
 use Rattle.eds_types.specs.declared.reason.PackReason.TheVariants.{Room}
@@ -30,3 +32,8 @@ pub record LacksRoom (t : Table) (id : ℕ) (v : Plain) (octets : ℕ) (f : Pack
   pub packs : Packs t id v bits
   pub short : octets < octets_for bits
   pub is : f ≡ no_room (octets_for bits)
+
+-- where a cause is named, it is P
+abbrev pub IfNamed : {E : Type 0} → (E → Type 0) → Fail E → Type 0
+IfNamed P (Named f) = P f
+IfNamed P Memory = Unit {0}

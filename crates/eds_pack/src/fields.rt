@@ -9,8 +9,8 @@ ghost use Rattle.eds_types.specs.Rows.{entries_of};
 ghost use Rattle.eds_pack.specs.Sizes.{given, entry_size as entry_size_of, fields_size as fields_size_of, own_size as own_size_of, container_size as container_size_of};
 ghost use Rattle.eds_pack.specs.Written.{EntrySpells, EntriesSpell, FieldsSpell};
 
-use crate::scalar::{scalar_size, write_scalar};
 use crate::PackFail;
+use crate::scalar::{scalar_size, write_scalar};
 use eds_base::{Step, TypeId};
 use eds_types::{PackReason, Part, TypeTable, Value};
 
@@ -50,12 +50,7 @@ fn fields_size(
 
 // How many bits the fields of the container `own` have where the type `id` is packed, or the first fault.
 #[tactic(auto, using(crate::proofs::Plains::length_plains))]
-fn own_size(
-    table: &TypeTable,
-    id: TypeId,
-    own: TypeId,
-    values: &[Value],
-) -> Result<u32, PackFail>
+fn own_size(table: &TypeTable, id: TypeId, own: TypeId, values: &[Value]) -> Result<u32, PackFail>
     requires { IsFlatTable table.now }
     ensures { result ≡ given (own_size_of table.now id.0 own.0 (map plain values.now)) }
 {
@@ -70,11 +65,7 @@ fn own_size(
 }
 
 /// How many bits a value of a container type has, or the first fault.
-pub(crate) fn container_size(
-    table: &TypeTable,
-    id: TypeId,
-    value: &Value,
-) -> Result<u32, PackFail>
+pub(crate) fn container_size(table: &TypeTable, id: TypeId, value: &Value) -> Result<u32, PackFail>
     requires { IsFlatTable table.now }
     ensures { result ≡ given (container_size_of table.now id.0 (plain value.now)) }
 {

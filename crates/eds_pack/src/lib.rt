@@ -3,10 +3,12 @@
 
 mod fail;
 mod fields;
+mod octets;
 mod room;
 mod scalar;
 mod size;
 
 pub use fail::PackFail;
+pub use octets::pack;
 pub use room::pack_into;
-pub use size::packed_bits;
+pub use size::{conforms, packed_bits};

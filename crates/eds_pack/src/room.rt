@@ -45,8 +45,9 @@ fn fill(room: &mut [u8], at: u32)
     put(room, u64::from(at), zeros, 0);
 }
 
-// Writes a value, which packs into so many bits, and fills the last octet that is begun with zeros.
-fn write_whole(table: &TypeTable, id: TypeId, value: &Value, size: u32, room: &mut [u8])
+/// Writes a value, which packs into so many bits, from the first bit of the room on, and
+/// fills the last octet that is begun with zeros.
+pub(crate) fn write_whole(table: &TypeTable, id: TypeId, value: &Value, size: u32, room: &mut [u8])
     requires known { id.0 < length table.now }
     requires flat { IsFlatTable table.now }
     requires packs { Packs table.now id.0 (plain value.now) size }

@@ -1,15 +1,15 @@
 //! The first pass: how many bits a value has, or why it doesn't pack.
 
-ghost use Rattle.std.specs.Prelude.{◌≡◌, ◌<◌, ℕ, Ok, Err, length, IfOk, IfErr};
+ghost use Rattle.std.specs.Prelude.{◌≡◌, ◌↔◌, ◌<◌, ℕ, Ok, Err, length, IfOk, IfErr, IsTrue};
 ghost use Rattle.eds_types.specs.FlatTables.{IsFlatTable};
 ghost use Rattle.eds_types.specs.Packing.{Where, PackFailsAt};
 ghost use Rattle.eds_types.specs.Plain.{plain};
 ghost use Rattle.eds_pack.specs.Packs.{Packs, where_of, fail_at};
 ghost use Rattle.eds_pack.specs.Sizes.{given, value_size as value_size_of, packed_size as packed_size_of};
 
+use crate::PackFail;
 use crate::fields::container_size;
 use crate::scalar::scalar_size;
-use crate::PackFail;
 use eds_base::TypeId;
 use eds_overlap::law;
 use eds_types::{Kind, PackReason, TypeTable, Value};
@@ -57,4 +57,13 @@ pub fn packed_bits(table: &TypeTable, id: TypeId, value: &Value) -> Result<u32, 
     law::packing_is_decided();
     law::canonical_spelling();
     packed_size(table, id, value)
+}
+
+/// Whether a value packs as a type.
+pub fn conforms(table: &TypeTable, id: TypeId, value: &Value) -> bool
+    requires known { id.0 < length table.now }
+    requires flat { IsFlatTable table.now }
+    ensures { IsTrue result ↔ ((n : ℕ) × Packs table.now id.0 (plain value.now) n) }
+{
+    packed_bits(table, id, value).is_ok()
 }
