@@ -6,3 +6,4 @@ pub mod Passes
 pub mod Writing
 pub mod Filling
 pub mod Rooms
+pub mod SampleKeeps

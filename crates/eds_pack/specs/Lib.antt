@@ -2,3 +2,4 @@ pub mod Packs
 pub mod Scalars
 pub mod Sizes
 pub mod Written
+pub mod FlatSample
