@@ -10,9 +10,7 @@ ghost use Rattle.eds_pack.specs.FlatSample.{IsNumbers, IsGiven, int, flat_sample
 
 use eds_base::{Memory, Spans, Text, TypeId};
 use eds_bits::{BoolForm, ByteOrder, Encoding, IntForm};
-use eds_types::{
-    Constraints, Container, Kind, Listing, Part, Parts, TypeRow, TypeRows, TypeTable,
-};
+use eds_types::{Constraints, Container, Kind, Listing, Part, Parts, TypeRow, TypeRows, TypeTable};
 use std::alloc::Global;
 
 /// An integer type's form and domain.
@@ -144,7 +142,12 @@ fn rows_of(alloc: Global, given: Given) -> Result<TypeRows, Memory>
     push_row(alloc, &mut rows, "Flat/U4", integer(given.nibble))?;
     push_row(alloc, &mut rows, "Flat/U12", integer(given.rest))?;
     let modes = labels(alloc, &[("SAFE", 9), ("RUN", 2)])?;
-    push_row(alloc, &mut rows, "Flat/Mode", Kind::Enum(given.mode.form, modes))?;
+    push_row(
+        alloc,
+        &mut rows,
+        "Flat/Mode",
+        Kind::Enum(given.mode.form, modes),
+    )?;
     let word = container_of(alloc, &[("a", 5), ("b", 6)])?;
     push_row(alloc, &mut rows, "Flat/Word", word)?;
     let state = container_of(alloc, &[("mode", 7), ("level", 0)])?;

@@ -114,7 +114,7 @@ pub(crate) fn write_scalar(kind: &Kind, value: &Value, room: &mut [u8], at: u64)
             _ => unreachable!(),
         },
         Kind::Enum(form, listing) => match value {
-            Value::Label(label) => match number_of(listing.as_slice(), label.as_str()) {
+            Value::Label(name) => match number_of(listing.as_slice(), name.as_str()) {
                 Some(number) => write_number(*form, number, room, at),
                 None => unreachable!(),
             },

@@ -14,7 +14,7 @@ write_number-requires-clause-has c =
 
 pub write_number-requires-in-Some-clause-has : goal.write_number-requires-in-Some-clause-has
 write_number-requires-in-Some-clause-has c =
-    has_label c.args.kind.now (plain c.args.value.now) c.in-Enum.form c.requires.keeps _ c.requires.fits c.in-Enum.listing c.in-Label.label c.in-Some.number _ c.in-Enum.is
+    has_label c.args.kind.now (plain c.args.value.now) c.in-Enum.form c.requires.keeps _ c.requires.fits c.in-Enum.listing c.in-Label.name c.in-Some.number _ c.in-Enum.is
     (ap (listed c.in-Enum.listing) (sym c.as_str.ensures) ∙ ap (λ xs. listed xs c.as_str.result.now) (sym c.as_slice.ensures) ∙ sym c.number_of.ensures ∙ c.in-Some.is) (to_z-of_z w128 c.in-Some.number (search rules))
 
 pub returns-in-Num-clause-written : goal.returns-in-Num-clause-written
