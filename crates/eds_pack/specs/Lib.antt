@@ -1,0 +1,5 @@
+pub mod Packs
+pub mod Scalars
+pub mod Sizes
+pub mod Written
+pub mod FlatSample
