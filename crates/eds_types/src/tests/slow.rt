@@ -5,7 +5,7 @@ ghost use Rattle.std.specs.Prelude.{◌≤◌};
 use crate::slow::{Slow, Spelling, bits_of, check_of, is_pattern, is_truth, numbers_of, pattern};
 use crate::{
     Constraint, Constraints, Container, EntryPath, Kind, Listing, Part, Parts, TypeRow, TypeRows,
-    Value, sample_table,
+    TypeTable, Value, sample_table,
 };
 use eds_base::{Memory, Spans, Text, TypeId};
 use eds_bits::{
@@ -717,32 +717,47 @@ fn texts_end_at_their_termination_octet(rt: HostRuntime) -> Result<(), Fail> {
     Ok(())
 }
 
+fn has_same_parts(
+    rt: &impl Abort,
+    slow: &Slow,
+    table: &TypeTable,
+    alloc: Global,
+    id: TypeId,
+) -> Result<(), Memory> {
+    let sequence = table.sequence_of(alloc, id)?;
+    let parts = slow.sequence(id)?;
+    assert_eq!(rt; parts.len(), sequence.len(), "{id:?}");
+    for (placed, place) in parts.iter().zip(sequence.as_slice()) {
+        assert_eq!(rt; placed.container, place.0, "{id:?}");
+        assert_eq!(rt; placed.place, place.1 as usize, "{id:?}");
+    }
+    Ok(())
+}
+
 #[test]
-fn a_table_has_the_same_chains_sequences_and_least_sizes(rt: HostRuntime) -> Result<(), Fail> {
+fn a_table_has_the_same_chains_and_sequences(rt: HostRuntime) -> Result<(), Memory> {
     let alloc = rt.alloc();
     let table = sample_table(alloc)?;
     let slow = Slow::of_table(alloc, &table, Spelling::Any);
     for number in 0..16u32 {
         let id = TypeId(number);
         assert_eq!(rt; slow.is_concrete(id), table.is_concrete(id), "{number}");
-        assert_eq!(rt;
-            slow.chain(id)?.as_slice(),
-            table.chain_of(id).as_slice(),
-            "{number}"
-        );
-        let sequence = table.sequence_of(alloc, id)?;
-        let parts = slow.sequence(id)?;
-        assert_eq!(rt; parts.len(), sequence.len(), "{number}");
-        for (placed, place) in parts.iter().zip(sequence.as_slice()) {
-            assert_eq!(rt; placed.container, place.0, "{number}");
-            assert_eq!(rt; placed.place, place.1 as usize, "{number}");
-        }
+        let chain = slow.chain(id)?;
+        assert_eq!(rt; chain.as_slice(), table.chain_of(id).as_slice(), "{number}");
+        has_same_parts(&rt, &slow, &table, alloc, id)?;
     }
-    for (id, bits) in [(0, 3), (1, 1), (5, 2), (13, 4)] {
+    Ok(())
+}
+
+#[test]
+fn no_value_is_spelled_by_fewer_bits_than_the_least_size(rt: HostRuntime) -> Result<(), Fail> {
+    let alloc = rt.alloc();
+    let table = sample_table(alloc)?;
+    for (id, bits, less) in [(0, 3, 2), (1, 1, 0), (5, 2, 1), (13, 4, 3)] {
         assert_eq!(rt; table.min_bits(TypeId(id)) as usize, bits, "{id}");
         let found = census(&rt, table.rows(), alloc, TypeId(id), bits)?;
         assert_eq!(rt; found, (patterns(bits), patterns(bits)), "{id}");
-        let shorter = census(&rt, table.rows(), alloc, TypeId(id), bits.saturating_sub(1))?;
+        let shorter = census(&rt, table.rows(), alloc, TypeId(id), less)?;
         assert_eq!(rt; shorter, (0, 0), "{id}");
     }
     Ok(())
