@@ -1,8 +1,7 @@
 -- Flat tables: what the entries of their containers are, and how a container lies in its table.
-use Rattle.std.proofs.Common.{◌≡◌, ◌≢◌, ℕ, ◌+◌, Bool, true, false, List, [], ◌∷◌, ◌++◌, length, map, reverse, Option, Some, None, refl, sym, ap, subst, ◌∙◌, append-nil, arith, inl, inr}
-use Rattle.std.specs.Prelude.{slice_get, IsTrue, IsSome, not}
+use Rattle.std.proofs.Common.{◌≡◌, ℕ, ◌+◌, true, List, [], ◌∷◌, ◌++◌, length, reverse, Option, Some, None, refl, sym, ap, subst, ◌∙◌, append-nil, arith}
+use Rattle.std.specs.Prelude.{slice_get, not}
 use Rattle.std.specs.List.{AllByRecursion, flat_map}
-use Rattle.eds_bits.specs.Lists.{Has}
 use Rattle.eds_types.specs.declared.row.TypeRow.{TypeRow}
 use Rattle.eds_types.specs.declared.row.Kind.{Kind}
 use Rattle.eds_types.specs.declared.row.Kind.TheVariants as kind
@@ -12,7 +11,7 @@ use Rattle.eds_types.specs.declared.row.Part.TheVariants as part
 use Rattle.eds_types.specs.FlatTables.{IsScalarEntry, IsFlat, IsFlatKind, IsFlatTable}
 use Rattle.eds_types.specs.Fields.{has_value, IsUnder, constraints_along}
 use Rattle.eds_types.specs.Packing.{valued}
-use Rattle.eds_types.specs.Rows.{Table, base_of, container_by, container_in, container_of, entries_in, entries_of, trailers_of, constraints_of, concrete_in, is_concrete, chain, chain_before, chain_within, Placed, placed_from, placed_entries, placed_trailers, sequence}
+use Rattle.eds_types.specs.Rows.{Table, base_of, container_by, container_in, container_of, entries_in, entries_of, trailers_of, constraints_of, concrete_in, is_concrete, chain, placed_from, placed_entries, placed_trailers, sequence}
 use Rattle.eds_types.specs.Rules.{KeepsRules}
 use Rattle.eds_types.proofs.ChainLaws.{chain_step}
 use Rattle.eds_types.proofs.RuleFacts.{table_of}

@@ -1,9 +1,8 @@
 -- The passes over a value of any flat type: what is found is a canonical spelling's size, or a fault that is there.
-use Rattle.std.proofs.Common.{◌≡◌, ◌≢◌, ℕ, suc, ◌+◌, ◌<◌, ◌≤◌, Bool, true, false, cond, List, [], ◌∷◌, ◌++◌, length, map, reverse, Option, Some, None, Result, Ok, Err, refl, sym, ap, subst, ◌∙◌, append-nil, arith, ◌⊎◌, inl, inr, nat_le}
-use Rattle.std.specs.Prelude.{slice_get, is_some, IsSome, IsTrue, ◌==◌, ◌&&◌, IfSome, IfOk, IfErr, IsOkAnd, pos}
+use Rattle.std.proofs.Common.{◌≡◌, ◌≢◌, ℕ, suc, Bool, true, false, cond, List, [], ◌∷◌, ◌++◌, length, map, reverse, Option, Some, None, Result, Ok, Err, refl, sym, ap, subst, ◌∙◌, append-nil, arith, inl, inr, nat_le}
+use Rattle.std.specs.Prelude.{slice_get, is_some, ◌==◌, ◌&&◌, IfSome, IfOk, IfErr, IsOkAnd, pos}
 use Rattle.std.specs.List.{AllByRecursion, flat_map}
-use Rattle.std.proofs.lemmas.Bool.{cases_Bool, both_ways, and_parts, and_from, eqb-true, eq-eqb, leb-true, leb-false}
-use Rattle.eds_base.specs.declared.fault.Step.{Step}
+use Rattle.std.proofs.lemmas.Bool.{both_ways, and_parts, and_from, eqb-true, eq-eqb, leb-true, leb-false}
 use Rattle.eds_base.specs.declared.fault.Step.TheVariants as step
 use Rattle.eds_bits.specs.Bits.{Bits, octets_for}
 use Rattle.eds_bits.specs.Style.{canonical}
@@ -13,27 +12,26 @@ use Rattle.eds_types.specs.declared.row.TypeRow.{TypeRow}
 use Rattle.eds_types.specs.declared.row.Kind.{Kind}
 use Rattle.eds_types.specs.declared.row.Kind.TheVariants as kind
 use Rattle.eds_types.specs.declared.row.Container.{Container}
-use Rattle.eds_types.specs.declared.row.Part.{Part}
 use Rattle.eds_types.specs.Failing.{Station, condition, entry, choice, end, later, own, chain_under, course}
 use Rattle.eds_types.specs.FlatTables.{IsScalarEntry, IsFlat, IsFlatKind, IsFlatTable}
-use Rattle.eds_types.specs.Fields.{Field, values_of, paired, IsUnder, IsCandidate}
-use Rattle.eds_types.specs.Packing.{Where, here, valued, HasFields, FirstFails, NoSizeFits, ContainerPackFails, KindPackFails, PackFailsWithin, IsTooLong, PackFailsAt, most_bits}
-use Rattle.eds_types.specs.Plain.{Plain, num, label, truth, text, bits, items, fields, Plains, list_of, plains_of}
-use Rattle.eds_types.specs.Rows.{Table, id_of, base_of, chain, container_of, container_in, container_by as kind_container, entries_of, concrete_in, is_concrete, constraints_of, placed_entries, placed_trailers, placed_from, sequence}
+use Rattle.eds_types.specs.Fields.{Field, paired, IsUnder, IsCandidate}
+use Rattle.eds_types.specs.Packing.{Where, here, valued, HasFields, FirstFails, NoSizeFits, ContainerPackFails, KindPackFails, PackFailsWithin, PackFailsAt, most_bits}
+use Rattle.eds_types.specs.Plain.{Plain, fields, list_of, plains_of}
+use Rattle.eds_types.specs.Rows.{Table, id_of, base_of, chain, container_of, container_in, container_by as kind_container, entries_of, concrete_in, placed_entries, placed_trailers, placed_from, sequence}
 use Rattle.eds_types.specs.Rules.{KeepsRules, KindKeeps, IsScalarKind}
-use Rattle.eds_types.specs.Spelling.{State, started, ContainerSpells, SpellsWithin, Canon}
+use Rattle.eds_types.specs.Spelling.{started, ContainerSpells, SpellsWithin, Canon}
 use Rattle.eds_types.specs.Spelling.{KindSpells as KindSpelt}
 use Rattle.eds_types.proofs.Ranks.{row_there}
 use Rattle.eds_types.proofs.RuleFacts.{table_of, facts_of}
 use Rattle.eds_types.proofs.PackingLaws.{packs_within}
 use Rattle.eds_pack.proofs.FlatTypes.{flat_of, chain_is, under_self, under_is, concrete_is, entries_is, constraints_none, along_none, sequence_is, entries_valued}
 use Rattle.eds_pack.proofs.Plains.{list_of-plains_of}
-use Rattle.eds_pack.proofs.ScalarLaws.{scalar_long, scalar_exists, scalar_spells, scalar_faults}
+use Rattle.eds_pack.proofs.ScalarLaws.{scalar_long, scalar_exists, scalar_faults}
 use Rattle.eds_pack.proofs.Sound.{entries_long, entries_exist, Run, entries_run, first_fails}
 use Rattle.eds_pack.specs.declared.fail.PackFail.{PackFail}
 use Rattle.eds_pack.specs.Packs.{Packs, where_of, fail_at}
 use Rattle.eds_overlap.specs.Laws.{IsThere, PacksOrFails, OneCanonical}
-use Rattle.eds_pack.specs.Scalars.{scalar_size, ScalarSpells}
+use Rattle.eds_pack.specs.Scalars.{scalar_size}
 use Rattle.eds_pack.specs.Sizes.{fields_size, counted_size, own_size, container_size, at_whole, kind_size, size_in, value_size, not_long, packed_size, given}
 use Rattle.eds_pack.specs.Written.{EntriesSpell, FieldsSpell, KindSpells, TypeSpells, ValueSpells}
 

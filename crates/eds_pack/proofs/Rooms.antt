@@ -1,5 +1,5 @@
 -- A room that is large enough, or too small.
-use Rattle.std.proofs.Common.{◌≡◌, ℕ, ◌/◌, ◌+◌, ◌<◌, ◌≤◌, ◌↔◌, Bool, List, ◌++◌, length, take, drop, replicate, Result, Ok, Err, refl, sym, ap, ◌∙◌, append-nil, arith}
+use Rattle.std.proofs.Common.{◌≡◌, ℕ, ◌<◌, ◌≤◌, ◌↔◌, Bool, List, ◌++◌, length, take, drop, replicate, Result, Ok, Err, ap, ◌∙◌, append-nil, arith}
 use Rattle.std.specs.Prelude.{IsTrue, IfOk, is_ok}
 use Rattle.std.proofs.lemmas.Bool.{both_ways}
 use Rattle.std.proofs.lemmas.List.{take_at, drop_all, length-replicate}

@@ -1,6 +1,6 @@
 -- The small table keeps the rules, and it is flat.
-use Rattle.std.proofs.Common.{◌≡◌, ℕ, zero, suc, ◌+◌, ◌<◌, ◌≤◌, ◌==◌, ℤ, pos, ◌≤ℤ◌, Bool, true, false, cond, List, [], ◌∷◌, ◌++◌, map, length, filter, slice_get, Option, Some, None, Result, Ok, Err, ◌⊎◌, inl, inr, refl, sym, ap, subst, ◌∙◌, arith, lit<, lit≤, int_eq}
-use Rattle.std.specs.Prelude.{codes, IfOk}
+use Rattle.std.proofs.Common.{◌≡◌, ℕ, ◌<◌, ◌≤◌, ◌==◌, ℤ, pos, ◌≤ℤ◌, Bool, true, false, cond, List, [], ◌++◌, map, length, filter, slice_get, Option, Some, None, Result, Ok, Err, ◌⊎◌, inl, inr, refl, sym, subst, arith, lit<, lit≤, int_eq}
+use Rattle.std.specs.Prelude.{IfOk}
 use Rattle.std.specs.List.{AllByRecursion, filter_map}
 use Rattle.std.specs.Int.Signed.{≤ℤ_refl}
 use Rattle.std.specs.Cmp.Lexicographic.{bytes_decides}
@@ -18,11 +18,11 @@ use Rattle.eds_bits.specs.IntForms.{HasNumber}
 use Rattle.eds_types.specs.declared.row.TypeRow.{TypeRow}
 use Rattle.eds_types.specs.declared.row.Constraint.{Constraint}
 use Rattle.eds_types.specs.FlatTables.{IsFlatKind, IsFlatTable}
-use Rattle.eds_types.specs.Rows.{Table, base_in, base_of, container_in, entries_in, trailers_in, constraints_in, constraints_of, id_of, own_parts, Placed, placed_from, sequence, chain_within}
+use Rattle.eds_types.specs.Rows.{Table, base_in, base_of, container_in, entries_in, trailers_in, constraints_in, constraints_of, own_parts, Placed, placed_from, sequence, chain_within}
 use Rattle.eds_types.specs.Fields.{type_by}
-use Rattle.eds_types.specs.Rules.{IsDomain, IsListing, KindKeeps, HasKind, IsContainer, IsHollow, DerivesFrom, IsNested, ItemsNest, PartKeeps, name_of, is_length, ConstraintKeeps, SequenceKeeps, AreDistinct, KeepsRules}
+use Rattle.eds_types.specs.Rules.{IsDomain, IsListing, KindKeeps, HasKind, IsContainer, IsHollow, DerivesFrom, IsNested, ItemsNest, PartKeeps, name_of, is_length, ConstraintKeeps, SequenceKeeps, KeepsRules}
 use Rattle.eds_types.specs.Sample.{IsRange}
-use Rattle.eds_types.proofs.ByRows.{AllFrom, by_row, by_number, distinct, distinct_is, derived-le, none_hollow, not_hollow, sequence_past}
+use Rattle.eds_types.proofs.ByRows.{by_row, by_number, distinct, distinct_is, derived-le, none_hollow, not_hollow, sequence_past}
 use Rattle.eds_types.specs.Rows.{derived}
 use Rattle.eds_pack.specs.declared.sample.Numbers.{Numbers}
 use Rattle.eds_pack.specs.declared.sample.Given.{Given}

@@ -1,33 +1,25 @@
 -- What the passes find and write is so: the bits of the fields are a canonical spelling, and a fault is the first one.
-use Rattle.std.proofs.Common.{◌≡◌, ◌≢◌, ℕ, zero, suc, ◌+◌, ◌<◌, ◌≤◌, ℤ, Bool, true, false, cond, List, [], ◌∷◌, ◌++◌, length, map, Option, Some, None, Result, Ok, Err, refl, sym, ap, subst, ◌∙◌, append_assoc, append-nil, arith, ◌⊎◌, inl, inr, length-append}
-use Rattle.std.specs.Prelude.{slice_get, is_some, IsSome, IsTrue, nat_eq, ◌==◌, ◌&&◌}
-use Rattle.std.specs.List.{AllByRecursion, flat_map}
-use Rattle.std.proofs.lemmas.Bool.{cases_Bool, both_ways, and_parts, and_from, eqb-true, eq-eqb}
-use Rattle.eds_base.specs.declared.fault.Step.{Step}
+use Rattle.std.proofs.Common.{◌≡◌, ℕ, suc, ◌+◌, ◌<◌, List, [], ◌∷◌, ◌++◌, length, map, Option, Some, Result, Ok, Err, refl, sym, ap, subst, ◌∙◌, append_assoc, append-nil, arith, inl, inr, length-append}
+use Rattle.std.specs.Prelude.{slice_get}
+use Rattle.std.specs.List.{AllByRecursion}
 use Rattle.eds_base.specs.declared.fault.Step.TheVariants as step
 use Rattle.eds_bits.specs.Bits.{Bits}
 use Rattle.eds_bits.specs.Style.{canonical}
 use Rattle.eds_types.specs.declared.reason.PackReason.{PackReason}
-use Rattle.eds_types.specs.declared.reason.PackReason.TheVariants.{WrongKind, NotDerived}
 use Rattle.eds_types.specs.declared.row.TypeRow.{TypeRow}
-use Rattle.eds_types.specs.declared.row.Kind.{Kind}
-use Rattle.eds_types.specs.declared.row.Kind.TheVariants as kind
-use Rattle.eds_types.specs.declared.row.Container.{Container}
 use Rattle.eds_types.specs.declared.row.Part.{Part}
 use Rattle.eds_types.specs.declared.row.Part.TheVariants as part
 use Rattle.eds_types.specs.Failing.{Station, entry}
-use Rattle.eds_types.specs.FlatTables.{IsScalarEntry, IsFlatTable}
+use Rattle.eds_types.specs.FlatTables.{IsScalarEntry}
 use Rattle.eds_types.specs.Fields.{Field, value_at, values_of, paired}
-use Rattle.eds_types.specs.Packing.{Where, here, behind, PartFails, StationFails, FirstFails, KindPackFails, PackFailsWithin}
+use Rattle.eds_types.specs.Packing.{Where, here, StationFails, FirstFails, KindPackFails, PackFailsWithin}
 use Rattle.eds_types.specs.Plain.{Plain}
 use Rattle.eds_types.specs.Rows.{Table, id_of, Placed, placed_from}
-use Rattle.eds_types.specs.Rules.{KeepsRules, KindKeeps, IsScalarKind}
-use Rattle.eds_types.specs.Spelling.{State, started, took, PartsPass, SpellsWithin}
+use Rattle.eds_types.specs.Rules.{KeepsRules, IsScalarKind}
+use Rattle.eds_types.specs.Spelling.{State, took, PartsPass, SpellsWithin}
 use Rattle.eds_types.proofs.AllOf.{All-weaker, All-both}
 use Rattle.eds_types.proofs.FieldKeys.{IsOther}
 use Rattle.eds_types.proofs.ListCounts.{found_there}
-use Rattle.eds_types.proofs.PackingRuns.{paired_on}
-use Rattle.eds_pack.proofs.FlatTypes.{entry_valued}
 use Rattle.eds_pack.proofs.ScalarLaws.{scalar_long, scalar_exists, scalar_spells, scalar_fine, scalar_faults}
 use Rattle.eds_pack.specs.Scalars.{scalar_size, ScalarSpells}
 use Rattle.eds_pack.specs.Sizes.{row_size, entry_size, in_part, fields_size}

@@ -1,8 +1,6 @@
 -- A small table of flat types.
 use Rattle.std.specs.Prelude.{◌≡◌, ℕ, ℤ, pos, List, [], ◌∷◌, false, codes}
 use Rattle.eds_bits.specs.declared.forms.Encoding.{Encoding}
-use Rattle.eds_bits.specs.declared.forms.IntForm.{IntForm}
-use Rattle.eds_bits.specs.declared.forms.BoolForm.{BoolForm}
 use Rattle.eds_bits.specs.declared.forms.Encoding.TheVariants.{Unsigned, TwosComplement, SignMagnitude, OnesComplement, PackedBcd}
 use Rattle.eds_pack.specs.declared.sample.Numbers.{Numbers}
 use Rattle.eds_pack.specs.declared.sample.Given.{Given}

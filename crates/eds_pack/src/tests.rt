@@ -20,34 +20,54 @@ const WORD: TypeId = TypeId(8);
 
 const STATE: TypeId = TypeId(9);
 
-fn word(alloc: Global, a: i128, b: i128) -> Result<Value, Memory> {
-    let values = vec![in alloc; Value::Num(a), Value::Num(b)]?;
-    Ok(Value::Fields(WORD, values))
+/// A value in short.
+#[derive(Clone, Copy)]
+enum Short {
+    Num(i128),
+    Truth(bool),
+    Label(&'static str),
+    Word(i128, i128),
+    State(&'static str, i128),
+    Lone(i128),
+    Empty(TypeId),
 }
 
-fn state(alloc: Global, mode: &str, level: i128) -> Result<Value, Memory> {
-    let mode = Text::of(alloc, mode)?;
-    let values = vec![in alloc; Value::Label(mode), Value::Num(level)]?;
-    Ok(Value::Fields(STATE, values))
+fn value_of(alloc: Global, short: Short) -> Result<Value, Memory> {
+    match short {
+        Short::Num(number) => Ok(Value::Num(number)),
+        Short::Truth(truth) => Ok(Value::Bool(truth)),
+        Short::Label(name) => Ok(Value::Label(Text::of(alloc, name)?)),
+        Short::Word(a, b) => {
+            let values = vec![in alloc; Value::Num(a), Value::Num(b)]?;
+            Ok(Value::Fields(WORD, values))
+        }
+        Short::State(name, level) => {
+            let mode = Text::of(alloc, name)?;
+            let values = vec![in alloc; Value::Label(mode), Value::Num(level)]?;
+            Ok(Value::Fields(STATE, values))
+        }
+        Short::Lone(a) => Ok(Value::Fields(WORD, vec![in alloc; Value::Num(a)]?)),
+        Short::Empty(id) => Ok(Value::Fields(id, Vec::new(alloc))),
+    }
 }
 
 #[test]
 fn packs_into_known_octets(rt: HostRuntime) -> Result<(), Fail> {
     let alloc = rt.alloc();
     let table = flat_table(alloc)?;
-    let run = Value::Label(Text::of(alloc, "RUN")?);
-    for (id, value, octets, bits) in [
-        (SIGNED, Value::Num(-5), [0x85, 0xAA, 0xAA], 8),
-        (ONES, Value::Num(-5), [0xFA, 0xAA, 0xAA], 8),
-        (TWOS, Value::Num(-5), [0xFB, 0xAA, 0xAA], 8),
-        (SIGNED, Value::Num(0), [0x00, 0xAA, 0xAA], 8),
-        (TRUTH, Value::Bool(true), [0x01, 0xAA, 0xAA], 8),
-        (DIGITS, Value::Num(1234), [0x12, 0x34, 0xAA], 16),
-        (MODE, run, [0x20, 0xAA, 0xAA], 4),
-        (WORD, word(alloc, 15, 4095)?, [0xFF, 0xFF, 0xAA], 16),
-        (WORD, word(alloc, 1, 564)?, [0x12, 0x34, 0xAA], 16),
-        (STATE, state(alloc, "SAFE", -5)?, [0x98, 0x50, 0xAA], 12),
+    for (id, short, octets, bits) in [
+        (SIGNED, Short::Num(-5), [0x85, 0xAA, 0xAA], 8),
+        (ONES, Short::Num(-5), [0xFA, 0xAA, 0xAA], 8),
+        (TWOS, Short::Num(-5), [0xFB, 0xAA, 0xAA], 8),
+        (SIGNED, Short::Num(0), [0x00, 0xAA, 0xAA], 8),
+        (TRUTH, Short::Truth(true), [0x01, 0xAA, 0xAA], 8),
+        (DIGITS, Short::Num(1234), [0x12, 0x34, 0xAA], 16),
+        (MODE, Short::Label("RUN"), [0x20, 0xAA, 0xAA], 4),
+        (WORD, Short::Word(15, 4095), [0xFF, 0xFF, 0xAA], 16),
+        (WORD, Short::Word(1, 564), [0x12, 0x34, 0xAA], 16),
+        (STATE, Short::State("SAFE", -5), [0x98, 0x50, 0xAA], 12),
     ] {
+        let value = value_of(alloc, short)?;
         let mut room = [0xAA; 3];
         assert!(rt; id.0 < table.len());
         assert_eq!(rt; packed_bits(&table, id, &value).ok(), Some(bits));
@@ -58,10 +78,10 @@ fn packs_into_known_octets(rt: HostRuntime) -> Result<(), Fail> {
     Ok(())
 }
 
-fn fault<T: Drop>(answer: Result<T, PackFail>) -> Option<(PackReason, Option<Step>, usize, u32)> {
+fn is_fault(answer: Result<u32, PackFail>, reason: PackReason, step: Option<Step>) -> bool {
     match answer {
-        Ok(_) => None,
-        Err(fail) => Some((fail.reason, fail.path.get(0), fail.path.len(), fail.need)),
+        Ok(_) => false,
+        Err(fail) => fail.reason == reason && fail.path.get(0) == step && fail.need == 0,
     }
 }
 
@@ -69,56 +89,52 @@ fn fault<T: Drop>(answer: Result<T, PackFail>) -> Option<(PackReason, Option<Ste
 fn refuses_at_the_first_fault(rt: HostRuntime) -> Result<(), Fail> {
     let alloc = rt.alloc();
     let table = flat_table(alloc)?;
-    let stop = Value::Label(Text::of(alloc, "STOP")?);
-    let lone = Value::Fields(WORD, vec![in alloc; Value::Num(1)]?);
-    let empty = Value::Fields(SIGNED, Vec::new(alloc));
-    for (id, value, reason, step) in [
-        (SIGNED, Value::Num(-128), PackReason::OutOfRange, None),
-        (TWOS, Value::Num(128), PackReason::OutOfRange, None),
-        (DIGITS, Value::Num(-1), PackReason::OutOfRange, None),
-        (TRUTH, Value::Num(1), PackReason::WrongKind, None),
-        (MODE, Value::Num(9), PackReason::WrongKind, None),
-        (MODE, stop, PackReason::NoLabel, None),
-        (WORD, Value::Num(1), PackReason::WrongKind, None),
-        (WORD, lone, PackReason::WrongKind, None),
-        (WORD, empty, PackReason::WrongKind, None),
+    for (id, short, reason, step) in [
+        (SIGNED, Short::Num(-128), PackReason::OutOfRange, None),
+        (TWOS, Short::Num(128), PackReason::OutOfRange, None),
+        (DIGITS, Short::Num(-1), PackReason::OutOfRange, None),
+        (TRUTH, Short::Num(1), PackReason::WrongKind, None),
+        (MODE, Short::Num(9), PackReason::WrongKind, None),
+        (MODE, Short::Label("STOP"), PackReason::NoLabel, None),
+        (WORD, Short::Num(1), PackReason::WrongKind, None),
+        (WORD, Short::Lone(1), PackReason::WrongKind, None),
+        (WORD, Short::Empty(SIGNED), PackReason::WrongKind, None),
         (
             WORD,
-            state(alloc, "RUN", 1)?,
+            Short::State("RUN", 1),
             PackReason::NotDerived,
             Some(Step::Choice(STATE)),
         ),
         (
             WORD,
-            word(alloc, 16, 0)?,
+            Short::Word(16, 0),
             PackReason::OutOfRange,
             Some(Step::Part(WORD, 0)),
         ),
         (
             WORD,
-            word(alloc, 0, 4096)?,
+            Short::Word(0, 4096),
             PackReason::OutOfRange,
             Some(Step::Part(WORD, 1)),
         ),
         (
             WORD,
-            word(alloc, 16, 4096)?,
+            Short::Word(16, 4096),
             PackReason::OutOfRange,
             Some(Step::Part(WORD, 0)),
         ),
         (
             STATE,
-            state(alloc, "STOP", 500)?,
+            Short::State("STOP", 500),
             PackReason::NoLabel,
             Some(Step::Part(STATE, 0)),
         ),
     ] {
+        let value = value_of(alloc, short)?;
         let mut room = [0xAA; 3];
-        let steps = if step.is_some() { 1 } else { 0 };
-        let want = Some((reason, step, steps, 0));
         assert!(rt; id.0 < table.len());
-        assert_eq!(rt; fault(packed_bits(&table, id, &value)), want);
-        assert_eq!(rt; fault(pack_into(&table, id, &value, &mut room)), want);
+        assert!(rt; is_fault(packed_bits(&table, id, &value), reason, step));
+        assert!(rt; is_fault(pack_into(&table, id, &value, &mut room), reason, step));
         assert_eq!(rt; room, [0xAA; 3]);
         assert!(rt; pack(alloc, &table, id, &value).is_err());
         assert!(rt; !conforms(&table, id, &value));
@@ -130,10 +146,16 @@ fn refuses_at_the_first_fault(rt: HostRuntime) -> Result<(), Fail> {
 fn wants_room_for_each_octet(rt: HostRuntime) -> Result<(), Fail> {
     let alloc = rt.alloc();
     let table = flat_table(alloc)?;
-    let value = state(alloc, "SAFE", -5)?;
+    let value = value_of(alloc, Short::State("SAFE", -5))?;
     let mut small = [0xAA; 1];
-    let want = Some((PackReason::Room, None, 0, 2));
-    assert_eq!(rt; fault(pack_into(&table, STATE, &value, &mut small)), want);
+    match pack_into(&table, STATE, &value, &mut small) {
+        Ok(_) => assert!(rt; false),
+        Err(fail) => {
+            assert_eq!(rt; fail.reason, PackReason::Room);
+            assert_eq!(rt; fail.path.len(), 0);
+            assert_eq!(rt; fail.need, 2);
+        }
+    }
     assert_eq!(rt; small, [0xAA]);
     let mut room = [0xAA; 2];
     assert_eq!(rt; pack_into(&table, STATE, &value, &mut room).ok(), Some(12));

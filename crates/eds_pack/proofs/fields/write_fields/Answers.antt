@@ -1,4 +1,4 @@
-use Rattle.std.proofs.Common.{◌≡◌, length, map, drop, sym, ap, subst, ◌∙◌, arith, ◌*◌, ◌≤◌}
+use Rattle.std.proofs.Common.{◌≡◌, length, map, sym, ap, subst, ◌∙◌, arith, ◌*◌, ◌≤◌}
 use Rattle.std.specs.Prelude.{IsOkAnd}
 use Rattle.eds_types.specs.Plain.{plain}
 use Rattle.eds_pack.specs.Sizes.{fields_size}

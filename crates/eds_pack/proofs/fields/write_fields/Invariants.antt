@@ -1,4 +1,4 @@
-use Rattle.std.proofs.Common.{◌≡◌, ◌≤◌, ◌*◌, length, drop, take, map}
+use Rattle.std.proofs.Common.{◌≡◌, ◌≤◌, ◌*◌, drop, take, map}
 use Rattle.std.specs.List.{AllByRecursion}
 use Rattle.eds_types.specs.FlatTables.{IsScalarEntry}
 use Rattle.eds_types.specs.Plain.{plain}

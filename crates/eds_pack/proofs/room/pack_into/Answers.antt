@@ -1,4 +1,4 @@
-use Rattle.std.proofs.Common.{sym, ◌∙◌, arith}
+use Rattle.std.proofs.Common.{sym, arith}
 use Rattle.eds_pack.proofs.Rooms.{no_size, not_enough, lacking}
 use Rattle.eds_pack.proofs.room.pack_into.Goals as goal
 

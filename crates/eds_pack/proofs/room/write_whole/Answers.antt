@@ -1,7 +1,6 @@
-use Rattle.std.proofs.Common.{◌≡◌, ◌≤◌, ◌*◌, ◌++◌, ◌<◌, ℕ, length, drop, All, sym, ap, subst, ◌∙◌, arith, Ok}
-use Rattle.std.specs.Prelude.{IsOkAnd}
+use Rattle.std.proofs.Common.{ap, ◌∙◌, arith}
 use Rattle.std.proofs.lemmas.List.{get_or_default}
-use Rattle.eds_bits.specs.Bits.{oct, octets_of, bits_of, with_piece}
+use Rattle.eds_bits.specs.Bits.{bits_of, with_piece}
 use Rattle.eds_types.specs.Plain.{plain}
 use Rattle.eds_overlap.specs.Laws.{IsThere}
 use Rattle.eds_pack.proofs.Filling.{octets_in_room}

@@ -3,7 +3,7 @@ use Rattle.std.proofs.lemmas.Int.{to_z-of_z}
 use mir.Syntax.{w128}
 use Rattle.eds_types.specs.Fields.{listed}
 use Rattle.eds_types.specs.Plain.{plain}
-use Rattle.eds_pack.proofs.Plains.{plain_num, plain_label}
+use Rattle.eds_pack.proofs.Plains.{plain_num}
 use Rattle.eds_pack.proofs.ScalarLaws.{has_number, has_label, number_written}
 use Rattle.eds_pack.proofs.scalar.write_scalar.Goals as goal
 
