@@ -29,7 +29,7 @@ def container(number, entries):
 
 def sheet():
     """The largest sheet of this form that one file may be."""
-    front = '["PackageFile",["Package",{"name":"Large"},["DataTypeSet",["IntegerDataType",{"name":"Unsigned8"}]'
+    front = '["PackageFile",["Package",{"name":"Large"},["DataTypeSet",["IntegerDataType",{"name":"Unsigned8"},["IntegerDataEncoding",{"sizeInBits":"8","encoding":"unsigned"}]]'
     back = "]]]"
     pieces = []
     size = len(front) + len(back)
