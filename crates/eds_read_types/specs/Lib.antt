@@ -11,3 +11,4 @@ pub mod References
 pub mod Encodings
 pub mod Entries
 pub mod ReadTypes
+pub mod Bases

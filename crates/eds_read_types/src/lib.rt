@@ -1,6 +1,7 @@
 //! The types of a sheet.
 #![tactic(auto)]
 
+mod base;
 mod breaks;
 mod child;
 mod domain;

@@ -98,7 +98,8 @@ fn rows_of(alloc: Global, sheet: &Sheet) -> Result<Items<Row>, Memory>
     Ok(rows)
 }
 
-fn id_of(item: Item) -> Option<TypeId>
+/// The number of the type that an item is.
+pub(crate) fn id_of(item: Item) -> Option<TypeId>
     ensures { result ≡ id_in item }
 {
     match item {
