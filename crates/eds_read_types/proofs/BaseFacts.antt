@@ -1,32 +1,31 @@
 -- The bases of a type, step by step.
 use Rattle.std.proofs.Common.{◌≡◌, ℕ, zero, suc, ◌-◌, ◌<◌, ◌==◌, ◌||◌, Bool, true, false, List, [], ◌∷◌, Option, Some, None, refl, sym, ap, ◌∙◌, arith}
+use Rattle.std.specs.List.{list_any}
 use Rattle.std.proofs.lemmas.Bool.{eq-eqb, eqb-true}
 use Rattle.eds_base.specs.declared.ids.TypeId.{TypeId}
-use Rattle.eds_tree.specs.declared.tree.Node.{Node}
-use Rattle.eds_names.specs.LookUp.{Names}
-use Rattle.eds_read_types.specs.Bases.{base_of, bases_by, bases_within, has_type}
+use Rattle.eds_read_types.specs.Bases.{base_at, bases_above, bases_within}
 
-pub bases-end : (n : ℕ) (trees : List (List Node)) (names : Names) (id : TypeId) → base_of trees names id ≡ None → bases_within n trees names id ≡ []
+pub bases-end : (n : ℕ) (bases : List (Option TypeId)) (id : ℕ) → base_at bases id ≡ None → bases_within n bases id ≡ []
 unfolding bases_within
-bases-end zero trees names id e = refl
-bases-end (suc n) trees names id e = ap (bases_by (bases_within n trees names)) e
+bases-end zero bases id e = refl
+bases-end (suc n) bases id e = ap (bases_above (bases_within n bases)) e
 
-pub bases-next : (n : ℕ) (trees : List (List Node)) (names : Names) (id base : TypeId) → 0 < n → base_of trees names id ≡ Some base → bases_within n trees names id ≡ base ∷ bases_within (n - 1) trees names base
+pub bases-next : (n : ℕ) (bases : List (Option TypeId)) (id : ℕ) (base : TypeId) → 0 < n → base_at bases id ≡ Some base → bases_within n bases id ≡ base.0 ∷ bases_within (n - 1) bases base.0
 unfolding bases_within
-bases-next zero trees names id base h e = absurd (omega arith)
-bases-next (suc n) trees names id base h e = let back : suc n - 1 ≡ n = omega arith in rw back (ap (bases_by (bases_within n trees names)) e)
+bases-next zero bases id base h e = absurd (omega arith)
+bases-next (suc n) bases id base h e = let back : suc n - 1 ≡ n = omega arith in rw back (ap (bases_above (bases_within n bases)) e)
 
-pub bases-none : (n : ℕ) (trees : List (List Node)) (names : Names) (id : TypeId) → n ≡ 0 → bases_within n trees names id ≡ []
+pub bases-none : (n : ℕ) (bases : List (Option TypeId)) (id : ℕ) → n ≡ 0 → bases_within n bases id ≡ []
 unfolding bases_within
-bases-none zero trees names id e = refl
-bases-none (suc n) trees names id e = absurd cc
+bases-none zero bases id e = refl
+bases-none (suc n) bases id e = absurd cc
 
-pub has-first : (base : TypeId) (ids : List TypeId) (id : TypeId) → base.0 ≡ id.0 → has_type (base ∷ ids) id ≡ true
-has-first base ids id e = ap (λ b. b || has_type ids id) (eq-eqb base.0 id.0 e)
+pub any-first : (base : ℕ) (ids : List ℕ) (id : ℕ) → base ≡ id → list_any (λ base. base == id) (base ∷ ids) ≡ true
+any-first base ids id e = ap (λ b. b || list_any (λ base. base == id) ids) (eq-eqb base id e)
 
-pub has-later : (base : TypeId) (ids : List TypeId) (id : TypeId) → (base.0 ≡ id.0 → ⊥) → has_type (base ∷ ids) id ≡ has_type ids id
-has-later base ids id h = go (base.0 == id.0) refl
+pub any-later : (base : ℕ) (ids : List ℕ) (id : ℕ) → (base ≡ id → ⊥) → list_any (λ base. base == id) (base ∷ ids) ≡ list_any (λ base. base == id) ids
+any-later base ids id h = go (base == id) refl
   where
-    go : (b : Bool) → (base.0 == id.0) ≡ b → has_type (base ∷ ids) id ≡ has_type ids id
-    go true e = absurd (h (eqb-true base.0 id.0 e))
-    go false e = ap (λ b. b || has_type ids id) e
+    go : (b : Bool) → (base == id) ≡ b → list_any (λ base. base == id) (base ∷ ids) ≡ list_any (λ base. base == id) ids
+    go true e = absurd (h (eqb-true base id e))
+    go false e = ap (λ b. b || list_any (λ base. base == id) ids) e

@@ -6,3 +6,4 @@ pub mod LawFacts
 mod EntriesLemmas
 mod NoBreaks
 mod BaseFacts
+mod NumberFacts

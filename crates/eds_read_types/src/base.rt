@@ -1,7 +1,8 @@
 //! The bases of sub-ranges.
 
-ghost use Rattle.std.specs.Prelude.{◌≡◌, map, option_map, IfOk, length};
-ghost use Rattle.eds_read_types.specs.Bases.{base_named as base_named_in, base_found as base_found_by, base_of as base_of_type, is_in_cycle as is_in_cycle_of};
+ghost use Rattle.std.specs.Prelude.{◌≡◌, map, option_map, IfOk, length, slice_get};
+ghost use Rattle.std.specs.List.{range_with_len};
+ghost use Rattle.eds_read_types.specs.Bases.{base_named as base_named_in, base_found as base_found_by, bases_of as bases_in, base_at as base_in, is_in_cycle as is_in_cycle_of};
 
 use crate::element::{attribute, is_element};
 use crate::read::id_of;
@@ -9,6 +10,18 @@ use crate::sheet::Sheet;
 use eds_base::{Memory, Place, TypeId};
 use eds_tree::Tree;
 use std::alloc::Global;
+
+/// A sheet and what its types derive from.
+#[derive(Drop)]
+pub(crate) struct Chains<'a> {
+    pub(crate) sheet: &'a Sheet<'a>,
+    /// For each type the one that it derives from.
+    pub(crate) bases: &'a [Option<TypeId>],
+    /// For each type whether it is its own base.
+    pub(crate) cycles: &'a [bool],
+    ghost found: { bases.now ≡ bases_in sheet.now.trees.now sheet.now.space.now },
+    ghost judged: { cycles.now ≡ map (is_in_cycle_of bases.now) (range_with_len 0 (length bases.now)) },
+}
 
 /// The reference of a sub-range to its base.
 pub(crate) fn base_named(trees: &[Tree], at: Place) -> Option<&str>
@@ -22,7 +35,7 @@ pub(crate) fn base_named(trees: &[Tree], at: Place) -> Option<&str>
 }
 
 /// The type that the base of a sub-range finds.
-fn base_found(alloc: Global, sheet: &Sheet, at: Place) -> Result<Option<TypeId>, Memory>
+pub(crate) fn base_found(alloc: Global, sheet: &Sheet, at: Place) -> Result<Option<TypeId>, Memory>
     ensures { IfOk result (λ id. id ≡ base_found_by sheet.now.trees.now sheet.now.space.now at) }
 {
     let text = match base_named(sheet.trees, at) {
@@ -35,9 +48,9 @@ fn base_found(alloc: Global, sheet: &Sheet, at: Place) -> Result<Option<TypeId>,
     }
 }
 
-/// What the base of each type finds.
-pub(crate) fn bases_found(alloc: Global, sheet: &Sheet) -> Result<Vec<Option<TypeId>>, Memory>
-    ensures { IfOk result (λ b. b.items ≡ map (base_found_by sheet.now.trees.now sheet.now.space.now) sheet.now.types.now) }
+/// For each type the one that it derives from.
+pub(crate) fn bases_of(alloc: Global, sheet: &Sheet) -> Result<Vec<Option<TypeId>>, Memory>
+    ensures { IfOk result (λ b. b.items ≡ bases_in sheet.now.trees.now sheet.now.space.now) }
 {
     let mut bases = Vec::new(alloc);
     for at in sheet.types {
@@ -47,32 +60,24 @@ pub(crate) fn bases_found(alloc: Global, sheet: &Sheet) -> Result<Vec<Option<Typ
     Ok(bases)
 }
 
-/// A sheet, and the base of each of its types.
-#[derive(Drop)]
-pub(crate) struct Bases<'a> {
-    pub(crate) sheet: &'a Sheet<'a>,
-    pub(crate) found: &'a [Option<TypeId>],
-    ghost known: { found.now ≡ map (base_found_by sheet.now.trees.now sheet.now.space.now) sheet.now.types.now },
-}
-
-/// The base of a type by its number.
-pub(crate) fn base_of(bases: &Bases, id: TypeId) -> Option<TypeId>
-    ensures { result ≡ base_of_type bases.now.sheet.now.trees.now bases.now.sheet.now.space.now id }
+/// The base of the type of a number.
+pub(crate) fn base_at(bases: &[Option<TypeId>], id: TypeId) -> Option<TypeId>
+    ensures { result ≡ base_in bases.now id.0 }
 {
-    match bases.found.get(id.0 as usize) {
+    match bases.get(id.0 as usize) {
         None => None,
         Some(base) => *base,
     }
 }
 
-/// Whether a type is among its own bases.
-pub(crate) fn is_in_cycle(bases: &Bases, id: TypeId) -> bool
-    ensures { result ≡ is_in_cycle_of bases.now.sheet.now.trees.now bases.now.sheet.now.space.now id }
+/// Whether a type is its own base over one step or more.
+fn is_in_cycle(bases: &[Option<TypeId>], id: TypeId) -> bool
+    ensures { result ≡ is_in_cycle_of bases.now id.0 }
 {
     let mut at = id;
-    let mut left = bases.found.len();
+    let mut left = bases.len();
     while left > 0 {
-        match base_of(bases, at) {
+        match base_at(bases, at) {
             None => return false,
             Some(base) => {
                 if base.0 == id.0 {
@@ -84,4 +89,11 @@ pub(crate) fn is_in_cycle(bases: &Bases, id: TypeId) -> bool
         left -= 1;
     }
     false
+}
+
+/// The element of the type of a number.
+pub(crate) fn type_at(chains: &Chains, id: TypeId) -> Option<Place>
+    ensures { result ≡ slice_get chains.now.sheet.now.types.now id.0 }
+{
+    chains.sheet.types.get(id.0 as usize).copied()
 }
