@@ -10,12 +10,14 @@ mod entry;
 mod form;
 pub mod law;
 mod listing;
+mod numbers;
 mod range;
 mod read;
 mod reference;
 mod row;
 mod scalar_rules;
 mod sheet;
+mod table;
 
 pub use domain::{domain_of, is_empty_domain, narrowed};
 pub use form::{bool_form_of, int_form_of};
@@ -24,6 +26,7 @@ pub use range::{End, Range, range_in, range_of};
 pub use read::read_types;
 pub use row::{AtMost, ENTRIES, Row, Rows, Size, TYPES, Types, Unsigned};
 pub use scalar_rules::{bad_encoding, bad_enumeration, empty_range};
+pub use table::{Typed, Used};
 
 #[cfg(test)]
 mod scalar_tests;
