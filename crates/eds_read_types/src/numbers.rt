@@ -5,6 +5,7 @@ ghost use Rattle.eds_read_types.specs.Numbers.{form_or_wide as form_or_wide_of, 
 
 use crate::base::{Chains, base_at, type_at};
 use crate::domain::{domain_of, narrowed};
+use crate::element::tree_at;
 use crate::form::int_form_of;
 use crate::range::{NO_RANGE, Range, range_of};
 use crate::scalar_rules::is_integer;
@@ -62,7 +63,7 @@ fn numbers_with(alloc: Global, form: IntForm, range: Range) -> Result<Numbers, M
 fn all_numbers(alloc: Global) -> Result<Numbers, Memory>
     ensures { IfOk result (λ n. n ≡ all_numbers) }
 {
-    numbers_with(alloc, WIDE, NO_RANGE)
+    numbers_with(alloc, form_or_wide(None), NO_RANGE)
 }
 
 /// The numbers of an integer type.
@@ -88,7 +89,7 @@ fn own_numbers_at(alloc: Global, trees: &[Tree], at: Option<Place>) -> Result<Nu
         None => return all_numbers(alloc),
         Some(at) => at,
     };
-    match trees.get(at.file as usize) {
+    match tree_at(trees, at.file) {
         None => all_numbers(alloc),
         Some(tree) => own_numbers(alloc, tree, at.node),
     }
@@ -102,7 +103,7 @@ fn range_at(trees: &[Tree], at: Option<Place>) -> Range
         None => return NO_RANGE,
         Some(at) => at,
     };
-    match trees.get(at.file as usize) {
+    match tree_at(trees, at.file) {
         None => NO_RANGE,
         Some(tree) => range_of(tree, at.node),
     }
