@@ -5,5 +5,8 @@ pub mod ListingFacts
 pub mod LawFacts
 mod EntriesLemmas
 mod NoBreaks
-mod BaseFacts
-mod NumberFacts
+mod BaseSteps
+mod NumberSteps
+mod TableLeast
+mod RowSteps
+mod TableFacts

@@ -31,7 +31,7 @@ use Rattle.eds_read_types.specs.ReadTypes.{type_breaks, entry_row, entry_rows, r
 
 -- ---- no least, no breaks
 
-least-none : (rs : List Refusal) → least rs ≡ None → rs ≡ []
+pub least-none : (rs : List Refusal) → least rs ≡ None → rs ≡ []
 least-none [] h = refl
 least-none (r ∷ rs) h = go (least rs) h
   where
@@ -39,7 +39,7 @@ least-none (r ∷ rs) h = go (least rs) h
     go None k = cc
     go (Some q) k = cc
 
-append-none : {A : Type 0} (xs ys : List A) → xs ++ ys ≡ [] → (xs ≡ []) × (ys ≡ [])
+pub append-none : {A : Type 0} (xs ys : List A) → xs ++ ys ≡ [] → (xs ≡ []) × (ys ≡ [])
 append-none [] ys h = (refl, h)
 append-none (x ∷ xs) ys h = cc
 
@@ -69,10 +69,10 @@ none_broken trees names word t h = go (least (type_breaks trees names word)) ref
 -- ---- the TYPE word
 
 -- a word that finds a type has its number
-abbrev IsKnown : List (List Node) → Names → Option (List ℕ) → Type 0
+abbrev pub IsKnown : List (List Node) → Names → Option (List ℕ) → Type 0
 IsKnown trees names word = IfSome (word_type trees names word) (λ id. id.0 < length (types names)) × (is_some (word_type trees names word) ≡ is_some word)
 
-known : (trees : List (List Node)) (names : Names) (word : Option (List ℕ)) → unresolved names (word_place trees) word ≡ [] → wrong_kind names (word_place trees) word ≡ [] → IsKnown trees names word
+pub known : (trees : List (List Node)) (names : Names) (word : Option (List ℕ)) → unresolved names (word_place trees) word ≡ [] → wrong_kind names (word_place trees) word ≡ [] → IsKnown trees names word
 known trees names None h k = (tt, refl)
 known trees names (Some text) h k = go (look_up names (word_place trees) text) refl h k
   where

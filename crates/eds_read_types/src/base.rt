@@ -61,18 +61,18 @@ pub(crate) fn bases_of(alloc: Global, sheet: &Sheet) -> Result<Vec<Option<TypeId
 }
 
 /// The base of the type of a number.
-pub(crate) fn base_at(bases: &[Option<TypeId>], id: TypeId) -> Option<TypeId>
-    ensures { result ≡ base_in bases.now id.0 }
+pub(crate) fn base_at(bases: &[Option<TypeId>], id: usize) -> Option<TypeId>
+    ensures { result ≡ base_in bases.now id }
 {
-    match bases.get(id.0 as usize) {
+    match bases.get(id) {
         None => None,
         Some(base) => *base,
     }
 }
 
 /// Whether a type is its own base over one step or more.
-fn is_in_cycle(bases: &[Option<TypeId>], id: TypeId) -> bool
-    ensures { result ≡ is_in_cycle_of bases.now id.0 }
+fn is_in_cycle(bases: &[Option<TypeId>], id: usize) -> bool
+    ensures { result ≡ is_in_cycle_of bases.now id }
 {
     let mut at = id;
     let mut left = bases.len();
@@ -80,7 +80,8 @@ fn is_in_cycle(bases: &[Option<TypeId>], id: TypeId) -> bool
         match base_at(bases, at) {
             None => return false,
             Some(base) => {
-                if base.0 == id.0 {
+                let base = base.0 as usize;
+                if base == id {
                     return true;
                 }
                 at = base;
@@ -92,8 +93,19 @@ fn is_in_cycle(bases: &[Option<TypeId>], id: TypeId) -> bool
 }
 
 /// The element of the type of a number.
-pub(crate) fn type_at(chains: &Chains, id: TypeId) -> Option<Place>
-    ensures { result ≡ slice_get chains.now.sheet.now.types.now id.0 }
+pub(crate) fn type_at(chains: &Chains, id: usize) -> Option<Place>
+    ensures { result ≡ slice_get chains.now.sheet.now.types.now id }
 {
-    chains.sheet.types.get(id.0 as usize).copied()
+    chains.sheet.types.get(id).copied()
+}
+
+/// For each type whether it is its own base.
+pub(crate) fn cycles_of(alloc: Global, bases: &[Option<TypeId>]) -> Result<Vec<bool>, Memory>
+    ensures { IfOk result (λ c. c.items ≡ map (is_in_cycle_of bases.now) (range_with_len 0 (length bases.now))) }
+{
+    let mut cycles = Vec::new(alloc);
+    for id in 0..bases.len() {
+        cycles.push(is_in_cycle(bases, id))?;
+    }
+    Ok(cycles)
 }

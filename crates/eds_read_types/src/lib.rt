@@ -3,6 +3,7 @@
 
 mod base;
 mod breaks;
+mod chain_rules;
 mod child;
 mod domain;
 mod element;
@@ -19,6 +20,9 @@ mod row;
 mod scalar_rules;
 mod sheet;
 mod table;
+mod table_row;
+mod table_rules;
+mod type_reference;
 
 pub use domain::{domain_of, is_empty_domain, narrowed};
 pub use form::{bool_form_of, int_form_of};

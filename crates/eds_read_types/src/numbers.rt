@@ -9,7 +9,7 @@ use crate::element::tree_at;
 use crate::form::int_form_of;
 use crate::range::{NO_RANGE, Range, range_of};
 use crate::scalar_rules::is_integer;
-use eds_base::{Memory, Place, Spans, TypeId};
+use eds_base::{Memory, Place, Spans};
 use eds_bits::{BoolForm, ByteOrder, Encoding, IntForm};
 use eds_tree::Tree;
 use std::alloc::Global;
@@ -122,8 +122,8 @@ fn narrowed_numbers(alloc: Global, range: Range, base: Numbers) -> Result<Number
 
 /// The numbers of a type over at most so many bases.
 #[tactic(auto, unfolding(crate::specs::Numbers::numbers_within))]
-fn numbers_within(alloc: Global, chains: &Chains, most: u32, id: TypeId) -> Result<Numbers, Memory>
-    ensures { IfOk result (λ n. n ≡ numbers_up most chains.now.sheet.now.trees.now chains.now.sheet.now.types.now chains.now.bases.now id.0) }
+fn numbers_within(alloc: Global, chains: &Chains, most: u32, id: usize) -> Result<Numbers, Memory>
+    ensures { IfOk result (λ n. n ≡ numbers_up most chains.now.sheet.now.trees.now chains.now.sheet.now.types.now chains.now.bases.now id) }
 {
     let trees = chains.sheet.trees;
     let at = type_at(chains, id);
@@ -133,15 +133,15 @@ fn numbers_within(alloc: Global, chains: &Chains, most: u32, id: TypeId) -> Resu
     match base_at(chains.bases, id) {
         None => own_numbers_at(alloc, trees, at),
         Some(base) => {
-            let base = numbers_within(alloc, chains, most - 1, base)?;
+            let base = numbers_within(alloc, chains, most - 1, base.0 as usize)?;
             narrowed_numbers(alloc, range_at(trees, at), base)
         }
     }
 }
 
 /// The form and the domain of a type: its own, or those of its base that its range admits.
-pub(crate) fn numbers_of(alloc: Global, chains: &Chains, id: TypeId) -> Result<Numbers, Memory>
-    ensures { IfOk result (λ n. n ≡ numbers_by_id chains.now.sheet.now.trees.now chains.now.sheet.now.types.now chains.now.bases.now id.0) }
+pub(crate) fn numbers_of(alloc: Global, chains: &Chains, id: usize) -> Result<Numbers, Memory>
+    ensures { IfOk result (λ n. n ≡ numbers_by_id chains.now.sheet.now.trees.now chains.now.sheet.now.types.now chains.now.bases.now id) }
 {
     numbers_within(alloc, chains, 16, id)
 }

@@ -47,7 +47,7 @@ fn refusal_where(broken: bool, rule: Rule, at: Place) -> Option<Refusal>
 }
 
 /// Whether an integer, enumerated or boolean type has no form.
-fn lacks_form(tree: &Tree, node: u32) -> bool
+pub(crate) fn lacks_form(tree: &Tree, node: u32) -> bool
     ensures { result ≡ lacks_form tree.now node }
 {
     if is_integer(tree, node) || is_enumerated(tree, node) {

@@ -4,7 +4,7 @@ use Rattle.eds_read_types.specs.Bases.{bases_within, is_in_cycle}
 use Rattle.eds_read_types.proofs.base.is_in_cycle.Given as goal
 
 abbrev pub invariant-loop-left : goal.invariant-loop-left
-invariant-loop-left l = list_any (λ base. base == l.id.0) (bases_within l.left l.bases l.at.0) ≡ is_in_cycle l.bases l.id.0
+invariant-loop-left l = list_any (λ base. base == l.id) (bases_within l.left l.bases l.at) ≡ is_in_cycle l.bases l.id
 
 abbrev pub decreases-loop-left : goal.decreases-loop-left
 decreases-loop-left l = l.left

@@ -1,7 +1,7 @@
 use Rattle.std.proofs.Common.{ap}
 use Rattle.eds_read_types.specs.Ranges.{no_range}
 use Rattle.eds_read_types.specs.Numbers.{numbers_with}
-use Rattle.eds_read_types.proofs.NumberFacts.{ok-is}
+use Rattle.eds_read_types.proofs.NumberSteps.{ok-is}
 use Rattle.eds_read_types.proofs.numbers.all_numbers.Goals as goal
 
 pub returns : goal.returns

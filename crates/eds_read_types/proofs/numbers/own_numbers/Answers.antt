@@ -1,5 +1,5 @@
 use Rattle.std.proofs.Common.{◌∙◌, sym}
-use Rattle.eds_read_types.proofs.NumberFacts.{ok-is, own-other}
+use Rattle.eds_read_types.proofs.NumberSteps.{ok-is, own-other}
 use Rattle.eds_read_types.proofs.numbers.own_numbers.Goals as goal
 
 pub returns-else-is_integer : goal.returns-else-is_integer

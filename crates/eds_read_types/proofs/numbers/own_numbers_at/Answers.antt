@@ -1,5 +1,5 @@
 use Rattle.std.proofs.Common.{rules, sym}
-use Rattle.eds_read_types.proofs.NumberFacts.{ok-is, own-none, own-past, own-there}
+use Rattle.eds_read_types.proofs.NumberSteps.{ok-is, own-none, own-past, own-there}
 use Rattle.eds_read_types.proofs.numbers.own_numbers_at.Goals as goal
 
 pub returns-in-None : goal.returns-in-None
