@@ -5,3 +5,4 @@ pub mod ListingFacts
 pub mod LawFacts
 mod EntriesLemmas
 mod NoBreaks
+pub mod FlatRules
