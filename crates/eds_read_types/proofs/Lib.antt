@@ -6,3 +6,6 @@ pub mod LawFacts
 mod EntriesLemmas
 mod NoBreaks
 pub mod FlatRules
+pub mod ChainFacts
+pub mod NumberFacts
+pub mod TableRules
