@@ -10,3 +10,7 @@ mod NumberSteps
 mod TableLeast
 mod RowSteps
 mod TableFacts
+pub mod FlatRules
+pub mod ChainFacts
+pub mod NumberFacts
+pub mod TableRules

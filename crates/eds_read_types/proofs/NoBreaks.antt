@@ -115,7 +115,7 @@ none-among (d ∷ ds) name h =
     go true e other below = rw e (rw other below)
     go false e other below = rw e below
 
-types-apart : (ds : List Declared) → NamesDiffer ds → AreApart (map (λ d. d.name) (filter is_type ds))
+pub types-apart : (ds : List Declared) → NamesDiffer ds → AreApart (map (λ d. d.name) (filter is_type ds))
 types-apart [] h = tt
 types-apart (d ∷ ds) h = go (is_type d) refl (types-apart ds h.1)
   where
@@ -142,7 +142,7 @@ rows_differ trees names word t apart h =
 -- ---- the names of entries
 
 -- some names are not among others
-abbrev NoneAmong : List (List ℕ) → List (List ℕ) → Type 0
+abbrev pub NoneAmong : List (List ℕ) → List (List ℕ) → Type 0
 NoneAmong before [] = Unit {0}
 NoneAmong before (name ∷ names) = (is_among before name ≡ false) × NoneAmong before names
 
@@ -161,7 +161,7 @@ not_among : (name : List ℕ) (before names : List (List ℕ)) → NoneAmong (na
 not_among name before [] k = refl
 not_among name before (m ∷ ms) k = let other : same name m ≡ false = bytes_eq-sym name m ∙ (neither (same m name) (is_among before m) k.0).0 in rw other (not_among name before ms k.1)
 
-no_repeats : (trees : List (List Node)) (before : List (List ℕ)) (ats : List Place) → repeats trees before ats ≡ [] → NoneAmong before (map (own_name trees) ats) × AreApart (map (own_name trees) ats)
+pub no_repeats : (trees : List (List Node)) (before : List (List ℕ)) (ats : List Place) → repeats trees before ats ≡ [] → NoneAmong before (map (own_name trees) ats) × AreApart (map (own_name trees) ats)
 no_repeats trees before [] h = (tt, tt)
 no_repeats trees before (at ∷ ats) h =
     let name = own_name trees at in

@@ -1,7 +1,7 @@
 -- The rows of the table of types.
-use Rattle.std.specs.Prelude.{ℕ, ◌+◌, List, [], ◌∷◌, ◌++◌, map, false, if◌then◌else◌, Option, Some, None, slice_get}
+use Rattle.std.specs.Prelude.{ℕ, ◌+◌, nat_le, List, [], ◌∷◌, ◌++◌, length, map, Bool, false, ◌&&◌, if◌then◌else◌, Option, Some, None, slice_get}
 use Rattle.std.specs.Option.{unwrap_or}
-use Rattle.std.specs.List.{flat_map}
+use Rattle.std.specs.List.{flat_map, list_all}
 use Rattle.eds_base.specs.Reading.{◌>>=◌}
 use Rattle.eds_base.specs.declared.ids.Place.{Place}
 use Rattle.eds_base.specs.declared.ids.TypeId.{TypeId}
@@ -14,6 +14,7 @@ use Rattle.eds_types.specs.declared.row.Kind.TheVariants as kind
 use Rattle.eds_types.specs.declared.row.Container.{Container}
 use Rattle.eds_types.specs.declared.row.Part.{Part}
 use Rattle.eds_types.specs.declared.row.Part.TheVariants as part
+use Rattle.eds_types.specs.Rows.{container_by, entries_in}
 use Rattle.eds_read_types.specs.declared.numbers.Numbers.{Numbers}
 use Rattle.eds_read_types.specs.Places.{own_name, is_container, types, type_places}
 use Rattle.eds_read_types.specs.References.{type_named}
@@ -76,6 +77,16 @@ rows_from trees names n (d ∷ ds) = table_row trees names n d ∷ rows_from tre
 -- a row for each declared type, in order
 abbrev pub table_rows : List (List Node) → Names → List TypeRow
 table_rows trees names = rows_from trees names 0 (types names)
+
+-- ---- limits
+
+-- a container has at most 32,767 entries
+abbrev pub has_few_entries : TypeRow → Bool
+has_few_entries row = nat_le (length (entries_in (container_by row.kind))) 32767
+
+-- there are at most 4,096 types, and so many entries
+abbrev pub are_few : List TypeRow → Bool
+are_few rows = nat_le (length rows) 4096 && list_all has_few_entries rows
 
 -- ---- the types that are used
 
