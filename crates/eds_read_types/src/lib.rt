@@ -31,7 +31,7 @@ pub use range::{End, Range, range_in, range_of};
 pub use read::read_types;
 pub use row::{AtMost, ENTRIES, Row, Rows, Size, TYPES, Types, Unsigned};
 pub use scalar_rules::{bad_encoding, bad_enumeration, empty_range};
-pub use table::{Typed, Used};
+pub use table::{Typed, Used, read_table};
 
 #[cfg(test)]
 mod scalar_tests;

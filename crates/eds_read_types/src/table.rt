@@ -63,7 +63,7 @@ fn are_few(rows: &[TypeRow]) -> bool
 /// The table of a sheet that breaks no rule.
 fn typed_of(alloc: Global, chains: &Chains, word: Option<&str>) -> Result<Typed, Memory>
     requires differ { NamesDiffer chains.now.sheet.now.space.now.declared }
-    requires unbroken { least (table_breaks chains.now.sheet.now.trees.now chains.now.sheet.now.space.now (option_map (λ w. w.now) word.entry)) ≡ None }
+    requires unbroken { least (table_breaks chains.now.sheet.now.trees.now chains.now.sheet.now.space.now (option_map (λ w. w.now) word)) ≡ None }
     ensures typed { IfOk result (λ t. t ≡ typed_of chains.now.sheet.now.trees.now chains.now.sheet.now.space.now (option_map (λ w. w.now) word.entry)) }
     ensures flat { IfOk result (λ t. IsFlatTable t.table) }
 {
