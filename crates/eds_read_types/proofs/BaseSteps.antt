@@ -84,7 +84,7 @@ flag-some bases cycles id c k e =
     this ∙ is
 
 past : {A : Type 0} (xs : List A) (i : ℕ) → slice_get xs i ≡ None → length xs ≤ i
-past xs i e = elim ((slice_get_cases xs i).1) [ inl h ↦ absurd (let none : None ≡ Some h.0 = sym e ∙ h.1.1.0 in cc) | inr h ↦ h.0 ]
+past xs i e = elim ((slice_get_cases xs i).1) [ inl h ↦ absurd (let none : None ≡ Some h.0 = sym e ∙ h.2 in cc) | inr h ↦ h.0 ]
 
 pub flag-none : (bases : List (Option TypeId)) (cycles : List Bool) (id : ℕ) → cycles ≡ map (is_in_cycle bases) (range_with_len 0 (length bases)) → slice_get cycles id ≡ None → false ≡ is_in_cycle bases id
 flag-none bases cycles id k e =

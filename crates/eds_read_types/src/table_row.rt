@@ -151,15 +151,22 @@ fn push_row(
     Ok(())
 }
 
+/// A row for each type of what is declared, in order.
+fn rows_among(alloc: Global, chains: &Chains, declared: &[Declared]) -> Result<TypeRows, Memory>
+    ensures { IfOk result (λ rows. rows ≡ rows_from chains.now.sheet.now.trees.now chains.now.sheet.now.space.now 0 (filter is_type declared.now)) }
+{
+    let mut rows = TypeRows::new(alloc);
+    for one in declared {
+        push_row(alloc, &mut rows, chains, one)?;
+    }
+    Ok(rows)
+}
+
 /// A row for each declared type, in order.
 pub(crate) fn table_rows(alloc: Global, chains: &Chains) -> Result<TypeRows, Memory>
     ensures { IfOk result (λ rows. rows ≡ table_rows_of chains.now.sheet.now.trees.now chains.now.sheet.now.space.now) }
 {
-    let mut rows = TypeRows::new(alloc);
-    for one in chains.sheet.space.declared() {
-        push_row(alloc, &mut rows, chains, one)?;
-    }
-    Ok(rows)
+    rows_among(alloc, chains, chains.sheet.space.declared())
 }
 
 /// Puts the types last that the entries of a type name.
