@@ -72,7 +72,7 @@ neither_by_kinds t base (kind.Arr item n) l flat d = absurd d
 neither_by_kinds t base (kind.Con c) l flat d = let no = flat.root in absurd cc
 
 -- a scalar type is no container
-scalar_by_kind : (k : Kind) → IsScalarKind k → container_by k ≡ None
+pub scalar_by_kind : (k : Kind) → IsScalarKind k → container_by k ≡ None
 scalar_by_kind (kind.Int form spans) s = refl
 scalar_by_kind (kind.Enum form listing) s = refl
 scalar_by_kind (kind.Bool form) s = refl
@@ -80,10 +80,6 @@ scalar_by_kind (kind.Str form) s = refl
 scalar_by_kind (kind.Bin n) s = refl
 scalar_by_kind (kind.Arr item n) s = refl
 scalar_by_kind (kind.Con c) s = absurd s
-
-or_of : (a b : Bool) → cond a true b ≡ true → (a ≡ false → b ≡ true)
-or_of true b e f = absurd cc
-or_of false b e f = e
 
 has_append : (xs : List ℕ) (k x : ℕ) → list_has (xs ++ k ∷ []) x ≡ true → (k ≡ x → ⊥) → list_has xs x ≡ true
 has_append [] k x h apart = go (k == x) refl h
