@@ -1,6 +1,6 @@
 -- The rows of a sheet that breaks no rule on types keep the rules of a table, and are flat.
-use Rattle.std.proofs.Common.{◌≡◌, ℕ, zero, suc, ◌+◌, ◌<◌, ◌≤◌, Bool, true, false, ◌&&◌, ◌||◌, List, [], ◌∷◌, ◌++◌, length, map, slice_get, option_map, Option, Some, None, refl, sym, ap, subst, ◌∙◌, arith, lit≤}
-use Rattle.std.specs.Prelude.{nat_le, not, codes, if◌then◌else◌, filter, IsSome}
+use Rattle.std.proofs.Common.{◌≡◌, ℕ, zero, suc, ◌+◌, ◌≤◌, Bool, true, false, ◌||◌, List, [], ◌∷◌, ◌++◌, length, map, slice_get, option_map, Option, Some, None, refl, sym, ap, subst, ◌∙◌, arith, lit≤}
+use Rattle.std.specs.Prelude.{nat_le, codes, if◌then◌else◌}
 use Rattle.std.specs.List.{AllByRecursion, filter_map, flat_map, list_all}
 use Rattle.std.proofs.Common.{leb-true}
 use Rattle.std.proofs.lemmas.Bool.{and_parts}
@@ -13,7 +13,6 @@ use Rattle.eds_base.specs.declared.ids.Place.{Place}
 use Rattle.eds_base.specs.declared.ids.TypeId.{TypeId}
 use Rattle.eds_base.specs.declared.refusal.Refusal.{Refusal}
 use Rattle.eds_bits.specs.Lists.{Has}
-use Rattle.eds_bits.specs.declared.forms.IntForm.{IntForm}
 use Rattle.eds_tree.specs.declared.tree.Node.{Node}
 use Rattle.eds_tree.specs.Trees.{node_name, name_at}
 use Rattle.eds_names.specs.declared.declared.Declared.{Declared}
@@ -24,12 +23,11 @@ use Rattle.eds_names.specs.LookUp.{Names, AreApart, NamesDiffer, look_up}
 use Rattle.eds_types.specs.declared.row.TypeRow.{TypeRow}
 use Rattle.eds_types.specs.declared.row.Kind.{Kind}
 use Rattle.eds_types.specs.declared.row.Kind.TheVariants as kind
-use Rattle.eds_types.specs.declared.row.Part.{Part}
 use Rattle.eds_types.specs.FlatTables.{IsScalarEntry, IsFlatKind, IsFlatTable}
-use Rattle.eds_types.specs.Rows.{base_in, base_of, number_of_id, container_by, entries_in, constraints_in}
+use Rattle.eds_types.specs.Rows.{base_in, base_of, number_of_id, entries_in, constraints_in}
 use Rattle.eds_types.specs.Rules.{AreDistinct, IsListing, KindKeeps, HasKind, IsScalarKind, DerivesFrom, name_of, KeepsRules}
 use Rattle.eds_read_types.specs.declared.numbers.Numbers.{Numbers}
-use Rattle.eds_read_types.specs.Places.{element, is_element, own_name, is_container, is_type, types, type_places}
+use Rattle.eds_read_types.specs.Places.{element, is_element, own_name, is_container, types, type_places}
 use Rattle.eds_read_types.specs.References.{type_named, type_of, type_found}
 use Rattle.eds_read_types.specs.ReadTypes.{id_of}
 use Rattle.eds_read_types.specs.Entries.{entries_at, repeats, duplicates_at, breaks_empty, breaks_duplicate}
@@ -37,9 +35,9 @@ use Rattle.eds_read_types.specs.Forms.{int_form_of, bool_form_of}
 use Rattle.eds_read_types.specs.Listings.{listing_of}
 use Rattle.eds_read_types.specs.ScalarRules.{is_enumerated, is_boolean, encoding_breaks, range_breaks, enumeration_breaks}
 use Rattle.eds_read_types.specs.TypeReferences.{breaks_finding, breaks_kind}
-use Rattle.eds_read_types.specs.Bases.{is_sub_range, is_number, base_named, base_found, bases_of, base_at, base_kind_by, base_kind, base_kind_at, breaks_base_kind, breaks_cycle, breaks_chain}
+use Rattle.eds_read_types.specs.Bases.{is_sub_range, is_number, base_named, base_found, bases_of, base_kind_by, base_kind, base_kind_at, breaks_base_kind, breaks_cycle, breaks_chain}
 use Rattle.eds_read_types.specs.Numbers.{form_or_wide, truth_or_octet, numbers_of}
-use Rattle.eds_read_types.specs.TableRows.{entry_type, id_or_first, entry_part, container_at, scalar_kind, scalar_kind_in, kind_of, table_row, rows_from, table_rows, has_few_entries, are_few}
+use Rattle.eds_read_types.specs.TableRows.{entry_type, id_or_first, entry_part, container_at, scalar_kind_in, kind_of, table_row, rows_from, table_rows, has_few_entries, are_few}
 use Rattle.eds_read_types.specs.TableBreaks.{not_scalar_by, not_scalar_at, not_flat_at, breaks_flat, breaks_in, breaks_at, breaks_each, breaks_sub_range, reference_breaks, chain_breaks, scalar_breaks, container_breaks, table_breaks}
 use Rattle.eds_read_types.proofs.NoBreaks.{least-none, append-none, types-apart, no_repeats}
 use Rattle.eds_read_types.proofs.LawFacts.{name_apart, enumerated_unbroken}
