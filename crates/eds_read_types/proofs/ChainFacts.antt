@@ -1,13 +1,11 @@
 -- Chains of bases in a sheet whose types are not their own bases and whose chains are short.
-use Rattle.std.proofs.Common.{◌≡◌, ℕ, zero, suc, ◌+◌, ◌<◌, ◌≤◌, Bool, true, false, ◌==◌, ◌&&◌, ◌||◌, List, [], ◌∷◌, ◌++◌, length, map, slice_get, option_map, Option, Some, None, refl, sym, ap, subst, ◌∙◌, arith, lit<}
+use Rattle.std.proofs.Common.{◌≡◌, ℕ, zero, suc, ◌+◌, ◌<◌, Bool, true, false, ◌==◌, ◌&&◌, List, [], ◌∷◌, length, slice_get, Option, Some, None, refl, sym, ap, subst, ◌∙◌, arith}
 use Rattle.std.specs.Prelude.{nat_le, not, if◌then◌else◌}
 use Rattle.std.specs.List.{flat_map, list_any}
 use Rattle.std.proofs.lemmas.Bool.Decides.{nat_tests}
-use Rattle.std.proofs.lemmas.Option.{slice_get-map}
 use Rattle.eds_base.specs.declared.ids.Place.{Place}
 use Rattle.eds_base.specs.declared.ids.TypeId.{TypeId}
 use Rattle.eds_base.specs.declared.refusal.Refusal.{Refusal}
-use Rattle.eds_base.specs.declared.rule.Rule.{Rule}
 use Rattle.eds_read_types.specs.Bases.{base_at, bases_above, bases_within, all_bases, is_in_cycle, meets_cycle, is_long, breaks_over, cycle_at, chain_at}
 use Rattle.eds_read_types.proofs.NoBreaks.{append-none}
 

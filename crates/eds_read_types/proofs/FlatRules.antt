@@ -1,5 +1,5 @@
 -- Scalar types and flat containers that keep the rules one by one make a table that keeps them all.
-use Rattle.std.proofs.Common.{◌≡◌, ℕ, zero, suc, ◌+◌, ◌<◌, ◌≤◌, ◌==◌, Bool, true, false, cond, List, [], ◌∷◌, ◌++◌, map, length, filter, reverse, slice_get, Option, Some, None, refl, sym, ap, subst, ◌∙◌, arith, lit<, lit≤, inl, inr}
+use Rattle.std.proofs.Common.{◌≡◌, ℕ, zero, suc, ◌+◌, ◌<◌, ◌≤◌, ◌==◌, Bool, true, false, cond, List, [], ◌∷◌, ◌++◌, map, length, filter, reverse, slice_get, Option, Some, None, refl, sym, ap, subst, ◌∙◌, arith, lit<, lit≤}
 use Rattle.std.specs.Prelude.{IsTrue, IsSome}
 use Rattle.std.specs.List.{AllByRecursion, filter_map, flat_map, range_with_len}
 use Rattle.std.proofs.lemmas.Bool.{eqb-true, eq-eqb}
@@ -9,7 +9,6 @@ use Rattle.std.proofs.lemmas.Option.{slice_get_within}
 use Rattle.eds_base.specs.declared.ids.TypeId.{TypeId}
 use Rattle.eds_bits.specs.Lists.{Has}
 use Rattle.eds_types.specs.declared.row.TypeRow.{TypeRow}
-use Rattle.eds_types.specs.declared.row.Constraint.{Constraint}
 use Rattle.eds_types.specs.declared.row.Container.{Container}
 use Rattle.eds_types.specs.declared.row.Part.{Part}
 use Rattle.eds_types.specs.declared.row.Part.TheVariants as part
@@ -17,8 +16,8 @@ use Rattle.eds_types.specs.declared.row.Kind.{Kind}
 use Rattle.eds_types.specs.declared.row.Kind.TheVariants as kind
 use Rattle.eds_types.specs.Fields.{type_by}
 use Rattle.eds_types.specs.FlatTables.{IsScalarEntry, IsFlat, IsFlatKind, IsFlatTable}
-use Rattle.eds_types.specs.Rows.{Table, base_in, base_of, container_by, container_in, container_of, concrete_in, is_concrete, entries_in, trailers_in, constraints_in, constraints_of, own_parts, Placed, placed_from, placed_entries, placed_trailers, sequence, chain, chain_before, chain_within, list_has, numbers, derived}
-use Rattle.eds_types.specs.Rules.{AreDistinct, IsIntBy, KindKeeps, HasKind, IsContainer, IsScalarKind, IsHollow, DerivesFrom, IsNested, ItemsNest, PartKeeps, name_of, is_length, ConstraintKeeps, SequenceKeeps, KeepsRules}
+use Rattle.eds_types.specs.Rows.{Table, base_in, base_of, container_by, container_in, container_of, concrete_in, entries_in, trailers_in, constraints_in, constraints_of, own_parts, Placed, placed_from, placed_entries, placed_trailers, sequence, chain, chain_before, chain_within, list_has, derived}
+use Rattle.eds_types.specs.Rules.{AreDistinct, KindKeeps, HasKind, IsContainer, IsScalarKind, IsHollow, DerivesFrom, IsNested, ItemsNest, PartKeeps, name_of, is_length, ConstraintKeeps, SequenceKeeps, KeepsRules}
 
 -- what a row keeps by itself
 pub record KeepsRow (t : Table) (row : TypeRow) : Type 0 where
@@ -72,7 +71,7 @@ neither_by_kinds t base (kind.Arr item n) l flat d = absurd d
 neither_by_kinds t base (kind.Con c) l flat d = let no = flat.root in absurd cc
 
 -- a scalar type is no container
-scalar_by_kind : (k : Kind) → IsScalarKind k → container_by k ≡ None
+pub scalar_by_kind : (k : Kind) → IsScalarKind k → container_by k ≡ None
 scalar_by_kind (kind.Int form spans) s = refl
 scalar_by_kind (kind.Enum form listing) s = refl
 scalar_by_kind (kind.Bool form) s = refl
@@ -80,10 +79,6 @@ scalar_by_kind (kind.Str form) s = refl
 scalar_by_kind (kind.Bin n) s = refl
 scalar_by_kind (kind.Arr item n) s = refl
 scalar_by_kind (kind.Con c) s = absurd s
-
-or_of : (a b : Bool) → cond a true b ≡ true → (a ≡ false → b ≡ true)
-or_of true b e f = absurd cc
-or_of false b e f = e
 
 has_append : (xs : List ℕ) (k x : ℕ) → list_has (xs ++ k ∷ []) x ≡ true → (k ≡ x → ⊥) → list_has xs x ≡ true
 has_append [] k x h apart = go (k == x) refl h

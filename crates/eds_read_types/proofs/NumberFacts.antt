@@ -1,12 +1,11 @@
 -- The domains of integer types and sub-ranges in a sheet that breaks no rule on bases and scalar types.
-use Rattle.std.proofs.Common.{◌≡◌, ℕ, zero, suc, ◌+◌, ◌<◌, ◌≤◌, Bool, true, false, ◌&&◌, ◌||◌, List, [], ◌∷◌, ◌++◌, length, map, slice_get, option_map, Option, Some, None, refl, sym, ap, subst, ◌∙◌, arith, lit<}
-use Rattle.std.specs.Prelude.{not, if◌then◌else◌, IsNone}
-use Rattle.std.specs.List.{flat_map, list_any}
+use Rattle.std.proofs.Common.{◌≡◌, ℕ, zero, suc, ◌<◌, ◌≤◌, Bool, true, false, ◌&&◌, List, [], ◌∷◌, length, slice_get, Option, Some, None, refl, sym, ap, subst, ◌∙◌, arith}
+use Rattle.std.specs.Prelude.{not, if◌then◌else◌}
+use Rattle.std.specs.List.{list_any}
 use Rattle.std.proofs.lemmas.Option.{slice_get-map}
 use Rattle.eds_base.specs.declared.ids.Place.{Place}
 use Rattle.eds_base.specs.declared.ids.TypeId.{TypeId}
 use Rattle.eds_base.specs.declared.spans.Span.{Span}
-use Rattle.eds_base.specs.declared.refusal.Refusal.{Refusal}
 use Rattle.eds_base.specs.declared.rule.Rule.TheVariants.{BadEncoding}
 use Rattle.eds_bits.specs.declared.forms.IntForm.{IntForm}
 use Rattle.eds_tree.specs.declared.tree.Node.{Node}
@@ -16,10 +15,10 @@ use Rattle.eds_read_types.specs.declared.numbers.Numbers.{Numbers}
 use Rattle.eds_read_types.specs.Places.{type_places}
 use Rattle.eds_read_types.specs.Forms.{int_form_of}
 use Rattle.eds_read_types.specs.Ranges.{no_range, range_of}
-use Rattle.eds_read_types.specs.Domains.{domain_of, narrowed, has_none}
+use Rattle.eds_read_types.specs.Domains.{has_none}
 use Rattle.eds_read_types.specs.ScalarRules.{is_integer, lacks_form, encoding_breaks, range_breaks}
-use Rattle.eds_read_types.specs.Bases.{is_sub_range, base_named, base_found, bases_of, base_at, bases_within, breaks_over, breaks_cycle, breaks_chain}
-use Rattle.eds_read_types.specs.Numbers.{wide_form, form_or_wide, numbers_with, all_numbers, own_numbers, own_numbers_in, own_numbers_at, range_at, narrowed_numbers, numbers_by, numbers_within, numbers_of}
+use Rattle.eds_read_types.specs.Bases.{is_sub_range, base_found, bases_of, base_at, bases_within, breaks_cycle, breaks_chain}
+use Rattle.eds_read_types.specs.Numbers.{wide_form, form_or_wide, numbers_with, all_numbers, own_numbers_in, own_numbers_at, range_at, narrowed_numbers, numbers_by, numbers_within, numbers_of}
 use Rattle.eds_read_types.specs.TableBreaks.{breaks_in, breaks_at, breaks_each, lacks_form_in, lacks_form_at, is_empty_type, is_faulty, lost_numbers, sub_range_at, breaks_sub_range}
 use Rattle.eds_read_types.proofs.LawFacts.{none_broken, domain_kept, narrowed_kept, narrowed_derives, integer_unbroken}
 use Rattle.eds_read_types.proofs.ChainFacts.{over-none, each-none, unmet, no_bases, bases_none, bases_step, level, few_bases, less_bases}

@@ -1,6 +1,6 @@
 -- The rows of a sheet that breaks no rule on types keep the rules of a table, and are flat.
-use Rattle.std.proofs.Common.{◌≡◌, ℕ, zero, suc, ◌+◌, ◌<◌, ◌≤◌, Bool, true, false, ◌&&◌, ◌||◌, List, [], ◌∷◌, ◌++◌, length, map, slice_get, option_map, Option, Some, None, refl, sym, ap, subst, ◌∙◌, arith, lit≤}
-use Rattle.std.specs.Prelude.{nat_le, not, codes, if◌then◌else◌, filter, IsSome}
+use Rattle.std.proofs.Common.{◌≡◌, ℕ, zero, suc, ◌+◌, ◌≤◌, Bool, true, false, ◌||◌, List, [], ◌∷◌, ◌++◌, length, map, slice_get, option_map, Option, Some, None, refl, sym, ap, subst, ◌∙◌, arith, lit≤}
+use Rattle.std.specs.Prelude.{nat_le, codes, if◌then◌else◌}
 use Rattle.std.specs.List.{AllByRecursion, filter_map, flat_map, list_all}
 use Rattle.std.proofs.Common.{leb-true}
 use Rattle.std.proofs.lemmas.Bool.{and_parts}
@@ -13,7 +13,6 @@ use Rattle.eds_base.specs.declared.ids.Place.{Place}
 use Rattle.eds_base.specs.declared.ids.TypeId.{TypeId}
 use Rattle.eds_base.specs.declared.refusal.Refusal.{Refusal}
 use Rattle.eds_bits.specs.Lists.{Has}
-use Rattle.eds_bits.specs.declared.forms.IntForm.{IntForm}
 use Rattle.eds_tree.specs.declared.tree.Node.{Node}
 use Rattle.eds_tree.specs.Trees.{node_name, name_at}
 use Rattle.eds_names.specs.declared.declared.Declared.{Declared}
@@ -24,12 +23,11 @@ use Rattle.eds_names.specs.LookUp.{Names, AreApart, NamesDiffer, look_up}
 use Rattle.eds_types.specs.declared.row.TypeRow.{TypeRow}
 use Rattle.eds_types.specs.declared.row.Kind.{Kind}
 use Rattle.eds_types.specs.declared.row.Kind.TheVariants as kind
-use Rattle.eds_types.specs.declared.row.Part.{Part}
 use Rattle.eds_types.specs.FlatTables.{IsScalarEntry, IsFlatKind, IsFlatTable}
-use Rattle.eds_types.specs.Rows.{base_in, base_of, number_of_id, container_by, entries_in, constraints_in}
+use Rattle.eds_types.specs.Rows.{base_in, base_of, number_of_id, entries_in, constraints_in}
 use Rattle.eds_types.specs.Rules.{AreDistinct, IsListing, KindKeeps, HasKind, IsScalarKind, DerivesFrom, name_of, KeepsRules}
 use Rattle.eds_read_types.specs.declared.numbers.Numbers.{Numbers}
-use Rattle.eds_read_types.specs.Places.{element, is_element, own_name, is_container, is_type, types, type_places}
+use Rattle.eds_read_types.specs.Places.{element, is_element, own_name, is_container, types, type_places}
 use Rattle.eds_read_types.specs.References.{type_named, type_of, type_found}
 use Rattle.eds_read_types.specs.ReadTypes.{id_of}
 use Rattle.eds_read_types.specs.Entries.{entries_at, repeats, duplicates_at, breaks_empty, breaks_duplicate}
@@ -37,13 +35,13 @@ use Rattle.eds_read_types.specs.Forms.{int_form_of, bool_form_of}
 use Rattle.eds_read_types.specs.Listings.{listing_of}
 use Rattle.eds_read_types.specs.ScalarRules.{is_enumerated, is_boolean, encoding_breaks, range_breaks, enumeration_breaks}
 use Rattle.eds_read_types.specs.TypeReferences.{breaks_finding, breaks_kind}
-use Rattle.eds_read_types.specs.Bases.{is_sub_range, is_number, base_named, base_found, bases_of, base_at, base_kind_by, base_kind, base_kind_at, breaks_base_kind, breaks_cycle, breaks_chain}
+use Rattle.eds_read_types.specs.Bases.{is_sub_range, is_number, base_named, base_found, bases_of, base_kind_by, base_kind, base_kind_at, breaks_base_kind, breaks_cycle, breaks_chain}
 use Rattle.eds_read_types.specs.Numbers.{form_or_wide, truth_or_octet, numbers_of}
-use Rattle.eds_read_types.specs.TableRows.{entry_type, id_or_first, entry_part, container_at, scalar_kind, scalar_kind_in, kind_of, table_row, rows_from, table_rows, has_few_entries, are_few}
+use Rattle.eds_read_types.specs.TableRows.{entry_type, id_or_first, entry_part, container_at, scalar_kind_in, kind_of, table_row, rows_from, table_rows, has_few_entries, are_few}
 use Rattle.eds_read_types.specs.TableBreaks.{not_scalar_by, not_scalar_at, not_flat_at, breaks_flat, breaks_in, breaks_at, breaks_each, breaks_sub_range, reference_breaks, chain_breaks, scalar_breaks, container_breaks, table_breaks}
 use Rattle.eds_read_types.proofs.NoBreaks.{least-none, append-none, types-apart, no_repeats}
 use Rattle.eds_read_types.proofs.LawFacts.{name_apart, enumerated_unbroken}
-use Rattle.eds_read_types.proofs.FlatRules.{KeepsRow, AreFlatRows, flat_by_rows, keeps_by_rows}
+use Rattle.eds_read_types.proofs.FlatRules.{KeepsRow, AreFlatRows, scalar_by_kind, flat_by_rows, keeps_by_rows}
 use Rattle.eds_read_types.proofs.ChainFacts.{each-none, level}
 use Rattle.eds_read_types.proofs.NumberFacts.{HasNumbers, base_there, base_is_sub, few_levels, less_levels, domains, derives_from}
 
@@ -52,18 +50,18 @@ all_there p [] h k row e = absurd cc
 all_there p (r ∷ rows) h zero row e = let is : r ≡ row = cc in subst (λ x. p x ≡ true) is (and_parts (p r) (list_all p rows) h).0
 all_there p (r ∷ rows) h (suc k) row e = all_there p rows (and_parts (p r) (list_all p rows) h).1 k row e
 
+clash : (b : Bool) → b ≡ false → b ≡ true → ⊥
+clash b e f = cc
+
+true_or : (b : Bool) → (b || true) ≡ true
+true_or true = refl
+true_or false = refl
+
 -- ---- names
 
 among_has : (xs : List (List ℕ)) (x : List ℕ) → Has xs x → is_among xs x ≡ true
 among_has xs x h = ap (λ ys. is_among ys x) h.is ∙ stands h.before h.after
   where
-    true_or : (a : Bool) → (a || true) ≡ true
-    true_or true = refl
-    true_or false = refl
-
-    found : (same x x || is_among [] x) ≡ true
-    found = rw ((bytes_eq-Decides x x).1 refl) refl
-
     stands : (before after : List (List ℕ)) → is_among (before ++ x ∷ after) x ≡ true
     stands [] after = rw ((bytes_eq-Decides x x).1 refl) refl
     stands (y ∷ before) after = rw (stands before after) (true_or (same x y))
@@ -71,9 +69,6 @@ among_has xs x h = ap (λ ys. is_among ys x) h.is ∙ stands h.before h.after
 apart-distinct : (xs : List (List ℕ)) → AreApart xs → AreDistinct xs
 apart-distinct [] h = tt
 apart-distinct (x ∷ xs) h = (λ has. clash (is_among xs x) h.0 (among_has xs x has), apart-distinct xs h.1)
-  where
-    clash : (b : Bool) → b ≡ false → b ≡ true → ⊥
-    clash b e f = cc
 
 -- ---- rows
 
@@ -129,11 +124,7 @@ in_tree_number (Some t) n numbers h =
     rw (enumerated, boolean) refl
 
 sub_is_number : (trees : List (List Node)) (at : Place) → is_sub_range trees at ≡ true → is_number trees at ≡ true
-sub_is_number trees at h = rw h (or_true (is_element trees (codes "IntegerDataType") at))
-  where
-    or_true : (a : Bool) → (a || true) ≡ true
-    or_true true = refl
-    or_true false = refl
+sub_is_number trees at h = rw h (true_or (is_element trees (codes "IntegerDataType") at))
 
 number_kind : (trees : List (List Node)) (names : Names) (id : ℕ) (at : Place) → is_number trees at ≡ true → kind_of trees names id at ≡ kind.Int (numbers_of trees (type_places names) (bases_of trees names) id).form (numbers_of trees (type_places names) (bases_of trees names) id).spans
 number_kind trees names id at h =
@@ -257,12 +248,6 @@ unbroken trees names word h =
     record { kinds = r.1; cycles = g.0; chains = g.1; flat = f.1; encodings = e.0; ranges = e.1; subs = u.1; enumerations = s.1; duplicates = o.1 }
 
 module _ (trees : List (List Node)) (names : Names) (u : IsUnbroken trees names) where
-  numbers_at : ℕ → Numbers
-  numbers_at id = numbers_of trees (type_places names) (bases_of trees names) id
-
-  level_at : ℕ → ℕ
-  level_at id = level (bases_of trees names) id
-
   -- ---- containers
 
   container_row : (id : ℕ) (d : Declared) → slice_get (types names) id ≡ Some d → is_container trees d.place ≡ true → length (entries_at trees d.place) ≤ 32767
@@ -285,10 +270,7 @@ module _ (trees : List (List Node)) (names : Names) (u : IsUnbroken trees names)
       no_base_by (Some base) e =
           let number = sub_is_number trees d.place (base_is_sub trees names d.place base e) in
           let other : is_container trees d.place ≡ false = number_apart (node_name (element trees d.place)) (codes "ContainerDataType") refl refl number in
-          absurd (clash (is_container trees d.place) is other)
-        where
-          clash : (b : Bool) → b ≡ true → b ≡ false → ⊥
-          clash b e f = cc
+          absurd (clash (is_container trees d.place) other is)
 
       no_other : (base : ℕ) → number_of_id (base_found trees names d.place) ≡ Some base → base_found trees names d.place ≡ None → ⊥
       no_other base e f = let no : None ≡ Some base = sym (ap number_of_id f) ∙ e in cc
@@ -342,15 +324,6 @@ module _ (trees : List (List Node)) (names : Names) (u : IsUnbroken trees names)
   flat_scalar base (kind.Arr item n) s = absurd s
   flat_scalar base (kind.Con c) s = absurd s
 
-  bare_scalar : (k : Kind) → IsScalarKind k → container_by k ≡ None
-  bare_scalar (kind.Int form spans) s = refl
-  bare_scalar (kind.Enum form listing) s = refl
-  bare_scalar (kind.Bool form) s = refl
-  bare_scalar (kind.Str form) s = refl
-  bare_scalar (kind.Bin n) s = refl
-  bare_scalar (kind.Arr item n) s = refl
-  bare_scalar (kind.Con c) s = absurd s
-
   scalar_row : (id : ℕ) (d : Declared) → slice_get (types names) id ≡ Some d → is_container trees d.place ≡ false → KeepsRow (table_rows trees names) (table_row trees names id d)
   scalar_row id d there is =
       let scalar : IsScalarKind (kind_of trees names id d.place) = rw is (scalar_is_scalar (slice_get trees d.place.file) d.place.node (numbers_of trees (type_places names) (bases_of trees names) id)) in
@@ -358,8 +331,8 @@ module _ (trees : List (List Node)) (names : Names) (u : IsUnbroken trees names)
         kind_keeps = rw is (scalar_keeps id d there);
         derives = λ base e. (let some = number_some (base_found trees names d.place) base e in subst (λ n. HasKind (table_rows trees names) n (DerivesFrom (kind_of trees names id d.place))) some.2 (derives id d there some.0 some.1));
         flat = flat_scalar (number_of_id (base_found trees names d.place)) (kind_of trees names id d.place) scalar;
-        bare = ap constraints_in (bare_scalar (kind_of trees names id d.place) scalar);
-        names = subst (λ c. AreDistinct (filter_map name_of (entries_in c))) (sym (bare_scalar (kind_of trees names id d.place) scalar)) tt;
+        bare = ap constraints_in (scalar_by_kind (kind_of trees names id d.place) scalar);
+        names = subst (λ c. AreDistinct (filter_map name_of (entries_in c))) (sym (scalar_by_kind (kind_of trees names id d.place) scalar)) tt;
       }
 
   -- ---- all rows
