@@ -1,6 +1,6 @@
 -- What a sheet that breaks no rule on types has.
 use Rattle.std.proofs.Common.{◌≡◌, ℕ, ◌<◌, Bool, true, false, ◌||◌, List, [], ◌∷◌, ◌++◌, length, map, filter, Option, Some, None, Result, Ok, Err, refl, sym, ap, ◌∙◌, subst, slice_get, is_some, option_map}
-use Rattle.std.specs.Prelude.{IfSome, IfOk, if◌then◌else◌}
+use Rattle.std.specs.Prelude.{IfSome, IfOk}
 use Rattle.std.specs.List.{flat_map, All, AllByRecursion}
 use Rattle.std.proofs.lemmas.Option.{slice_get_within}
 use Rattle.std.proofs.lemmas.List.{length-map}
@@ -9,9 +9,9 @@ use Rattle.eds_base.specs.declared.ids.Place.{Place}
 use Rattle.eds_base.specs.declared.ids.TypeId.{TypeId}
 use Rattle.eds_base.specs.declared.fail.Fail.{Fail}
 use Rattle.eds_base.specs.declared.refusal.Refusal.{Refusal}
-use Rattle.eds_base.specs.declared.rule.Rule.TheVariants.{DuplicateEntry, WrongKind, Unresolved}
+use Rattle.eds_base.specs.declared.rule.Rule.TheVariants.{DuplicateEntry}
 use Rattle.eds_base.specs.Answering.{Answers}
-use Rattle.eds_base.specs.Reading.{◌>>=◌, same}
+use Rattle.eds_base.specs.Reading.{same}
 use Rattle.eds_base.specs.Refusals.{first_of, least}
 use Rattle.eds_tree.specs.declared.tree.Node.{Node}
 use Rattle.eds_names.specs.declared.declared.Item.{Item}
@@ -20,14 +20,13 @@ use Rattle.eds_names.specs.declared.declared.Declared.{Declared}
 use Rattle.eds_names.specs.Repeats.{is_among}
 use Rattle.eds_names.specs.LookUp.{Names, AreApart, NamesDiffer, look_up}
 use Rattle.eds_names.proofs.LookUpLemmas.{bytes_eq-sym}
-use Rattle.eds_read_types.specs.declared.row.Row.{Row}
 use Rattle.eds_read_types.specs.declared.row.Types.{Types}
 use Rattle.eds_read_types.specs.Rows.{row_name, EntriesDiffer, RowsDiffer}
 use Rattle.eds_read_types.specs.Places.{own_name, is_container, is_type, types, type_places, elements}
 use Rattle.eds_read_types.specs.References.{broken_with, word_place, unresolved, unresolved_at, unresolved_by, wrong_kind, wrong_kind_at, wrong_kind_by, no_type_by, breaks_unresolved, breaks_wrong_kind, breaks_nested}
 use Rattle.eds_read_types.specs.Encodings.{breaks_encoding}
 use Rattle.eds_read_types.specs.Entries.{entries_at, repeat_of, repeats, duplicates_at, breaks_empty, breaks_duplicate}
-use Rattle.eds_read_types.specs.ReadTypes.{type_breaks, entry_row, entry_rows, row_of, word_type, types_of, unless, types_read}
+use Rattle.eds_read_types.specs.ReadTypes.{type_breaks, entry_row, row_of, word_type, types_of, unless, types_read}
 
 -- ---- no least, no breaks
 

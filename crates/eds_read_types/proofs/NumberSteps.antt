@@ -1,11 +1,10 @@
 -- The numbers of a type, step by step.
-use Rattle.std.proofs.Common.{◌≡◌, ℕ, zero, suc, ◌-◌, ◌<◌, Bool, true, false, List, Option, Some, None, Result, Ok, Err, refl, sym, ap, ◌∙◌, arith, slice_get}
+use Rattle.std.proofs.Common.{◌≡◌, ℕ, zero, suc, ◌-◌, ◌<◌, false, List, Option, Some, None, Result, Ok, Err, refl, sym, ap, ◌∙◌, arith, slice_get}
 use Rattle.std.specs.Prelude.{IfOk, if◌then◌else◌}
 use Rattle.eds_base.specs.declared.ids.Place.{Place}
 use Rattle.eds_base.specs.declared.ids.TypeId.{TypeId}
 use Rattle.eds_tree.specs.declared.tree.Node.{Node}
 use Rattle.eds_read_types.specs.declared.numbers.Numbers.{Numbers}
-use Rattle.eds_read_types.specs.declared.range.Range.{Range}
 use Rattle.eds_read_types.specs.Forms.{int_form_of}
 use Rattle.eds_read_types.specs.Ranges.{range_of}
 use Rattle.eds_read_types.specs.ScalarRules.{is_integer}

@@ -1,8 +1,7 @@
 -- What a sheet has that breaks no rule on the types of its table.
-use Rattle.std.proofs.Common.{◌≡◌, ℕ, ◌+◌, ◌<◌, List, [], ◌∷◌, ◌++◌, length, map, Option, Some, None, Result, Ok, Err, refl, sym, ap, ◌∙◌, subst, is_some, suc}
+use Rattle.std.proofs.Common.{◌≡◌, ℕ, ◌+◌, ◌<◌, List, [], ◌∷◌, ◌++◌, length, Option, Some, None, Result, Ok, Err, refl, sym, ap, subst, is_some, suc}
 use Rattle.std.specs.Prelude.{IfSome, IfOk}
 use Rattle.std.specs.List.{flat_map}
-use Rattle.std.proofs.lemmas.List.{length-map}
 use Rattle.eds_base.specs.declared.fail.Fail.{Fail}
 use Rattle.eds_base.specs.declared.refusal.Refusal.{Refusal}
 use Rattle.eds_base.specs.Answering.{Answers}
@@ -16,10 +15,10 @@ use Rattle.eds_read_types.specs.References.{word_place, unresolved, wrong_kind}
 use Rattle.eds_read_types.specs.ReadTypes.{word_type}
 use Rattle.eds_read_types.specs.TypeReferences.{finds_nothing_at, finds_no_type_at, breaks_finding, breaks_kind}
 use Rattle.eds_read_types.specs.Bases.{breaks_base_kind}
-use Rattle.eds_read_types.specs.TableRows.{rows_from, table_rows, used_types}
+use Rattle.eds_read_types.specs.TableRows.{rows_from}
 use Rattle.eds_read_types.specs.TableBreaks.{reference_breaks, chain_breaks, scalar_breaks, container_breaks, table_breaks}
 use Rattle.eds_read_types.specs.TableRead.{typed_of, unless, table_read}
-use Rattle.eds_read_types.proofs.NoBreaks.{least-none, append-none, IsKnown, known}
+use Rattle.eds_read_types.proofs.NoBreaks.{least-none, append-none, known}
 
 -- the table is read where no rule is broken
 pub table_unbroken : (trees : List (List Node)) (names : Names) (word : Option (List ℕ)) (t : Typed) → table_read trees names word ≡ Ok t → (least (table_breaks trees names word) ≡ None) × (typed_of trees names word ≡ t)

@@ -1,5 +1,5 @@
 -- The forms and domains of integer types and sub-ranges by their numbers among all types.
-use Rattle.std.specs.Prelude.{◌≡◌, ℕ, zero, suc, List, Bool, Option, Some, None, slice_get, true, false, refl, if◌then◌else◌}
+use Rattle.std.specs.Prelude.{ℕ, zero, suc, List, Option, Some, None, slice_get, true, refl, if◌then◌else◌}
 use Rattle.std.specs.Option.{unwrap_or}
 use Rattle.eds_base.specs.declared.ids.Place.{Place}
 use Rattle.eds_base.specs.declared.ids.TypeId.{TypeId}

@@ -35,10 +35,7 @@ trait ChainRule {
 }
 
 /// The least break of a rule at all types.
-fn least_over_types<R: ChainRule>(
-    alloc: Global,
-    chains: &Chains,
-) -> Result<Option<Refusal>, Memory>
+fn least_over_types<R: ChainRule>(alloc: Global, chains: &Chains) -> Result<Option<Refusal>, Memory>
     ensures { IfOk result (λ r. r ≡ least (breaks_over (R.breaks chains.now.sheet.now.trees.now chains.now.sheet.now.types.now chains.now.bases.now) 0 chains.now.sheet.now.types.now)) }
 {
     let types = chains.sheet.types;
@@ -209,12 +206,7 @@ fn is_faulty(alloc: Global, chains: &Chains, id: usize) -> Result<bool, Memory>
 }
 
 /// Whether one of the first bases of a type does.
-fn has_faulty_base(
-    alloc: Global,
-    chains: &Chains,
-    most: usize,
-    id: usize,
-) -> Result<bool, Memory>
+fn has_faulty_base(alloc: Global, chains: &Chains, most: usize, id: usize) -> Result<bool, Memory>
     ensures { IfOk result (λ b. b ≡ list_any (is_faulty_of chains.now.sheet.now.trees.now chains.now.sheet.now.types.now chains.now.bases.now) (bases_within most chains.now.bases.now id)) }
 {
     if most == 0 {

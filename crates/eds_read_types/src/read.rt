@@ -109,7 +109,11 @@ pub(crate) fn id_of(item: Item) -> Option<TypeId>
     }
 }
 
-pub(crate) fn word_type(alloc: Global, sheet: &Sheet, word: Option<&str>) -> Result<Option<TypeId>, Memory>
+pub(crate) fn word_type(
+    alloc: Global,
+    sheet: &Sheet,
+    word: Option<&str>,
+) -> Result<Option<TypeId>, Memory>
     ensures { IfOk result (λ id. id ≡ word_type_of sheet.now.trees.now sheet.now.space.now (option_map (λ w. w.now) word.entry)) }
 {
     let text = match word {

@@ -185,11 +185,7 @@ fn push_used(alloc: Global, used: &mut Used, sheet: &Sheet, at: Place) -> Result
 }
 
 /// The types that an entry names, in the order of types and entries, and then the one that the TYPE word names.
-pub(crate) fn used_types(
-    alloc: Global,
-    sheet: &Sheet,
-    word: Option<TypeId>,
-) -> Result<Used, Memory>
+pub(crate) fn used_types(alloc: Global, sheet: &Sheet, word: Option<TypeId>) -> Result<Used, Memory>
     ensures { IfOk result (λ used. used ≡ used_types_of sheet.now.trees.now sheet.now.space.now word) }
 {
     let mut used = Used::new(alloc);

@@ -1,4 +1,4 @@
-use Rattle.std.proofs.Common.{rules, ◌∙◌, ◌==◌, arith, sym}
+use Rattle.std.proofs.Common.{rules, ◌∙◌, ◌==◌, arith}
 use Rattle.eds_read_types.proofs.BaseSteps.{any-none, any-end, any-hit, any-skip, same-is, other-is}
 use Rattle.eds_read_types.proofs.base.is_in_cycle.Goals as goal
 

@@ -1,4 +1,4 @@
-use Rattle.std.proofs.Common.{rules, sym, ap, ◌∙◌, arith}
+use Rattle.std.proofs.Common.{rules, ap, ◌∙◌, arith}
 use Rattle.eds_read_types.specs.Numbers.{own_numbers_at, range_at, narrowed_numbers}
 use Rattle.eds_read_types.proofs.NumberSteps.{ok-is, up-own, up-base}
 use Rattle.eds_read_types.proofs.numbers.+numbers_within.Goals as goal
@@ -13,5 +13,5 @@ pub returns-in_ok-base-in-Some : goal.returns-in_ok-base-in-Some
 returns-in_ok-base-in-Some t c =
     ok-is c.narrowed_numbers.result _ _
     (ap (λ r. narrowed_numbers r c.in_ok-base-in-Some.base) (c.range_at.ensures ∙ ap (range_at c.args.chains.now.sheet.now.trees.now) c.type_at-at.ensures)
-     ∙ up-base c.args.most _ _ c.args.chains.now.bases.now c.args.id c.in-Some.base _ (omega arith) (search rules) c.in_ok-base-in-Some.ensures)
+    ∙ up-base c.args.most _ _ c.args.chains.now.bases.now c.args.id c.in-Some.base _ (omega arith) (search rules) c.in_ok-base-in-Some.ensures)
     c.narrowed_numbers.ensures

@@ -1,4 +1,4 @@
-use Rattle.std.proofs.Common.{rules, sym}
+use Rattle.std.proofs.Common.{rules}
 use Rattle.eds_read_types.proofs.NumberSteps.{ok-is, own-none, own-past, own-there}
 use Rattle.eds_read_types.proofs.numbers.own_numbers_at.Goals as goal
 

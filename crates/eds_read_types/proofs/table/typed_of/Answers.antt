@@ -5,7 +5,6 @@ use Rattle.eds_read_types.specs.TableRows.{table_rows, are_few}
 use Rattle.eds_read_types.proofs.TableRules.{table_keeps, table_flat}
 use Rattle.eds_read_types.proofs.table.typed_of.Goals as goal
 
-
 pub of-requires : goal.of-requires
 of-requires c =
     let trees = c.args.chains.now.sheet.now.trees.now in
