@@ -36,4 +36,6 @@ pub use table::{Typed, Used, read_table};
 #[cfg(test)]
 mod scalar_tests;
 #[cfg(test)]
+mod table_tests;
+#[cfg(test)]
 mod tests;
