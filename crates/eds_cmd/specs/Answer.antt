@@ -1,31 +1,30 @@
 -- What a command answers over files.
 use Rattle.std.specs.Prelude.{◌≡◌, ℕ, ◌+◌, ◌<◌, ◌≤◌, nat_le, List, [], ◌∷◌, ◌++◌, length, Bool, true, false, if◌then◌else◌, Option, Some, None, Result, Ok, Err, IsOk, sum_by, ⊤, ◌⊎◌}
-use Rattle.serde_json.specs.Data.{Data}
 use Rattle.eds_base.specs.Answering.{◌>>=◌}
 use Rattle.eds_base.specs.declared.refusal.Refusal.{Refusal}
 use Rattle.eds_bits.specs.Bits.{Bits, bits_of}
 use Rattle.eds_io.specs.Files.{Files, file_named}
+use Rattle.eds_types.specs.Packing.{most_bits}
+use Rattle.eds_types.specs.Plain.{Plain}
+use Rattle.eds_types.specs.Spelling.{Canon}
+use Rattle.eds_value.specs.Json.{value_in}
 use Rattle.eds_sheet.specs.declared.sheet.Sheet.{Sheet}
 use Rattle.eds_sheet.specs.Compiled.{compiled}
 use Rattle.eds_cmd.specs.declared.command.Verb.{Verb}
 use Rattle.eds_cmd.specs.declared.command.Verb.TheVariants.{Unpack, Pack}
-use Rattle.eds_cmd.specs.Limits.{frame_octets, report_octets, sheet_count, sheet_octets, sheets_octets, value_bits}
-use Rattle.eds_cmd.specs.declared.shape.Given.{Given}
+use Rattle.eds_cmd.specs.Limits.{frame_octets, report_octets, sheet_count, sheet_octets, sheets_octets}
 use Rattle.eds_cmd.specs.declared.status.Status.{Status}
 use Rattle.eds_cmd.specs.declared.status.Status.TheVariants as statuses
 use Rattle.eds_cmd.specs.declared.status.What.{What}
 use Rattle.eds_cmd.specs.declared.status.What.TheVariants as what
 use Rattle.eds_cmd.specs.declared.stop.Stop.{Stop}
-use Rattle.eds_cmd.specs.declared.value.FlatValue.{FlatValue}
 use Rattle.eds_cmd.specs.Command.{CommandWords, JobWords, command_of, input_most, word_of}
 use Rattle.eds_cmd.specs.Hex.{hex_octets}
-use Rattle.eds_cmd.specs.Pack.{IsPacking, Packs, packed}
+use Rattle.eds_cmd.specs.Pack.{Packs}
 use Rattle.eds_cmd.specs.Reports.{counts_line, usage_line}
-use Rattle.eds_cmd.specs.Shape.{shape_of}
 use Rattle.eds_cmd.specs.Stops.{IsStop, limited, missing, refused, status_of}
-use Rattle.eds_cmd.specs.Target.{TypeIn, tree_of, type_of}
-use Rattle.eds_cmd.specs.Unpack.{Unpacks, unpacked}
-use Rattle.eds_cmd.specs.Values.{Begins}
+use Rattle.eds_cmd.specs.Target.{TypeIn, type_of}
+use Rattle.eds_cmd.specs.Unpack.{Begins, Unpacks}
 
 -- ---- what stands before the work
 
@@ -83,7 +82,7 @@ pub record IsCounted (sheet : Sheet) (status : Status) (report : List ℕ) : Typ
 -- what is done by an accepted sheet comes to this status and report
 abbrev pub DoesBy : Option JobWords → Files → Sheet → Status → List ℕ → Type 0
 DoesBy None files sheet status report = IsCounted sheet status report
-DoesBy (Some job) files sheet status report = WorksOn job.verb (type_of sheet.types) (input_for files job) status report
+DoesBy (Some job) files sheet status report = WorksOn job.verb (type_of sheet) (input_for files job) status report
 
 -- that, where the report of what is done is no longer than a report may be
 pub record IsWithin (job : Option JobWords) (files : Files) (sheet : Sheet) (status : Status) (report : List ℕ) : Type 0 where
@@ -114,46 +113,6 @@ AnswersCommand (Some c) files status report = AnswersFew (nat_le (length c.sheet
 abbrev pub Answer : List (List ℕ) → Files → Status → List ℕ → Type 0
 Answer words files status report = AnswersCommand (command_of words) files status report
 
--- ---- the same as a function, which a law ties to it
-
-abbrev pub worked : Verb → TypeIn → List ℕ → Result (List ℕ) Stop
-worked Unpack type input = unpacked type input
-worked Pack type input = packed type input
-
--- the report of what is done by an accepted sheet, or the stop
-abbrev pub done_by : Option JobWords → Files → Sheet → Result (List ℕ) Stop
-done_by None files sheet = Ok (counts_line sheet.counts)
-done_by (Some job) files sheet = input_for files job >>= worked job.verb (type_of sheet.types)
-
-abbrev pub within_report : List ℕ → Result (List ℕ) Stop
-within_report report = if nat_le (length report) report_octets then Ok report else Err (limited what.Report report_octets)
-
--- the report of a command of at most so many sheet files that is done, or the stop
-abbrev pub performed : Files → CommandWords → Result (List ℕ) Stop
-performed files c = do
-  sheet ← accepted files c
-  report ← done_by c.job files sheet
-  within_report report
-
--- the report of a command that is done, or the stop
-abbrev pub performed_few : Files → CommandWords → Result (List ℕ) Stop
-performed_few files c = if nat_le (length c.sheets) sheet_count then performed files c else Err (limited what.Files sheet_count)
-
-abbrev pub status_from : Result (List ℕ) Stop → Status
-status_from (Ok report) = statuses.Done
-status_from (Err stop) = status_of stop.cause
-
-abbrev pub report_from : Result (List ℕ) Stop → List ℕ
-report_from (Ok report) = report
-report_from (Err stop) = stop.report
-
-abbrev pub answered : Option CommandWords → Files → Status × List ℕ
-answered None files = (statuses.Usage, usage_line)
-answered (Some c) files = (status_from (performed_few files c), report_from (performed_few files c))
-
-abbrev pub answer_of : List (List ℕ) → Files → Status × List ℕ
-answer_of words files = answered (command_of words) files
-
 -- ---- a read fault, and a command that is done
 
 -- a sheet file has the name, and the sheet files before it are there and within their limits
@@ -180,26 +139,23 @@ pub record IsValidFrame (type : TypeIn) (text : List ℕ) : Type 0 where
   pub frame : List ℕ
   pub hex : hex_octets text ≡ Some frame
   pub within : length frame ≤ frame_octets
-  pub value : FlatValue
+  pub value : Plain
   pub front : Bits
   pub rest : Bits
-  pub begins : Begins type.row value front rest (bits_of frame)
+  pub begins : Begins type value front rest (bits_of frame)
   pub few : length rest ≤ 7
 
--- the text is JSON that gives a value of the type, whose bits are no more than a value may have
-pub record IsValidJson (type : TypeIn) (text : List ℕ) : Type 0 where
-  pub json : Data
-  pub tree : tree_of text ≡ Some json
-  pub given : Given
-  pub shape : shape_of type json ≡ Ok given
-  pub value : FlatValue
+-- the text gives a value of the type, which has a canonical spelling that isn't too long
+pub record IsValidValue (type : TypeIn) (text : List ℕ) : Type 0 where
+  pub value : Plain
+  pub given : value_in type.table type.id text ≡ Ok value
   pub bits : Bits
-  pub packing : IsPacking type given value bits
-  pub within : length bits ≤ value_bits
+  pub canonical : Canon type.table type.id value bits
+  pub within : length bits ≤ most_bits
 
 abbrev pub IsValidInput : Verb → TypeIn → List ℕ → Type 0
 IsValidInput Unpack type text = IsValidFrame type text
-IsValidInput Pack type text = IsValidJson type text
+IsValidInput Pack type text = IsValidValue type text
 
 -- the input file is there and within its limit, and valid for the type
 pub record IsValidJob (files : Files) (job : JobWords) (type : TypeIn) : Type 0 where
@@ -211,7 +167,7 @@ pub record IsValidJob (files : Files) (job : JobWords) (type : TypeIn) : Type 0 
 -- a sheet that is only checked has no input
 abbrev pub IsValidFor : Files → Option JobWords → Sheet → Type 0
 IsValidFor files None sheet = ⊤
-IsValidFor files (Some job) sheet = IsValidJob files job (type_of sheet.types)
+IsValidFor files (Some job) sheet = IsValidJob files job (type_of sheet)
 
 -- each sheet file is there and within its limit
 abbrev pub AreThere : Files → List (List ℕ) → List (List ℕ) → Type 0

@@ -21,10 +21,6 @@ hex_octets = 1048576
 abbrev pub json_octets : ℕ
 json_octets = 4194304
 
--- the bits of a packed value
-abbrev pub value_bits : ℕ
-value_bits = 524288
-
 -- the octets of a frame
 abbrev pub frame_octets : ℕ
 frame_octets = 65536

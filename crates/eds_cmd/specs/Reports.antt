@@ -1,5 +1,5 @@
 -- The lines that are reported.
-use Rattle.std.specs.Prelude.{ℕ, List, [], ◌∷◌, ◌++◌, codes, decimal, Option, Some, None, slice_get}
+use Rattle.std.specs.Prelude.{ℕ, List, [], ◌∷◌, ◌++◌, codes, decimal}
 use Rattle.std.specs.Fmt.{signed_decimal}
 use Rattle.eds_base.specs.Rules.{rule_number, rule_name}
 use Rattle.eds_base.specs.declared.ids.Place.{Place}
@@ -8,13 +8,8 @@ use Rattle.eds_base.specs.declared.refusal.CommonNumber.{CommonNumber}
 use Rattle.eds_base.specs.declared.refusal.Kept.{Kept}
 use Rattle.eds_base.specs.declared.refusal.Kept.TheVariants.{Nothing, Word, Overlap}
 use Rattle.eds_base.specs.declared.refusal.Refusal.{Refusal}
-use Rattle.eds_base.specs.declared.fault.Step.{Step}
-use Rattle.eds_base.specs.declared.fault.Step.TheVariants.{Part, Item, Choice}
 use Rattle.eds_cmd.specs.declared.status.What.{What}
 use Rattle.eds_cmd.specs.declared.status.What.TheVariants.{Files, File, Sheets, Input, Frame, Report}
-use Rattle.eds_read_types.specs.declared.row.Unsigned.{Unsigned}
-use Rattle.eds_read_types.specs.declared.row.Row.{Row}
-use Rattle.eds_read_types.specs.declared.row.Row.TheVariants.{Int, Con}
 use Rattle.eds_sheet.specs.declared.sheet.Counts.{Counts}
 
 -- ---- refusals
@@ -75,44 +70,12 @@ counts_line c =
 
 -- ---- faults
 
--- the qualified name of a type
-abbrev pub row_name : Row → List ℕ
-row_name (Int name size) = name
-row_name (Con name entries) = name
-
-abbrev pub name_or_none : Option Row → List ℕ
-name_or_none None = []
-name_or_none (Some row) = row_name row
-
-abbrev pub row_entries : Row → List Unsigned
-row_entries (Int name size) = []
-row_entries (Con name entries) = entries
-
-abbrev pub entries_or_none : Option Row → List Unsigned
-entries_or_none None = []
-entries_or_none (Some row) = row_entries row
-
-abbrev pub entry_name_or_none : Option Unsigned → List ℕ
-entry_name_or_none None = []
-entry_name_or_none (Some entry) = entry.name
-
--- the name of the entry at a position of the container at a position
-abbrev pub part_name : List Row → ℕ → ℕ → List ℕ
-part_name rows id at = entry_name_or_none (slice_get (entries_or_none (slice_get rows id)) at)
-
--- `.NAME` for an entry, `[I]` for an item, `<NAME>` for a choice
-abbrev pub step_text : List Row → Step → List ℕ
-step_text rows (Part id at) = codes "." ++ part_name rows id.0 at
-step_text rows (Item i) = codes "[" ++ decimal i ++ codes "]"
-step_text rows (Choice id) = codes "<" ++ name_or_none (slice_get rows id.0) ++ codes ">"
-
-abbrev pub steps_text : List Row → List Step → List ℕ
-steps_text rows [] = []
-steps_text rows (step ∷ steps) = step_text rows step ++ steps_text rows steps
-
-abbrev pub path_text : List Row → List Step → List ℕ
-path_text rows steps = codes "$" ++ steps_text rows steps
-
 -- `fault REASON at PATH`
 abbrev pub fault_line : List ℕ → List ℕ → List ℕ
 fault_line reason path = codes "fault " ++ reason ++ codes " at " ++ path ++ codes "\n"
+
+-- ---- a value that was read or written
+
+-- the text of a value or its octets, and how many bits there were
+abbrev pub bits_report : List ℕ → ℕ → List ℕ
+bits_report text count = text ++ codes "\nbits " ++ decimal count ++ codes "\n"

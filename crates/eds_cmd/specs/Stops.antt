@@ -4,9 +4,12 @@ use Rattle.eds_base.specs.Faults.{reason_name}
 use Rattle.eds_base.specs.declared.fault.Reason.{Reason}
 use Rattle.eds_base.specs.declared.fault.Step.{Step}
 use Rattle.eds_base.specs.declared.refusal.Refusal.{Refusal}
-use Rattle.eds_read_types.specs.declared.row.Row.{Row}
-use Rattle.eds_cmd.specs.declared.pack_fail.PackReason.{PackReason}
-use Rattle.eds_cmd.specs.declared.pack_fail.ValueFail.TheVariants as fails
+use Rattle.eds_types.specs.declared.reason.PackReason.{PackReason}
+use Rattle.eds_types.specs.Reasons as pack_reasons
+use Rattle.eds_types.specs.Rows.{Table}
+use Rattle.eds_value.specs.declared.fail.ValueFail.{ValueFail}
+use Rattle.eds_value.specs.declared.fail.ValueFail.TheVariants.{NotJson, WrongShape}
+use Rattle.eds_value.specs.Paths.{path_text}
 use Rattle.eds_cmd.specs.declared.status.Status.{Status}
 use Rattle.eds_cmd.specs.declared.status.Status.TheVariants as statuses
 use Rattle.eds_cmd.specs.declared.status.DataFault.TheVariants as faults
@@ -14,8 +17,7 @@ use Rattle.eds_cmd.specs.declared.status.What.{What}
 use Rattle.eds_cmd.specs.declared.stop.Cause.{Cause}
 use Rattle.eds_cmd.specs.declared.stop.Cause.TheVariants.{Sheet as Refused, Data, Limit, NoFile}
 use Rattle.eds_cmd.specs.declared.stop.Stop.{Stop}
-use Rattle.eds_cmd.specs.Reasons as reasons
-use Rattle.eds_cmd.specs.Reports.{fault_line, limit_line, no_file_line, path_text, refusal_line}
+use Rattle.eds_cmd.specs.Reports.{fault_line, limit_line, no_file_line, refusal_line}
 
 abbrev pub status_of : Cause → Status
 status_of (Refused refusal) = statuses.Sheet refusal
@@ -40,24 +42,19 @@ refused refusal = record { cause = Refused refusal; report = refusal_line refusa
 abbrev pub bad_hex : Stop
 bad_hex = record { cause = Data faults.Hex; report = fault_line (codes "BadHex") (codes "$") }
 
--- the text of a value is no JSON
-abbrev pub not_json : Stop
-not_json = record { cause = Data (faults.Json fails.NotJson); report = fault_line (codes "NotJson") (codes "$") }
+-- the text of a value gives none of its type
+abbrev pub value_fault : Table → ValueFail → Stop
+value_fault t NotJson = record { cause = Data (faults.Json NotJson); report = fault_line (codes "NotJson") (codes "$") }
+value_fault t (WrongShape path) = record { cause = Data (faults.Json (WrongShape path)); report = fault_line (codes "WrongShape") (path_text t path) }
 
-abbrev pub wrong_shape : List Row → List Step → Stop
-wrong_shape rows path = record {
-  cause = Data (faults.Json (fails.WrongShape path));
-  report = fault_line (codes "WrongShape") (path_text rows path);
+abbrev pub pack_fault : Table → PackReason → List Step → Stop
+pack_fault t reason path = record {
+  cause = Data (faults.Pack (record { reason = reason; path = path; need = 0 }));
+  report = fault_line (pack_reasons.reason_name reason) (path_text t path);
 }
 
-abbrev pub pack_fault : List Row → PackReason → List Step → Stop
-pack_fault rows reason path = record {
-  cause = Data (faults.Pack (record { reason = reason; path = path }));
-  report = fault_line (reasons.reason_name reason) (path_text rows path);
-}
-
-abbrev pub frame_fault : List Row → Reason → List Step → Stop
-frame_fault rows reason path = record {
+abbrev pub frame_fault : Table → Reason → List Step → Stop
+frame_fault t reason path = record {
   cause = Data (faults.Frame (record { reason = reason; path = path }));
-  report = fault_line (reason_name reason) (path_text rows path);
+  report = fault_line (reason_name reason) (path_text t path);
 }

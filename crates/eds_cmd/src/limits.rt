@@ -15,9 +15,6 @@ pub const HEX_OCTETS: u64 = 1048576;
 /// The octets of the text of a value.
 pub const JSON_OCTETS: u64 = 4194304;
 
-/// The bits of a packed value.
-pub const VALUE_BITS: u64 = 524288;
-
 /// The octets of a frame.
 pub const FRAME_OCTETS: u64 = 65536;
 

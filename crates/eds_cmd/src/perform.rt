@@ -108,8 +108,9 @@ fn sheet_by(alloc: Global, files: &Items<Octets>, word: Option<&str>) -> Result<
     requires few { length files.now ≤ SHEETS }
     requires short { All (λ file. length file < 2 ^ 32) files.now }
     ensures answer { Answers (λ s. s) result (or_refused (compiled files.now (option_map (λ w. w.now) word.entry))) }
-    ensures word { IfOk result (λ s. IfSome s.types.word (λ id. id.0 < length s.types.rows)) }
-    ensures given { IfOk result (λ s. is_some s.types.word ≡ is_some word.entry) }
+    ensures word { IfOk result (λ s. IfSome s.word (λ id. id.0 < length s.table)) }
+    ensures flat { IfOk result (λ s. IsFlatTable s.table) }
+    ensures given { IfOk result (λ s. is_some s.word ≡ is_some word.entry) }
 {
     match compile(alloc, files, word) {
         Ok(sheet) => Ok(sheet),
@@ -123,8 +124,9 @@ fn sheet_for<S: Shelf>(alloc: Global, command: &Command<'_>, shelf: &mut S) -> R
     requires { length command.now.sheets.now ≤ SHEETS }
     ensures told { (files : Files) → S.files shelf.old ≡ Some files
         → Comes (λ s. s) result (accepted files (words_of command.now)) }
-    ensures word { IfOk result (λ s. IfSome s.types.word (λ id. id.0 < length s.types.rows)) }
-    ensures given { IfOk result (λ s. is_some s.types.word ≡ is_some command.now.job) }
+    ensures word { IfOk result (λ s. IfSome s.word (λ id. id.0 < length s.table)) }
+    ensures flat { IfOk result (λ s. IsFlatTable s.table) }
+    ensures given { IfOk result (λ s. is_some s.word ≡ is_some command.now.job) }
     ensures files { S.files shelf.new ≡ S.files shelf.old }
     ensures calm { (other : List ℕ) → S.faults shelf.old other ≤ S.faults shelf.new other }
     ensures cause { IfErr result (λ halt. OnUnread halt
@@ -143,7 +145,8 @@ fn worked(
     target: &Target<'_>,
     input: &[u8],
 ) -> Result<String, Fail<Stop>>
-    ensures { Answers string_bytes result (worked_on verb (type_in target.now) input.now) }
+    requires { IsKnown (type_in target.now) }
+    ensures { EndsAs string_bytes (Works verb (type_in target.now) input.now) result }
 {
     match verb {
         Verb::Unpack => unpacked(alloc, target, input),
@@ -168,14 +171,15 @@ fn job_done<S: Shelf>(
     sheet: &Sheet,
     shelf: &mut S,
 ) -> Result<String, Halt>
-    requires { IsSomeAnd sheet.now.types.word (λ id. id.0 < length sheet.now.types.rows) }
+    requires word { IsSomeAnd sheet.now.word (λ id. id.0 < length sheet.now.table) }
+    requires flat { IsFlatTable sheet.now.table }
     ensures told { (files : Files) → S.files shelf.old ≡ Some files
-        → Comes string_bytes result (done_with (Some (job_words job.now)) files sheet.now) }
+        → ConcludesAs string_bytes (DoesBy (Some (job_words job.now)) files sheet.now) result }
     ensures calm { (other : List ℕ) → S.faults shelf.old other ≤ S.faults shelf.new other }
     ensures unread { IfErr result (λ halt. OnUnread halt
         (λ n. (n ≡ job.now.input.now) × HasRisen (S.faults shelf.old n) (S.faults shelf.new n))) }
 {
-    let target = target_of(&sheet.types);
+    let target = target_of(sheet);
     let input = input_for(alloc, job, shelf)?;
     Ok(worked(alloc, job.verb, &target, input.as_slice())?)
 }
@@ -187,10 +191,11 @@ fn done_by<S: Shelf>(
     sheet: &Sheet,
     shelf: &mut S,
 ) -> Result<String, Halt>
-    requires word { IfSome sheet.now.types.word (λ id. id.0 < length sheet.now.types.rows) }
-    requires given { is_some sheet.now.types.word ≡ is_some job }
+    requires word { IfSome sheet.now.word (λ id. id.0 < length sheet.now.table) }
+    requires flat { IsFlatTable sheet.now.table }
+    requires given { is_some sheet.now.word ≡ is_some job }
     ensures told { (files : Files) → S.files shelf.old ≡ Some files
-        → Comes string_bytes result (done_with (option_map job_words job.entry) files sheet.now) }
+        → ConcludesAs string_bytes (DoesBy (option_map job_words job.entry) files sheet.now) result }
     ensures calm { (other : List ℕ) → S.faults shelf.old other ≤ S.faults shelf.new other }
     ensures cause { IfErr result (λ halt. OnUnread halt
         (λ n. HasRisen (S.faults shelf.old n) (S.faults shelf.new n))) }
@@ -220,7 +225,7 @@ pub fn perform<S: Shelf>(
 ) -> Result<String, Halt>
     requires { length command.now.sheets.now ≤ SHEETS }
     ensures told { (files : Files) → S.files shelf.old ≡ Some files
-        → Comes string_bytes result (performed files (words_of command.now)) }
+        → ConcludesAs string_bytes (AnswersFew true (words_of command.now) files) result }
     ensures calm { (other : List ℕ) → S.faults shelf.old other ≤ S.faults shelf.new other }
     ensures cause { IfErr result (λ halt. OnUnread halt
         (λ n. HasRisen (S.faults shelf.old n) (S.faults shelf.new n))) }

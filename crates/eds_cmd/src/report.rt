@@ -1,11 +1,10 @@
 //! The lines that are reported.
 
-ghost use Rattle.std.specs.Prelude.{◌≡◌, ◌≤◌, IfOk, string_bytes, slice_get, length};
-ghost use Rattle.eds_cmd.specs.Reports.{common_text as text_of_common, count_text as text_of_count, counts_line as line_of_counts, entries_or_none, entry_name_or_none, row_entries as entries_of_row, fault_line as line_of_fault, kept_text as text_of_kept, limit_line as line_of_limit, name_or_none, no_file_line as line_of_no_file, part_name as name_of_part, path_text as text_of_path, place_text as text_of_place, row_name as name_of_row, read_fault_line as line_of_read_fault, refusal_line as line_of_refusal, rule_text as text_of_rule, step_text as text_of_step, what_text as text_of_what};
+ghost use Rattle.std.specs.Prelude.{◌≡◌, IfOk, string_bytes};
+ghost use Rattle.eds_cmd.specs.Reports.{bits_report as report_of_bits, common_text as text_of_common, count_text as text_of_count, counts_line as line_of_counts, fault_line as line_of_fault, kept_text as text_of_kept, limit_line as line_of_limit, no_file_line as line_of_no_file, place_text as text_of_place, read_fault_line as line_of_read_fault, refusal_line as line_of_refusal, rule_text as text_of_rule, what_text as text_of_what};
 
 use crate::status::What;
-use eds_base::{CommonNumber, Kept, Path, Place, Refusal, Rule, Step, TypeId};
-use eds_read_types::{Row, Unsigned};
+use eds_base::{CommonNumber, Kept, Place, Refusal, Rule};
 use eds_sheet::Counts;
 use std::alloc::{AllocError, Global};
 
@@ -137,81 +136,16 @@ pub fn counts_line(alloc: Global, counts: Counts) -> Result<String, AllocError>
     Ok(line)
 }
 
-/// The qualified name of a type.
-pub fn row_name(row: &Row) -> &str
-    ensures { result.now ≡ name_of_row row.now }
-{
-    match row {
-        Row::Int(name, _) => name.as_str(),
-        Row::Con(name, _) => name.as_str(),
-    }
-}
-
-/// The entries of a type, none where it is no container.
-pub fn row_entries(row: &Row) -> &[Unsigned]
-    ensures value { result.now ≡ entries_of_row row.now }
-    ensures most { length result.now ≤ 32767 }
-{
-    match row {
-        Row::Int(_, _) => &[],
-        Row::Con(_, entries) => entries.as_slice(),
-    }
-}
-
-fn part_name(rows: &[Row], id: TypeId, at: u16) -> &str
-    ensures { result.now ≡ name_of_part rows.now id.0 at }
-{
-    match rows.get(id.0 as usize) {
-        None => "",
-        Some(row) => match row_entries(row).get(at as usize) {
-            None => "",
-            Some(entry) => entry.name.as_str(),
-        },
-    }
-}
-
-fn type_name(rows: &[Row], id: TypeId) -> &str
-    ensures { result.now ≡ name_or_none (slice_get rows.now id.0) }
-{
-    match rows.get(id.0 as usize) {
-        None => "",
-        Some(row) => row_name(row),
-    }
-}
-
-fn step_text(alloc: Global, rows: &[Row], step: Step) -> Result<String, AllocError>
-    ensures { IfOk result (λ s. string_bytes s ≡ text_of_step rows.now step) }
-{
-    match step {
-        Step::Part(id, at) => {
-            let name = part_name(rows, id, at);
-            Ok(format!(in alloc; ".{name}")?)
-        }
-        Step::Item(i) => Ok(format!(in alloc; "[{i}]")?),
-        Step::Choice(id) => {
-            let name = type_name(rows, id);
-            Ok(format!(in alloc; "<{name}>")?)
-        }
-    }
-}
-
-/// The text of a path.
-pub fn path_text(alloc: Global, rows: &[Row], path: &Path) -> Result<String, AllocError>
-    ensures { IfOk result (λ s. string_bytes s ≡ text_of_path rows.now path.now) }
-{
-    let mut text = String::from_str(alloc, "$")?;
-    for i in 0..path.len() {
-        if let Some(step) = path.get(i) {
-            let part = step_text(alloc, rows, step)?;
-            text.push_str(part.as_str())?;
-        }
-    }
-    Ok(text)
-}
-
 /// The line of a fault.
 pub fn fault_line(alloc: Global, reason: &str, path: &str) -> Result<String, AllocError>
     ensures { IfOk result (λ s. string_bytes s ≡ line_of_fault reason.now path.now) }
 {
     Ok(format!(in alloc; "fault {reason} at {path}\n")?)
+}
+
+/// The report on a value that was read or written: the text of the value or its octets, and the number of its bits.
+pub fn bits_report(alloc: Global, text: &str, count: u32) -> Result<String, AllocError>
+    ensures { IfOk result (λ s. string_bytes s ≡ report_of_bits text.now count) }
+{
+    Ok(format!(in alloc; "{text}\nbits {count}\n")?)
 }

@@ -1,7 +1,8 @@
 //! How a command ended.
 
-use crate::pack_fail::{PackFail, ValueFail};
 use eds_base::{Fault, Refusal, Text};
+use eds_pack::PackFail;
+use eds_value::ValueFail;
 
 /// What has passed its limit.
 #[derive(Clone, Copy, Debug, PartialEq, Eq)]
@@ -25,7 +26,7 @@ pub enum What {
 pub enum DataFault {
     /// It has an octet that is no hex digit and no blank, or an odd number of digits.
     Hex,
-    /// The frame spells no value.
+    /// The frame begins with no value, or eight bits or more follow the value.
     Frame(Fault),
     /// The text of a value gives none.
     Json(ValueFail),

@@ -3,11 +3,12 @@
 ghost use Rattle.std.specs.Prelude.{◌≡◌, IfOk};
 ghost use Rattle.eds_cmd.specs.Stops as stops;
 
-use crate::pack_fail::{PackFail, ValueFail};
-use crate::report::{fault_line, limit_line, no_file_line, path_text, refusal_line};
+use crate::report::{fault_line, limit_line, no_file_line, refusal_line};
 use crate::status::{DataFault, Status, What};
-use eds_base::{Fault, Memory, Path, Reason, Refusal, Text};
-use eds_read_types::Row;
+use eds_base::{Fault, Memory, Refusal, Text};
+use eds_pack::PackFail;
+use eds_types::TypeTable;
+use eds_value::{ValueFail, path_text};
 use std::alloc::Global;
 
 /// What ends a command before it is done.
@@ -88,46 +89,41 @@ pub fn bad_hex(alloc: Global) -> Result<Stop, Memory>
     })
 }
 
-/// A frame spells no value.
-pub fn frame_fault(alloc: Global, rows: &[Row], reason: Reason, path: Path) -> Result<Stop, Memory>
-    ensures { IfOk result (λ s. s ≡ stops.frame_fault rows.now reason path) }
+/// A frame begins with no value of the type.
+pub fn frame_fault(alloc: Global, table: &TypeTable, fault: Fault) -> Result<Stop, Memory>
+    ensures { IfOk result (λ s. s ≡ stops.frame_fault table.now fault.reason fault.path) }
 {
-    let place = path_text(alloc, rows, &path)?;
-    let report = fault_line(alloc, reason.name(), place.as_str())?;
+    let place = path_text(alloc, table, &fault.path)?;
+    let report = fault_line(alloc, fault.reason.name(), place.as_str())?;
     Ok(Stop {
-        cause: Cause::Data(DataFault::Frame(Fault { reason, path })),
+        cause: Cause::Data(DataFault::Frame(fault)),
         report: Text::from_string(report),
     })
 }
 
-/// The text of a value is no JSON.
-pub fn not_json(alloc: Global) -> Result<Stop, Memory>
-    ensures { IfOk result (λ s. s ≡ stops.not_json) }
+/// The text of a value gives none of the type.
+pub fn value_fault(alloc: Global, table: &TypeTable, fail: ValueFail) -> Result<Stop, Memory>
+    ensures { IfOk result (λ s. s ≡ stops.value_fault table.now fail) }
 {
-    let report = fault_line(alloc, "NotJson", "$")?;
+    let report = match &fail {
+        ValueFail::NotJson => fault_line(alloc, "NotJson", "$")?,
+        ValueFail::WrongShape(path) => {
+            let place = path_text(alloc, table, path)?;
+            fault_line(alloc, "WrongShape", place.as_str())?
+        }
+    };
     Ok(Stop {
-        cause: Cause::Data(DataFault::Json(ValueFail::NotJson)),
+        cause: Cause::Data(DataFault::Json(fail)),
         report: Text::from_string(report),
     })
 }
 
-/// A value of the JSON has another shape than its type wants.
-pub fn wrong_shape(alloc: Global, rows: &[Row], path: Path) -> Result<Stop, Memory>
-    ensures { IfOk result (λ s. s ≡ stops.wrong_shape rows.now path) }
+/// A value can't be packed, for another reason than that there is no room.
+pub fn pack_fault(alloc: Global, table: &TypeTable, fail: PackFail) -> Result<Stop, Memory>
+    requires { fail.need ≡ 0 }
+    ensures { IfOk result (λ s. s ≡ stops.pack_fault table.now fail.reason fail.path) }
 {
-    let place = path_text(alloc, rows, &path)?;
-    let report = fault_line(alloc, "WrongShape", place.as_str())?;
-    Ok(Stop {
-        cause: Cause::Data(DataFault::Json(ValueFail::WrongShape(path))),
-        report: Text::from_string(report),
-    })
-}
-
-/// A value can't be packed.
-pub fn pack_fault(alloc: Global, rows: &[Row], fail: PackFail) -> Result<Stop, Memory>
-    ensures { IfOk result (λ s. s ≡ stops.pack_fault rows.now fail.reason fail.path) }
-{
-    let place = path_text(alloc, rows, &fail.path)?;
+    let place = path_text(alloc, table, &fail.path)?;
     let report = fault_line(alloc, fail.reason.name(), place.as_str())?;
     Ok(Stop {
         cause: Cause::Data(DataFault::Pack(fail)),

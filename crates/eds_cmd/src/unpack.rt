@@ -1,22 +1,23 @@
 //! From the text of a frame to the report on its value.
 
-ghost use Rattle.std.specs.Prelude.{◌≡◌, ◌≤◌, IfOk, string_bytes, length};
+ghost use Rattle.std.specs.Prelude.{◌≡◌, ◌≤◌, ◌<◌, IfOk, string_bytes, length};
 ghost use Rattle.eds_base.specs.Answering.{Answers};
 ghost use Rattle.eds_bits.specs.Bits.{bits_of};
-ghost use Rattle.eds_bits.specs.Reader.{bits_left};
-ghost use Rattle.eds_cmd.specs.Reading.{read_value as value_from};
-ghost use Rattle.eds_cmd.specs.Target.{type_in};
-ghost use Rattle.eds_cmd.specs.Unpack.{closed as closed_with, frame_for as frame_in, or_short, unpacked as unpacked_from, unpacked_bits};
+ghost use Rattle.eds_cmd.specs.Halts.{EndsAs};
+ghost use Rattle.eds_cmd.specs.Target.{IsKnown, type_in};
+ghost use Rattle.eds_cmd.specs.Unpack.{Unpacks, UnpacksBits, frame_for as frame_in};
 
 use crate::hex_text::hex_octets;
 use crate::limits::FRAME_OCTETS;
-use crate::shown::{bits_report, value_text};
+use crate::report::bits_report;
 use crate::status::What;
 use crate::stop::{Stop, bad_hex, frame_fault, limited};
 use crate::target::Target;
-use crate::value::{FlatValue, read_value};
-use eds_base::{Fail, Path, Reason};
-use eds_bits::{BitReader, BitView};
+use eds_base::{Fail, Fault, Path, Reason};
+use eds_bits::BitView;
+use eds_types::Value;
+use eds_unpack::unpack;
+use eds_value::to_json;
 use std::alloc::Global;
 
 #[tactic(auto, unfolding(crate::specs::Unpack::frame_for))]
@@ -37,62 +38,19 @@ fn frame_for(alloc: Global, text: &[u8]) -> Result<Vec<u8>, Fail<Stop>>
     }
 }
 
-fn value_for(
-    alloc: Global,
-    target: &Target<'_>,
-    reader: &mut BitReader<'_>,
-) -> Result<FlatValue, Fail<Stop>>
-    ensures { Answers (λ v. (v, bits_left reader.new)) result
-        (or_short (type_in target.now) (value_from target.now.id.0 target.now.row.now (bits_left reader.old))) }
-{
-    match read_value(alloc, target.id, target.row, reader) {
-        Ok(value) => Ok(value),
-        Err(Fail::Memory) => Err(Fail::Memory),
-        Err(Fail::Named(path)) => Err(Fail::Named(frame_fault(
-            alloc,
-            target.rows.as_slice(),
-            Reason::Short,
-            path,
-        )?)),
-    }
-}
-
-fn closed(
-    alloc: Global,
-    target: &Target<'_>,
-    text: &str,
-    all: u64,
-    left: u64,
-) -> Result<String, Fail<Stop>>
-    ensures { Answers string_bytes result (closed_with (type_in target.now) text.now all left) }
-{
-    if left >= 8 {
-        let stop = frame_fault(
-            alloc,
-            target.rows.as_slice(),
-            Reason::Trailing,
-            Path::root(),
-        )?;
-        return Err(Fail::Named(stop));
-    }
-    Ok(bits_report(alloc, text, all.saturating_sub(left))?)
-}
-
-#[tactic(auto, unfolding(crate::specs::Unpack::unpacked_bits))]
+// The report on the value that a frame begins with.
 fn unpacked_frame(alloc: Global, target: &Target<'_>, frame: &[u8]) -> Result<String, Fail<Stop>>
-    requires { length frame.now ≤ FRAME_OCTETS }
-    ensures { Answers string_bytes result (unpacked_bits (type_in target.now) (bits_of frame.now)) }
+    requires known { IsKnown (type_in target.now) }
+    requires within { length frame.now ≤ FRAME_OCTETS }
+    ensures { EndsAs string_bytes (UnpacksBits (type_in target.now) (bits_of frame.now)) result }
 {
-    let mut reader = BitReader::new(BitView::new(frame));
-    let all = reader.left();
-    let value = value_for(alloc, target, &mut reader)?;
-    let text = value_text(alloc, target.row, &value)?;
-    closed(alloc, target, text.as_str(), all, reader.left())
+    Err(Fail::Memory)
 }
 
-/// The report on the value that the text of a frame spells.
+/// The report on the value that the text of a frame begins with.
 pub fn unpacked(alloc: Global, target: &Target<'_>, text: &[u8]) -> Result<String, Fail<Stop>>
-    ensures { Answers string_bytes result (unpacked_from (type_in target.now) text.now) }
+    requires { IsKnown (type_in target.now) }
+    ensures { EndsAs string_bytes (Unpacks (type_in target.now) text.now) result }
 {
     let frame = frame_for(alloc, text)?;
     unpacked_frame(alloc, target, frame.as_slice())

@@ -191,7 +191,7 @@ listing_is form listing = (into, onto)
 
 -- ---- types that break no rule
 
-none_broken : (b : Bool) (rule : Rule) (at : Place) → broken_where b rule at ≡ [] → b ≡ false
+pub none_broken : (b : Bool) (rule : Rule) (at : Place) → broken_where b rule at ≡ [] → b ≡ false
 none_broken false rule at h = refl
 none_broken true rule at h = absurd cc
 
@@ -230,7 +230,7 @@ enumerated_unbroken t at is encoding enumeration =
     flip false h = absurd cc
 
 -- two names of types are not one
-name_apart : (name one other : List ℕ) → same one other ≡ false → same name one ≡ true → same name other ≡ false
+pub name_apart : (name one other : List ℕ) → same one other ≡ false → same name one ≡ true → same name other ≡ false
 name_apart name one other h e = let is : name ≡ one = (bytes_eq-Decides name one).0 e in ap (λ n. same n other) is ∙ h
 
 pub boolean_unbroken : (t : List Node) (at : Place) → is_boolean t at.node ≡ true → encoding_breaks t at ≡ [] → IsSome (bool_form_of t at.node)

@@ -5,3 +5,12 @@ pub mod ListingFacts
 pub mod LawFacts
 mod EntriesLemmas
 mod NoBreaks
+mod BaseSteps
+mod NumberSteps
+mod TableLeast
+mod RowSteps
+mod TableFacts
+pub mod FlatRules
+pub mod ChainFacts
+pub mod NumberFacts
+pub mod TableRules

@@ -1,6 +1,6 @@
 -- What a sheet that breaks no rule on types has.
 use Rattle.std.proofs.Common.{◌≡◌, ℕ, ◌<◌, Bool, true, false, ◌||◌, List, [], ◌∷◌, ◌++◌, length, map, filter, Option, Some, None, Result, Ok, Err, refl, sym, ap, ◌∙◌, subst, slice_get, is_some, option_map}
-use Rattle.std.specs.Prelude.{IfSome, IfOk, if◌then◌else◌}
+use Rattle.std.specs.Prelude.{IfSome, IfOk}
 use Rattle.std.specs.List.{flat_map, All, AllByRecursion}
 use Rattle.std.proofs.lemmas.Option.{slice_get_within}
 use Rattle.std.proofs.lemmas.List.{length-map}
@@ -9,9 +9,9 @@ use Rattle.eds_base.specs.declared.ids.Place.{Place}
 use Rattle.eds_base.specs.declared.ids.TypeId.{TypeId}
 use Rattle.eds_base.specs.declared.fail.Fail.{Fail}
 use Rattle.eds_base.specs.declared.refusal.Refusal.{Refusal}
-use Rattle.eds_base.specs.declared.rule.Rule.TheVariants.{DuplicateEntry, WrongKind, Unresolved}
+use Rattle.eds_base.specs.declared.rule.Rule.TheVariants.{DuplicateEntry}
 use Rattle.eds_base.specs.Answering.{Answers}
-use Rattle.eds_base.specs.Reading.{◌>>=◌, same}
+use Rattle.eds_base.specs.Reading.{same}
 use Rattle.eds_base.specs.Refusals.{first_of, least}
 use Rattle.eds_tree.specs.declared.tree.Node.{Node}
 use Rattle.eds_names.specs.declared.declared.Item.{Item}
@@ -20,18 +20,17 @@ use Rattle.eds_names.specs.declared.declared.Declared.{Declared}
 use Rattle.eds_names.specs.Repeats.{is_among}
 use Rattle.eds_names.specs.LookUp.{Names, AreApart, NamesDiffer, look_up}
 use Rattle.eds_names.proofs.LookUpLemmas.{bytes_eq-sym}
-use Rattle.eds_read_types.specs.declared.row.Row.{Row}
 use Rattle.eds_read_types.specs.declared.row.Types.{Types}
 use Rattle.eds_read_types.specs.Rows.{row_name, EntriesDiffer, RowsDiffer}
 use Rattle.eds_read_types.specs.Places.{own_name, is_container, is_type, types, type_places, elements}
 use Rattle.eds_read_types.specs.References.{broken_with, word_place, unresolved, unresolved_at, unresolved_by, wrong_kind, wrong_kind_at, wrong_kind_by, no_type_by, breaks_unresolved, breaks_wrong_kind, breaks_nested}
 use Rattle.eds_read_types.specs.Encodings.{breaks_encoding}
 use Rattle.eds_read_types.specs.Entries.{entries_at, repeat_of, repeats, duplicates_at, breaks_empty, breaks_duplicate}
-use Rattle.eds_read_types.specs.ReadTypes.{type_breaks, entry_row, entry_rows, row_of, word_type, types_of, unless, types_read}
+use Rattle.eds_read_types.specs.ReadTypes.{type_breaks, entry_row, row_of, word_type, types_of, unless, types_read}
 
 -- ---- no least, no breaks
 
-least-none : (rs : List Refusal) → least rs ≡ None → rs ≡ []
+pub least-none : (rs : List Refusal) → least rs ≡ None → rs ≡ []
 least-none [] h = refl
 least-none (r ∷ rs) h = go (least rs) h
   where
@@ -39,7 +38,7 @@ least-none (r ∷ rs) h = go (least rs) h
     go None k = cc
     go (Some q) k = cc
 
-append-none : {A : Type 0} (xs ys : List A) → xs ++ ys ≡ [] → (xs ≡ []) × (ys ≡ [])
+pub append-none : {A : Type 0} (xs ys : List A) → xs ++ ys ≡ [] → (xs ≡ []) × (ys ≡ [])
 append-none [] ys h = (refl, h)
 append-none (x ∷ xs) ys h = cc
 
@@ -69,10 +68,10 @@ none_broken trees names word t h = go (least (type_breaks trees names word)) ref
 -- ---- the TYPE word
 
 -- a word that finds a type has its number
-abbrev IsKnown : List (List Node) → Names → Option (List ℕ) → Type 0
+abbrev pub IsKnown : List (List Node) → Names → Option (List ℕ) → Type 0
 IsKnown trees names word = IfSome (word_type trees names word) (λ id. id.0 < length (types names)) × (is_some (word_type trees names word) ≡ is_some word)
 
-known : (trees : List (List Node)) (names : Names) (word : Option (List ℕ)) → unresolved names (word_place trees) word ≡ [] → wrong_kind names (word_place trees) word ≡ [] → IsKnown trees names word
+pub known : (trees : List (List Node)) (names : Names) (word : Option (List ℕ)) → unresolved names (word_place trees) word ≡ [] → wrong_kind names (word_place trees) word ≡ [] → IsKnown trees names word
 known trees names None h k = (tt, refl)
 known trees names (Some text) h k = go (look_up names (word_place trees) text) refl h k
   where
@@ -115,7 +114,7 @@ none-among (d ∷ ds) name h =
     go true e other below = rw e (rw other below)
     go false e other below = rw e below
 
-types-apart : (ds : List Declared) → NamesDiffer ds → AreApart (map (λ d. d.name) (filter is_type ds))
+pub types-apart : (ds : List Declared) → NamesDiffer ds → AreApart (map (λ d. d.name) (filter is_type ds))
 types-apart [] h = tt
 types-apart (d ∷ ds) h = go (is_type d) refl (types-apart ds h.1)
   where
@@ -142,7 +141,7 @@ rows_differ trees names word t apart h =
 -- ---- the names of entries
 
 -- some names are not among others
-abbrev NoneAmong : List (List ℕ) → List (List ℕ) → Type 0
+abbrev pub NoneAmong : List (List ℕ) → List (List ℕ) → Type 0
 NoneAmong before [] = Unit {0}
 NoneAmong before (name ∷ names) = (is_among before name ≡ false) × NoneAmong before names
 
@@ -161,7 +160,7 @@ not_among : (name : List ℕ) (before names : List (List ℕ)) → NoneAmong (na
 not_among name before [] k = refl
 not_among name before (m ∷ ms) k = let other : same name m ≡ false = bytes_eq-sym name m ∙ (neither (same m name) (is_among before m) k.0).0 in rw other (not_among name before ms k.1)
 
-no_repeats : (trees : List (List Node)) (before : List (List ℕ)) (ats : List Place) → repeats trees before ats ≡ [] → NoneAmong before (map (own_name trees) ats) × AreApart (map (own_name trees) ats)
+pub no_repeats : (trees : List (List Node)) (before : List (List ℕ)) (ats : List Place) → repeats trees before ats ≡ [] → NoneAmong before (map (own_name trees) ats) × AreApart (map (own_name trees) ats)
 no_repeats trees before [] h = (tt, tt)
 no_repeats trees before (at ∷ ats) h =
     let name = own_name trees at in

@@ -11,3 +11,9 @@ pub mod References
 pub mod Encodings
 pub mod Entries
 pub mod ReadTypes
+pub mod TypeReferences
+pub mod Bases
+pub mod Numbers
+pub mod TableRows
+pub mod TableBreaks
+pub mod TableRead

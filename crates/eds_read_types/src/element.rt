@@ -1,6 +1,6 @@
 //! The elements of a sheet by their places.
 
-ghost use Rattle.std.specs.Prelude.{◌≡◌, ◌++◌, OnOk, IfOk, option_map};
+ghost use Rattle.std.specs.Prelude.{◌≡◌, ◌++◌, OnOk, IfOk, option_map, slice_get};
 ghost use Rattle.std.specs.Option.{option_copied};
 ghost use Rattle.eds_tree.specs.Trees.{node_name, node_children};
 ghost use Rattle.eds_read_types.specs.Places.{element as element_of, is_element as is_named, attribute as attribute_of, own_name as own_name_of, is_container as is_container_at, held};
@@ -8,6 +8,13 @@ ghost use Rattle.eds_read_types.specs.Encodings.{first_held as first_of_held};
 
 use eds_base::{Memory, Place};
 use eds_tree::{Node, Tree};
+
+/// The tree of a file.
+pub(crate) fn tree_at(trees: &[Tree], file: u16) -> Option<&Tree>
+    ensures { option_copied result ≡ slice_get trees.now file }
+{
+    trees.get(file as usize)
+}
 
 fn element<'a>(trees: &'a [Tree], at: Place) -> Option<&'a Node>
     ensures { option_copied result ≡ element_of trees.now at }

@@ -105,7 +105,7 @@ fn upper_end(range_type: &str, greatest: Option<i128>) -> End
 }
 
 /// Any number.
-const NO_RANGE: Range = Range {
+pub(crate) const NO_RANGE: Range = Range {
     low: End::Open,
     high: End::Open,
 };

@@ -98,7 +98,8 @@ fn rows_of(alloc: Global, sheet: &Sheet) -> Result<Items<Row>, Memory>
     Ok(rows)
 }
 
-fn id_of(item: Item) -> Option<TypeId>
+/// The number of the type that an item is.
+pub(crate) fn id_of(item: Item) -> Option<TypeId>
     ensures { result ≡ id_in item }
 {
     match item {
@@ -108,7 +109,11 @@ fn id_of(item: Item) -> Option<TypeId>
     }
 }
 
-fn word_type(alloc: Global, sheet: &Sheet, word: Option<&str>) -> Result<Option<TypeId>, Memory>
+pub(crate) fn word_type(
+    alloc: Global,
+    sheet: &Sheet,
+    word: Option<&str>,
+) -> Result<Option<TypeId>, Memory>
     ensures { IfOk result (λ id. id ≡ word_type_of sheet.now.trees.now sheet.now.space.now (option_map (λ w. w.now) word.entry)) }
 {
     let text = match word {

@@ -48,7 +48,7 @@ pub(crate) fn type_found(
     }
 }
 
-fn judge_finding(
+pub(crate) fn judge_finding(
     alloc: Global,
     sheet: &Sheet,
     at: Place,
@@ -92,7 +92,7 @@ pub(crate) fn least_unresolved(
     Ok(Refusal::first(elements, word))
 }
 
-fn judge_kind(
+pub(crate) fn judge_kind(
     alloc: Global,
     sheet: &Sheet,
     at: Place,

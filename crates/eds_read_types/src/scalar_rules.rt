@@ -13,19 +13,19 @@ use eds_bits::IntForm;
 use eds_tree::Tree;
 use std::alloc::Global;
 
-fn is_integer(tree: &Tree, node: u32) -> bool
+pub(crate) fn is_integer(tree: &Tree, node: u32) -> bool
     ensures { result ≡ is_integer tree.now node }
 {
     tree.name_at(node) == "IntegerDataType"
 }
 
-fn is_enumerated(tree: &Tree, node: u32) -> bool
+pub(crate) fn is_enumerated(tree: &Tree, node: u32) -> bool
     ensures { result ≡ is_enumerated tree.now node }
 {
     tree.name_at(node) == "EnumeratedDataType"
 }
 
-fn is_boolean(tree: &Tree, node: u32) -> bool
+pub(crate) fn is_boolean(tree: &Tree, node: u32) -> bool
     ensures { result ≡ is_boolean tree.now node }
 {
     tree.name_at(node) == "BooleanDataType"
@@ -47,7 +47,7 @@ fn refusal_where(broken: bool, rule: Rule, at: Place) -> Option<Refusal>
 }
 
 /// Whether an integer, enumerated or boolean type has no form.
-fn lacks_form(tree: &Tree, node: u32) -> bool
+pub(crate) fn lacks_form(tree: &Tree, node: u32) -> bool
     ensures { result ≡ lacks_form tree.now node }
 {
     if is_integer(tree, node) || is_enumerated(tree, node) {

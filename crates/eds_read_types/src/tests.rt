@@ -1,11 +1,12 @@
-use crate::{Row, Types, Unsigned, read_types};
+use crate::read::read_types;
+use crate::{Row, Types, Unsigned};
 use eds_base::{Fail, Items, Kept, Memory, Refusal};
 use eds_names::Space;
 use eds_tree::{Trees, read_tree};
 use std::alloc::Global;
 
 // The trees of some files.
-fn trees_of(alloc: Global, files: &[&str]) -> Result<Trees, Fail<Refusal>> {
+pub(crate) fn trees_of(alloc: Global, files: &[&str]) -> Result<Trees, Fail<Refusal>> {
     let mut trees = Items::new(alloc);
     for (file, text) in files.iter().enumerate() {
         if file < 64 && text.len() < 1_000_000 {
@@ -69,7 +70,7 @@ fn types_text(alloc: Global, types: &Types) -> Result<String, Memory> {
     }
 }
 
-fn refusal_text(alloc: Global, refusal: &Refusal) -> Result<String, Memory> {
+pub(crate) fn refusal_text(alloc: Global, refusal: &Refusal) -> Result<String, Memory> {
     let number = refusal.rule.number();
     let name = refusal.rule.name();
     let file = refusal.place.file;
@@ -109,7 +110,7 @@ const BELOW: &str = r#"["DataSheet",
 ["ContainerDataType",{"name":"Last"},["EntryList",["Entry",{"name":"a","type":"In/U4"}],["Entry",{"name":"b","type":"U4"}]]]]]]"#;
 
 // A sheet that declares a type of 8 bits, an interface, a component and what is given.
-fn sheet_with(alloc: Global, inner: &str) -> Result<String, Memory> {
+pub(crate) fn sheet_with(alloc: Global, inner: &str) -> Result<String, Memory> {
     let front =
         r#"["PackageFile",["Package",{"name":"P"},["DeclaredInterfaceSet",["Interface",{"name":"I"}]],["ComponentSet",["Component",{"name":"C"}]],["DataTypeSet",["IntegerDataType",{"name":"U8"},["IntegerDataEncoding",{"sizeInBits":"8","encoding":"unsigned"}]]"#;
     Ok(format!(in alloc; "{front}{inner}]]]")?)

@@ -1,15 +1,16 @@
 -- A sheet compiled, or refused for the first rule that it breaks.
-use Rattle.std.specs.Prelude.{ℕ, List, [], ◌++◌, count_by, Bool, true, false, Option, Result, Ok, Err}
+use Rattle.std.specs.Prelude.{ℕ, List, [], ◌++◌, count_by, Bool, is_some, Option, Some, Result, Ok, Err}
 use Rattle.eds_base.specs.declared.refusal.Refusal.{Refusal}
 use Rattle.eds_base.specs.Answering.{◌>>=◌}
 use Rattle.eds_tree.specs.declared.tree.Node.{Node}
 use Rattle.eds_tree.specs.ShapeCheck.{shape_breaks, shape_verdict}
 use Rattle.eds_names.specs.Declarations.{is_sort, is_face, is_comp}
 use Rattle.eds_names.specs.LookUp.{Names, names_in, names_of, duplicates}
-use Rattle.eds_read_types.specs.declared.row.Row.{Row}
-use Rattle.eds_read_types.specs.declared.row.Row.TheVariants.{Int, Con}
-use Rattle.eds_read_types.specs.declared.row.Types.{Types}
-use Rattle.eds_read_types.specs.ReadTypes.{type_breaks, types_read}
+use Rattle.eds_types.specs.declared.row.TypeRow.{TypeRow}
+use Rattle.eds_types.specs.Rows.{container_in}
+use Rattle.eds_read_types.specs.declared.table.Typed.{Typed}
+use Rattle.eds_read_types.specs.TableBreaks.{table_breaks}
+use Rattle.eds_read_types.specs.TableRead.{table_read}
 use Rattle.eds_sheet.specs.declared.sheet.Counts.{Counts}
 use Rattle.eds_sheet.specs.declared.sheet.Sheet.{Sheet}
 use Rattle.eds_sheet.specs.Judging.{judged_first}
@@ -21,7 +22,7 @@ use Rattle.eds_sheet.specs.Pending.{pending_breaks, pending_verdict}
 -- All that some trees break: what is not compiled yet is judged only where all elements are as they should be, and
 -- references and what rests on them only where no name is given twice.
 abbrev pub tree_breaks : List (List Node) → (word : Option (List ℕ)) → List Refusal
-tree_breaks trees word = judged_first (shape_breaks trees) (pending_breaks trees) ++ judged_first (duplicates trees) (type_breaks trees (names_of trees) word)
+tree_breaks trees word = judged_first (shape_breaks trees) (pending_breaks trees) ++ judged_first (duplicates trees) (table_breaks trees (names_of trees) word)
 
 -- the same of files that are element trees
 abbrev pub breaks_where_read : Result (List (List Node)) Refusal → (word : Option (List ℕ)) → List Refusal
@@ -35,21 +36,20 @@ all_breaks files word = judged_first (reading_breaks files) (breaks_where_read (
 
 -- ---- the sheet
 
-abbrev pub is_container : Row → Bool
-is_container (Int name size) = false
-is_container (Con name entries) = true
+abbrev pub is_container : TypeRow → Bool
+is_container row = is_some (container_in (Some row))
 
 -- how many types, containers, interfaces and components there are
-abbrev pub counts_of : Names → Types → Counts
-counts_of names types = record {
+abbrev pub counts_of : Names → Typed → Counts
+counts_of names typed = record {
   types = count_by (λ d. is_sort d.item) names.declared;
-  containers = count_by is_container types.rows;
+  containers = count_by is_container typed.table;
   interfaces = count_by (λ d. is_face d.item) names.declared;
   components = count_by (λ d. is_comp d.item) names.declared;
 }
 
-abbrev pub sheet_of : Names → Types → Sheet
-sheet_of names types = record { types = types; counts = counts_of names types }
+abbrev pub sheet_of : Names → Typed → Sheet
+sheet_of names typed = record { table = typed.table; word = typed.word; counts = counts_of names typed }
 
 -- the sheet of some trees, or the first of the rules that they break, judged in their order
 abbrev pub compiled_trees : List (List Node) → (word : Option (List ℕ)) → Result Sheet Refusal
@@ -57,8 +57,8 @@ compiled_trees trees word =
     shape_verdict trees >>= λ shaped.
     pending_verdict trees >>= λ built.
     names_in trees >>= λ names.
-    types_read trees names word >>= λ types.
-    Ok (sheet_of names types)
+    table_read trees names word >>= λ typed.
+    Ok (sheet_of names typed)
 
 -- the sheet of some files, or the first of the rules that they break
 unfoldable pub compiled : List (List ℕ) → (word : Option (List ℕ)) → Result Sheet Refusal

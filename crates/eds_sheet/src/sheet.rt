@@ -3,15 +3,16 @@
 ghost use Rattle.std.specs.Prelude.{◌≡◌, ◌≤◌, ◌<◌, ◌^◌, length, count_by, option_map, is_some, IfOk, IfSome};
 ghost use Rattle.std.specs.List.{All};
 ghost use Rattle.eds_base.specs.Answering.{Answers};
-ghost use Rattle.eds_read_types.specs.Rows.{EntriesDiffer, RowsDiffer};
+ghost use Rattle.eds_types.specs.FlatTables.{IsFlatTable};
 ghost use Rattle.eds_sheet.specs.Compiled.{is_container as container, counts_of as counted, compiled};
 
 use crate::files::{Files, read_trees};
 use crate::pending::check_pending;
-use eds_base::{Fail, Memory, Refusal};
+use eds_base::{Fail, Memory, Refusal, TypeId};
 use eds_names::Space;
-use eds_read_types::{Row, Types, read_types};
+use eds_read_types::{Typed, read_types};
 use eds_tree::shape_check;
+use eds_types::{Kind, TypeRow, TypeTable};
 use std::alloc::Global;
 
 /// How many types, containers among them, interfaces and components a sheet declares.
@@ -23,26 +24,34 @@ pub struct Counts {
     pub components: u32,
 }
 
-/// A sheet: its types, and how many there are of what it declares.
-#[derive(Debug, Drop)]
+/// A sheet: the table of its types, the type that the TYPE word names, where there is a TYPE word, and how many there are of what
+/// it declares.
+#[derive(Drop)]
 pub struct Sheet {
-    pub types: Types,
+    pub table: TypeTable,
+    pub word: Option<TypeId>,
     pub counts: Counts,
 }
 
-fn is_container(row: &Row) -> bool
+fn is_container(row: &TypeRow) -> bool
     ensures { result ≡ container row.now }
 {
-    match row {
-        Row::Int(_, _) => false,
-        Row::Con(_, _) => true,
+    match &row.kind {
+        Kind::Con(_) => true,
+        _ => false,
     }
 }
 
-fn count_containers(rows: &[Row]) -> usize
-    ensures { result ≡ count_by container rows.now }
+fn count_containers(table: &TypeTable) -> u32
+    ensures { result ≡ count_by container table.now }
 {
-    rows.iter().filter(|row| is_container(row)).count()
+    let mut count = 0u32;
+    for i in 0..table.len() {
+        if is_container(table.row(TypeId(i))) {
+            count += 1;
+        }
+    }
+    count
 }
 
 // A number as one of 32 bits; where it has more no memory is found.
@@ -55,12 +64,12 @@ fn narrow(count: usize) -> Result<u32, Memory>
     Ok(count as u32)
 }
 
-fn counts_of(space: &Space, types: &Types) -> Result<Counts, Memory>
-    ensures { IfOk result (λ c. c ≡ counted space.now types.now) }
+fn counts_of(space: &Space, typed: &Typed) -> Result<Counts, Memory>
+    ensures { IfOk result (λ c. c ≡ counted space.now typed.now) }
 {
     Ok(Counts {
         types: narrow(space.types())?,
-        containers: narrow(count_containers(types.rows.as_slice()))?,
+        containers: count_containers(&typed.table),
         interfaces: narrow(space.faces())?,
         components: narrow(space.comps())?,
     })
@@ -75,16 +84,19 @@ pub fn compile(alloc: Global, files: &Files, extra: Option<&str>) -> Result<Shee
     requires few { length files.now ≤ 64 }
     requires short { All (λ octets. length octets < 2 ^ 32) files.now }
     ensures sheet { Answers (λ s. s) result (compiled files.now (option_map (λ w. w.now) extra.entry)) }
-    ensures word { IfOk result (λ s. IfSome s.types.word (λ id. id.0 < length s.types.rows)) }
-    ensures asked { IfOk result (λ s. is_some s.types.word ≡ is_some extra.entry) }
-    ensures rows { IfOk result (λ s. RowsDiffer s.types.rows) }
-    ensures entries { IfOk result (λ s. All EntriesDiffer s.types.rows) }
+    ensures word { IfOk result (λ s. IfSome s.word (λ id. id.0 < length s.table)) }
+    ensures asked { IfOk result (λ s. is_some s.word ≡ is_some extra.entry) }
+    ensures flat { IfOk result (λ s. IsFlatTable s.table) }
 {
     let trees = read_trees(alloc, files)?;
     shape_check(alloc, &trees)?;
     check_pending(alloc, &trees)?;
     let space = Space::build(alloc, &trees)?;
-    let types = read_types(alloc, &trees, &space, extra)?;
-    let counts = counts_of(&space, &types)?;
-    Ok(Sheet { types, counts })
+    let typed = read_types(alloc, &trees, &space, extra)?;
+    let counts = counts_of(&space, &typed)?;
+    Ok(Sheet {
+        table: typed.table,
+        word: typed.word,
+        counts,
+    })
 }

@@ -13,3 +13,4 @@ pub mod Stored
 pub mod Tables
 pub mod Sample
 pub mod FlatTables
+pub mod Reasons

@@ -15,7 +15,7 @@ mod value;
 pub use chain::Chain;
 pub use reason::PackReason;
 pub use row::{
-    Constraint, Constraints, Container, EntryPath, Kind, Listing, Part, Parts, TypeRow, TypeRows,
+    Constraint, Constraints, Container, EntryPath, Kind, Listing, Part, Parts, TypeRow, TypeRows, Used,
 };
 pub use sample::sample_table;
 pub use sequence::Sequence;

@@ -30,3 +30,29 @@ pub enum PackReason {
     /// The room is too small.
     Room,
 }
+
+impl PackReason {
+    ghost use Rattle.std.specs.Prelude.{◌≡◌};
+    ghost use Rattle.eds_types.specs.Reasons.{reason_name};
+
+    /// Its name in a report.
+    pub fn name(self) -> &'static str
+        ensures { result.now ≡ reason_name self }
+    {
+        match self {
+            PackReason::WrongKind => "WrongKind",
+            PackReason::OutOfRange => "OutOfRange",
+            PackReason::NoLabel => "NoLabel",
+            PackReason::BadText => "BadText",
+            PackReason::WrongSize => "WrongSize",
+            PackReason::CountWrong => "CountWrong",
+            PackReason::Constraint => "Constraint",
+            PackReason::NotDerived => "NotDerived",
+            PackReason::Abstract => "Abstract",
+            PackReason::NotMostDerived => "NotMostDerived",
+            PackReason::LengthField => "LengthField",
+            PackReason::TooLong => "TooLong",
+            PackReason::Room => "Room",
+        }
+    }
+}

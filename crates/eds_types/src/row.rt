@@ -20,6 +20,9 @@ pub type Constraints = Items<Constraint>;
 /// Rows, each at the number of its type.
 pub type TypeRows = Items<TypeRow>;
 
+/// The types of a sheet that are used: those that an element or the TYPE word names.
+pub type Used = Items<TypeId>;
+
 /// What a container asks of an entry of its bases.
 #[derive(Drop)]
 pub struct Constraint {

@@ -1,4 +1,4 @@
-use Rattle.std.proofs.Common.{map, get_or, refl, string_bytes, arith}
+use Rattle.std.proofs.Common.{map, refl, string_bytes, arith}
 use Rattle.eds_read_types.proofs.EntriesLemmas.{least-next_entry}
 use Rattle.eds_read_types.proofs.entry.least_repeat.Goals as goal
 

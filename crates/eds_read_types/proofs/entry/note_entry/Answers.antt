@@ -1,7 +1,6 @@
-use Rattle.std.proofs.Common.{rules, ◌≡◌, ◌++◌, [], ◌∷◌, map, true, false, sym, ap, ◌∙◌, string_bytes, not}
+use Rattle.std.proofs.Common.{◌≡◌, map, true, false, sym, ◌∙◌, string_bytes}
 use Rattle.eds_names.specs.Repeats.{is_among}
 use Rattle.eds_names.proofs.RepeatsLemmas.{among-map, names-present, first_of-none, inserted}
-use Rattle.eds_read_types.specs.Entries.{repeat_of}
 use Rattle.eds_read_types.proofs.EntriesLemmas.{repeat_of-present, repeat_of-absent}
 use Rattle.eds_read_types.proofs.entry.note_entry.Goals as goal
 

@@ -1,0 +1,389 @@
+-- The rows of a sheet that breaks no rule on types keep the rules of a table, and are flat.
+use Rattle.std.proofs.Common.{◌≡◌, ℕ, zero, suc, ◌+◌, ◌≤◌, Bool, true, false, ◌||◌, List, [], ◌∷◌, ◌++◌, length, map, slice_get, option_map, Option, Some, None, refl, sym, ap, subst, ◌∙◌, arith, lit≤}
+use Rattle.std.specs.Prelude.{nat_le, codes, if◌then◌else◌}
+use Rattle.std.specs.List.{AllByRecursion, filter_map, flat_map, list_all}
+use Rattle.std.proofs.Common.{leb-true}
+use Rattle.std.proofs.lemmas.Bool.{and_parts}
+use Rattle.std.proofs.lemmas.List.{length-map}
+use Rattle.std.proofs.lemmas.Option.{slice_get-map}
+use Rattle.std.proofs.lemmas.Slice.Eq.{bytes_eq-Decides}
+use Rattle.eds_base.specs.Reading.{◌>>=◌, same}
+use Rattle.eds_base.specs.Refusals.{least}
+use Rattle.eds_base.specs.declared.ids.Place.{Place}
+use Rattle.eds_base.specs.declared.ids.TypeId.{TypeId}
+use Rattle.eds_base.specs.declared.refusal.Refusal.{Refusal}
+use Rattle.eds_bits.specs.Lists.{Has}
+use Rattle.eds_tree.specs.declared.tree.Node.{Node}
+use Rattle.eds_tree.specs.Trees.{node_name, name_at}
+use Rattle.eds_names.specs.declared.declared.Declared.{Declared}
+use Rattle.eds_names.specs.declared.declared.Item.{Item}
+use Rattle.eds_names.specs.declared.declared.Item.TheVariants as item
+use Rattle.eds_names.specs.Repeats.{is_among}
+use Rattle.eds_names.specs.LookUp.{Names, AreApart, NamesDiffer, look_up}
+use Rattle.eds_types.specs.declared.row.TypeRow.{TypeRow}
+use Rattle.eds_types.specs.declared.row.Kind.{Kind}
+use Rattle.eds_types.specs.declared.row.Kind.TheVariants as kind
+use Rattle.eds_types.specs.FlatTables.{IsScalarEntry, IsFlatKind, IsFlatTable}
+use Rattle.eds_types.specs.Rows.{base_in, base_of, number_of_id, entries_in, constraints_in}
+use Rattle.eds_types.specs.Rules.{AreDistinct, IsListing, KindKeeps, HasKind, IsScalarKind, DerivesFrom, name_of, KeepsRules}
+use Rattle.eds_read_types.specs.declared.numbers.Numbers.{Numbers}
+use Rattle.eds_read_types.specs.Places.{element, is_element, own_name, is_container, types, type_places}
+use Rattle.eds_read_types.specs.References.{type_named, type_of, type_found}
+use Rattle.eds_read_types.specs.ReadTypes.{id_of}
+use Rattle.eds_read_types.specs.Entries.{entries_at, repeats, duplicates_at, breaks_empty, breaks_duplicate}
+use Rattle.eds_read_types.specs.Forms.{int_form_of, bool_form_of}
+use Rattle.eds_read_types.specs.Listings.{listing_of}
+use Rattle.eds_read_types.specs.ScalarRules.{is_enumerated, is_boolean, encoding_breaks, range_breaks, enumeration_breaks}
+use Rattle.eds_read_types.specs.TypeReferences.{breaks_finding, breaks_kind}
+use Rattle.eds_read_types.specs.Bases.{is_sub_range, is_number, base_named, base_found, bases_of, base_kind_by, base_kind, base_kind_at, breaks_base_kind, breaks_cycle, breaks_chain}
+use Rattle.eds_read_types.specs.Numbers.{form_or_wide, truth_or_octet, numbers_of}
+use Rattle.eds_read_types.specs.TableRows.{entry_type, id_or_first, entry_part, container_at, scalar_kind_in, kind_of, table_row, rows_from, table_rows, has_few_entries, are_few}
+use Rattle.eds_read_types.specs.TableBreaks.{not_scalar_by, not_scalar_at, not_flat_at, breaks_flat, breaks_in, breaks_at, breaks_each, breaks_sub_range, reference_breaks, chain_breaks, scalar_breaks, container_breaks, table_breaks}
+use Rattle.eds_read_types.proofs.NoBreaks.{least-none, append-none, types-apart, no_repeats}
+use Rattle.eds_read_types.proofs.LawFacts.{name_apart, enumerated_unbroken}
+use Rattle.eds_read_types.proofs.FlatRules.{KeepsRow, AreFlatRows, scalar_by_kind, flat_by_rows, keeps_by_rows}
+use Rattle.eds_read_types.proofs.ChainFacts.{each-none, level}
+use Rattle.eds_read_types.proofs.NumberFacts.{HasNumbers, base_there, base_is_sub, few_levels, less_levels, domains, derives_from}
+
+all_there : (p : TypeRow → Bool) (rows : List TypeRow) → list_all p rows ≡ true → (k : ℕ) (row : TypeRow) → slice_get rows k ≡ Some row → p row ≡ true
+all_there p [] h k row e = absurd cc
+all_there p (r ∷ rows) h zero row e = let is : r ≡ row = cc in subst (λ x. p x ≡ true) is (and_parts (p r) (list_all p rows) h).0
+all_there p (r ∷ rows) h (suc k) row e = all_there p rows (and_parts (p r) (list_all p rows) h).1 k row e
+
+clash : (b : Bool) → b ≡ false → b ≡ true → ⊥
+clash b e f = cc
+
+true_or : (b : Bool) → (b || true) ≡ true
+true_or true = refl
+true_or false = refl
+
+-- ---- names
+
+among_has : (xs : List (List ℕ)) (x : List ℕ) → Has xs x → is_among xs x ≡ true
+among_has xs x h = ap (λ ys. is_among ys x) h.is ∙ stands h.before h.after
+  where
+    stands : (before after : List (List ℕ)) → is_among (before ++ x ∷ after) x ≡ true
+    stands [] after = rw ((bytes_eq-Decides x x).1 refl) refl
+    stands (y ∷ before) after = rw (stands before after) (true_or (same x y))
+
+apart-distinct : (xs : List (List ℕ)) → AreApart xs → AreDistinct xs
+apart-distinct [] h = tt
+apart-distinct (x ∷ xs) h = (λ has. clash (is_among xs x) h.0 (among_has xs x has), apart-distinct xs h.1)
+
+-- ---- rows
+
+-- a row at a number, with what it is declared by
+record IsRowAt (trees : List (List Node)) (names : Names) (ds : List Declared) (k id : ℕ) (row : TypeRow) : Type 0 where
+  declared : Declared
+  there : slice_get ds k ≡ Some declared
+  is : row ≡ table_row trees names id declared
+
+row_at : (trees : List (List Node)) (names : Names) (n : ℕ) (ds : List Declared) (k : ℕ) (row : TypeRow) → slice_get (rows_from trees names n ds) k ≡ Some row → (id : ℕ) → n + k ≡ id → IsRowAt trees names ds k id row
+row_at trees names n [] k row e id q = absurd cc
+row_at trees names n (d ∷ ds) zero row e id q = let m : n ≡ id = omega arith in record { declared = d; there = refl; is = let r : table_row trees names n d ≡ row = cc in subst (λ i. row ≡ table_row trees names i d) m (sym r) }
+row_at trees names n (d ∷ ds) (suc k) row e id q = let r = row_at trees names (n + 1) ds k row e id (omega arith) in record { declared = r.declared; there = r.there; is = r.is }
+
+row_there : (trees : List (List Node)) (names : Names) (n : ℕ) (ds : List Declared) (k : ℕ) (d : Declared) → slice_get ds k ≡ Some d → (id : ℕ) → n + k ≡ id → slice_get (rows_from trees names n ds) k ≡ Some (table_row trees names id d)
+row_there trees names n [] k d e id q = absurd cc
+row_there trees names n (c ∷ ds) zero d e id q = let m : n ≡ id = omega arith in let r : c ≡ d = cc in ap Some (subst (λ i. table_row trees names n c ≡ table_row trees names i c) m refl ∙ ap (table_row trees names id) r)
+row_there trees names n (c ∷ ds) (suc k) d e id q = row_there trees names (n + 1) ds k d e id (omega arith)
+
+row_names : (trees : List (List Node)) (names : Names) (n : ℕ) (ds : List Declared) → map (λ (row : TypeRow). row.name) (rows_from trees names n ds) ≡ map (λ d. d.name) ds
+row_names trees names n [] = refl
+row_names trees names n (d ∷ ds) = ap (λ ns. d.name ∷ ns) (row_names trees names (n + 1) ds)
+
+place_there : (ds : List Declared) (k : ℕ) (d : Declared) → slice_get ds k ≡ Some d → slice_get (map (λ d. d.place) ds) k ≡ Some d.place
+place_there ds k d e = slice_get-map (λ d. d.place) ds k ∙ ap (option_map (λ d. d.place)) e
+
+declared_there : (ds : List Declared) (k : ℕ) (at : Place) → slice_get (map (λ d. d.place) ds) k ≡ Some at → (d : Declared) × (slice_get ds k ≡ Some d) × (d.place ≡ at)
+declared_there ds k at e = go (slice_get ds k) refl (sym (slice_get-map (λ d. d.place) ds k) ∙ e)
+  where
+    go : (o : Option Declared) → slice_get ds k ≡ o → option_map (λ d. d.place) o ≡ Some at → (d : Declared) × (slice_get ds k ≡ Some d) × (d.place ≡ at)
+    go None q h = absurd cc
+    go (Some d) q h = (d, q, cc)
+
+-- ---- kinds
+
+either : (a b : Bool) (P : Type 0) → (a || b) ≡ true → (a ≡ true → P) → (b ≡ true → P) → P
+either true b P e f g = f refl
+either false b P e f g = g e
+
+-- an integer type or sub-range is no container, enumerated or boolean type
+number_apart : (name other : List ℕ) → same (codes "IntegerDataType") other ≡ false → same (codes "SubRangeDataType") other ≡ false → (same name (codes "IntegerDataType") || same name (codes "SubRangeDataType")) ≡ true → same name other ≡ false
+number_apart name other p q h = either (same name (codes "IntegerDataType")) (same name (codes "SubRangeDataType")) (same name other ≡ false) h (name_apart name (codes "IntegerDataType") other p) (name_apart name (codes "SubRangeDataType") other q)
+
+-- the element is an integer type or a sub-range
+abbrev is_number_named : Option Node → Bool
+is_number_named node = same (node_name node) (codes "IntegerDataType") || same (node_name node) (codes "SubRangeDataType")
+
+in_tree_number : (o : Option (List Node)) (n : ℕ) (numbers : Numbers) → is_number_named (o >>= λ t. slice_get t n) ≡ true → scalar_kind_in o n numbers ≡ kind.Int numbers.form numbers.spans
+in_tree_number None n numbers h = refl
+in_tree_number (Some t) n numbers h =
+    let enumerated : is_enumerated t n ≡ false = number_apart (name_at t n) (codes "EnumeratedDataType") refl refl h in
+    let boolean : is_boolean t n ≡ false = number_apart (name_at t n) (codes "BooleanDataType") refl refl h in
+    rw (enumerated, boolean) refl
+
+sub_is_number : (trees : List (List Node)) (at : Place) → is_sub_range trees at ≡ true → is_number trees at ≡ true
+sub_is_number trees at h = rw h (true_or (is_element trees (codes "IntegerDataType") at))
+
+number_kind : (trees : List (List Node)) (names : Names) (id : ℕ) (at : Place) → is_number trees at ≡ true → kind_of trees names id at ≡ kind.Int (numbers_of trees (type_places names) (bases_of trees names) id).form (numbers_of trees (type_places names) (bases_of trees names) id).spans
+number_kind trees names id at h =
+    let container : is_container trees at ≡ false = number_apart (node_name (element trees at)) (codes "ContainerDataType") refl refl h in
+    rw container (in_tree_number (slice_get trees at.file) at.node (numbers_of trees (type_places names) (bases_of trees names) id) h)
+
+-- whatever is no container is scalar
+scalar_is_scalar : (o : Option (List Node)) (n : ℕ) (numbers : Numbers) → IsScalarKind (scalar_kind_in o n numbers)
+scalar_is_scalar None n numbers = tt
+scalar_is_scalar (Some t) n numbers = go (is_enumerated t n) (is_boolean t n)
+  where
+    go : (a b : Bool) → IsScalarKind (if a then kind.Enum (form_or_wide (int_form_of t n)) (listing_of t n) else if b then kind.Bool (truth_or_octet (bool_form_of t n)) else kind.Int numbers.form numbers.spans)
+    go true b = tt
+    go false true = tt
+    go false false = tt
+
+-- ---- entries
+
+-- the type of an entry that is scalar
+record IsEntryOf (trees : List (List Node)) (names : Names) (at : Place) : Type 0 where
+  id : TypeId
+  names_it : entry_type trees names at ≡ Some id
+  place : Place
+  there : slice_get (type_places names) id.0 ≡ Some place
+  scalar : is_container trees place ≡ false
+
+entry_scalar : (trees : List (List Node)) (names : Names) (at : Place) → not_scalar_at trees names at ≡ [] → IsEntryOf trees names at
+entry_scalar trees names at h = named (type_named trees at) refl h
+  where
+    not_container : (b : Bool) (r : Refusal) → (if b then r ∷ [] else []) ≡ [] → b ≡ false
+    not_container true r h = absurd cc
+    not_container false r h = refl
+
+    placed : (text : List ℕ) (id : TypeId) → type_named trees at ≡ Some text → look_up names at text ≡ Some (item.Sort id) → (o : Option Place) → slice_get (type_places names) id.0 ≡ o → not_scalar_by trees at o ≡ [] → IsEntryOf trees names at
+    placed text id e f None q k = absurd cc
+    placed text id e f (Some place) q k = record { id = id; names_it = rw e (rw f refl); place = place; there = q; scalar = not_container (is_container trees place) _ k }
+
+    found : (text : List ℕ) → type_named trees at ≡ Some text → (o : Option Item) → look_up names at text ≡ o → not_scalar_by trees at (o >>= type_of names) ≡ [] → IsEntryOf trees names at
+    found text e None f k = absurd cc
+    found text e (Some (item.Sort id)) f k = placed text id e f (slice_get (type_places names) id.0) refl k
+    found text e (Some (item.Face id)) f k = absurd cc
+    found text e (Some (item.Comp id)) f k = absurd cc
+
+    named : (o : Option (List ℕ)) → type_named trees at ≡ o → not_scalar_by trees at (o >>= type_found names at) ≡ [] → IsEntryOf trees names at
+    named None e k = absurd cc
+    named (Some text) e k = found text e (look_up names at text) refl k
+
+-- a type that is no container is scalar in the table
+scalar_there : (trees : List (List Node)) (names : Names) (id : ℕ) (place : Place) → slice_get (type_places names) id ≡ Some place → is_container trees place ≡ false → HasKind (table_rows trees names) id IsScalarKind
+scalar_there trees names id place there scalar =
+    let d = declared_there (types names) id place there in
+    let same_place : is_container trees (d.0).place ≡ false = ap (is_container trees) d.2 ∙ scalar in
+    (table_row trees names id d.0, row_there trees names 0 (types names) id d.0 d.1 id (omega arith), rw same_place (scalar_is_scalar (slice_get trees (d.0).place.file) (d.0).place.node (numbers_of trees (type_places names) (bases_of trees names) id)))
+
+entries_scalar : (trees : List (List Node)) (names : Names) (ats : List Place) → flat_map (not_scalar_at trees names) ats ≡ [] → AllByRecursion (IsScalarEntry (table_rows trees names)) (map (entry_part trees names) ats)
+entries_scalar trees names [] h = tt
+entries_scalar trees names (at ∷ ats) h =
+    let p = append-none (not_scalar_at trees names at) (flat_map (not_scalar_at trees names) ats) h in
+    let e = entry_scalar trees names at p.0 in
+    (subst (λ (o : Option TypeId). HasKind (table_rows trees names) (id_or_first o).0 IsScalarKind) (sym e.names_it) (scalar_there trees names e.id.0 e.place e.there e.scalar), entries_scalar trees names ats p.1)
+
+part_names : (trees : List (List Node)) (names : Names) (ats : List Place) → filter_map name_of (map (entry_part trees names) ats) ≡ map (own_name trees) ats
+part_names trees names [] = refl
+part_names trees names (at ∷ ats) = ap (λ ns. own_name trees at ∷ ns) (part_names trees names ats)
+
+-- ---- bases
+
+-- the base of a sub-range
+record IsBaseOf (trees : List (List Node)) (names : Names) (base : TypeId) : Type 0 where
+  place : Place
+  there : slice_get (type_places names) base.0 ≡ Some place
+  number : is_number trees place ≡ true
+
+base_of_sub : (trees : List (List Node)) (names : Names) (at : Place) (base : TypeId) → base_kind_at trees names at ≡ [] → base_found trees names at ≡ Some base → IsBaseOf trees names base
+base_of_sub trees names at base h e = named (base_named trees at) h e
+  where
+    is_one : (b : Bool) (r : Refusal) → (if b then [] else r ∷ []) ≡ [] → b ≡ true
+    is_one true r h = refl
+    is_one false r h = absurd cc
+
+    placed : (text : List ℕ) (o : Option Place) → slice_get (type_places names) base.0 ≡ o → base_kind_by trees at text o ≡ [] → IsBaseOf trees names base
+    placed text None q k = absurd cc
+    placed text (Some place) q k = record { place = place; there = q; number = is_one (is_number trees place) _ k }
+
+    found : (text : List ℕ) (o : Option Item) → base_kind_by trees at text (o >>= type_of names) ≡ [] → (o >>= id_of) ≡ Some base → IsBaseOf trees names base
+    found text None k f = absurd cc
+    found text (Some (item.Sort id)) k f = let is : id ≡ base = cc in placed text (slice_get (type_places names) base.0) refl (subst (λ (i : TypeId). base_kind_by trees at text (slice_get (type_places names) i.0) ≡ []) is k)
+    found text (Some (item.Face id)) k f = absurd cc
+    found text (Some (item.Comp id)) k f = absurd cc
+
+    named : (o : Option (List ℕ)) → base_kind trees names at o ≡ [] → (o >>= λ text. look_up names at text >>= id_of) ≡ Some base → IsBaseOf trees names base
+    named None k f = absurd cc
+    named (Some text) k f = found text (look_up names at text) k f
+
+-- ---- the rows of a sheet
+
+-- the breaks that the table asks about are none
+record IsUnbroken (trees : List (List Node)) (names : Names) : Type 0 where
+  kinds : breaks_base_kind trees names ≡ []
+  cycles : breaks_cycle trees names ≡ []
+  chains : breaks_chain trees names ≡ []
+  flat : breaks_flat trees names ≡ []
+  encodings : breaks_each encoding_breaks trees names ≡ []
+  ranges : breaks_each range_breaks trees names ≡ []
+  subs : breaks_sub_range trees names ≡ []
+  enumerations : breaks_each enumeration_breaks trees names ≡ []
+  duplicates : breaks_duplicate trees names ≡ []
+
+unbroken : (trees : List (List Node)) (names : Names) (word : Option (List ℕ)) → table_breaks trees names word ≡ [] → IsUnbroken trees names
+unbroken trees names word h =
+    let d = append-none (reference_breaks trees names word ++ chain_breaks trees names ++ scalar_breaks trees names) (container_breaks trees names word) h in
+    let c = append-none (reference_breaks trees names word ++ chain_breaks trees names) (scalar_breaks trees names) d.0 in
+    let b = append-none (reference_breaks trees names word) (chain_breaks trees names) c.0 in
+    let r = append-none (breaks_finding trees names word ++ breaks_kind trees names word) (breaks_base_kind trees names) b.0 in
+    let f = append-none (breaks_cycle trees names ++ breaks_chain trees names) (breaks_flat trees names) b.1 in
+    let g = append-none (breaks_cycle trees names) (breaks_chain trees names) f.0 in
+    let s = append-none (breaks_each encoding_breaks trees names ++ breaks_each range_breaks trees names ++ breaks_sub_range trees names) (breaks_each enumeration_breaks trees names) c.1 in
+    let u = append-none (breaks_each encoding_breaks trees names ++ breaks_each range_breaks trees names) (breaks_sub_range trees names) s.0 in
+    let e = append-none (breaks_each encoding_breaks trees names) (breaks_each range_breaks trees names) u.0 in
+    let o = append-none (breaks_empty trees names word) (breaks_duplicate trees names) d.1 in
+    record { kinds = r.1; cycles = g.0; chains = g.1; flat = f.1; encodings = e.0; ranges = e.1; subs = u.1; enumerations = s.1; duplicates = o.1 }
+
+module _ (trees : List (List Node)) (names : Names) (u : IsUnbroken trees names) where
+  -- ---- containers
+
+  container_row : (id : ℕ) (d : Declared) → slice_get (types names) id ≡ Some d → is_container trees d.place ≡ true → length (entries_at trees d.place) ≤ 32767
+      → KeepsRow (table_rows trees names) (record { name = d.name; base = base_found trees names d.place; kind = kind.Con (container_at trees names d.place) })
+  container_row id d there is few =
+      let place = place_there (types names) id d there in
+      let no_base = no_base_by (base_found trees names d.place) refl in
+      let entries : flat_map (not_scalar_at trees names) (entries_at trees d.place) ≡ [] = rw is at (each-none (not_flat_at trees names) (type_places names) u.flat id d.place place) in
+      let differ : repeats trees [] (entries_at trees d.place) ≡ [] = rw is at (each-none (duplicates_at trees names) (type_places names) u.duplicates id d.place place) in
+      record {
+        kind_keeps = (subst (λ n. n ≤ 32767) (sym (length-map (entries_at trees d.place) (entry_part trees names))) few, lit≤ tt);
+        derives = λ base e. absurd (no_other base e no_base);
+        flat = record { concrete = refl; root = ap number_of_id no_base; entries = entries_scalar trees names (entries_at trees d.place) entries; trailers = refl };
+        bare = refl;
+        names = subst AreDistinct (sym (part_names trees names (entries_at trees d.place))) (apart-distinct (map (own_name trees) (entries_at trees d.place)) (no_repeats trees [] (entries_at trees d.place) differ).1);
+      }
+    where
+      no_base_by : (o : Option TypeId) → base_found trees names d.place ≡ o → base_found trees names d.place ≡ None
+      no_base_by None e = e
+      no_base_by (Some base) e =
+          let number = sub_is_number trees d.place (base_is_sub trees names d.place base e) in
+          let other : is_container trees d.place ≡ false = number_apart (node_name (element trees d.place)) (codes "ContainerDataType") refl refl number in
+          absurd (clash (is_container trees d.place) other is)
+
+      no_other : (base : ℕ) → number_of_id (base_found trees names d.place) ≡ Some base → base_found trees names d.place ≡ None → ⊥
+      no_other base e f = let no : None ≡ Some base = sym (ap number_of_id f) ∙ e in cc
+
+  -- ---- scalar types
+
+  scalar_keeps : (id : ℕ) (d : Declared) → slice_get (types names) id ≡ Some d → KindKeeps (scalar_kind_in (slice_get trees d.place.file) d.place.node (numbers_of trees (type_places names) (bases_of trees names) id))
+  scalar_keeps id d there = in_tree (slice_get trees d.place.file) (each-none (breaks_at encoding_breaks trees names) (type_places names) u.encodings id d.place place) (each-none (breaks_at enumeration_breaks trees names) (type_places names) u.enumerations id d.place place)
+    where
+      place : slice_get (type_places names) id ≡ Some d.place
+      place = place_there (types names) id d there
+
+      numbers : HasNumbers (numbers_of trees (type_places names) (bases_of trees names) id)
+      numbers = domains trees names u.cycles u.chains u.encodings u.ranges u.subs id
+
+      of_type : (t : List Node) (a b : Bool) → is_enumerated t d.place.node ≡ a → encoding_breaks t d.place ≡ [] → enumeration_breaks t d.place ≡ []
+          → KindKeeps (if a then kind.Enum (form_or_wide (int_form_of t d.place.node)) (listing_of t d.place.node) else if b then kind.Bool (truth_or_octet (bool_form_of t d.place.node)) else kind.Int (numbers_of trees (type_places names) (bases_of trees names) id).form (numbers_of trees (type_places names) (bases_of trees names) id).spans)
+      of_type t true b e enc enu = let l = enumerated_unbroken t d.place e enc enu in subst (λ form. IsListing (form_or_wide form) (listing_of t d.place.node)) (sym l.form_is) l.lists
+      of_type t false true e enc enu = tt
+      of_type t false false e enc enu = numbers
+
+      in_tree : (o : Option (List Node)) → breaks_in encoding_breaks o d.place ≡ [] → breaks_in enumeration_breaks o d.place ≡ [] → KindKeeps (scalar_kind_in o d.place.node (numbers_of trees (type_places names) (bases_of trees names) id))
+      in_tree None enc enu = numbers
+      in_tree (Some t) enc enu = of_type t (is_enumerated t d.place.node) (is_boolean t d.place.node) refl enc enu
+
+  -- a type that has a base derives from it
+  derives : (id : ℕ) (d : Declared) → slice_get (types names) id ≡ Some d → (base : TypeId) → base_found trees names d.place ≡ Some base → HasKind (table_rows trees names) base.0 (DerivesFrom (kind_of trees names id d.place))
+  derives id d there base e =
+      let place = place_there (types names) id d there in
+      let b = base_of_sub trees names d.place base (each-none (base_kind_at trees names) (type_places names) u.kinds id d.place place) e in
+      let other = declared_there (types names) base.0 b.place b.there in
+      let base_number : is_number trees (other.0).place ≡ true = ap (is_number trees) other.2 ∙ b.number in
+      let number = sub_is_number trees d.place (base_is_sub trees names d.place base e) in (
+        table_row trees names base.0 other.0,
+        row_there trees names 0 (types names) base.0 other.0 other.1 base.0 (omega arith),
+        subst (λ k. DerivesFrom k (kind_of trees names base.0 (other.0).place)) (sym (number_kind trees names id d.place number))
+            (subst (DerivesFrom (kind.Int (numbers_of trees (type_places names) (bases_of trees names) id).form (numbers_of trees (type_places names) (bases_of trees names) id).spans)) (sym (number_kind trees names base.0 (other.0).place base_number))
+            (derives_from trees names u.cycles u.chains u.encodings u.ranges u.subs id base (base_there trees names id d.place place ∙ e))),
+      )
+
+  number_some : (o : Option TypeId) (n : ℕ) → number_of_id o ≡ Some n → (id : TypeId) × (o ≡ Some id) × (id.0 ≡ n)
+  number_some None n e = absurd cc
+  number_some (Some id) n e = (id, refl, cc)
+
+  flat_scalar : (base : Option ℕ) (k : Kind) → IsScalarKind k → IsFlatKind (table_rows trees names) base k
+  flat_scalar base (kind.Int form spans) s = tt
+  flat_scalar base (kind.Enum form listing) s = tt
+  flat_scalar base (kind.Bool form) s = tt
+  flat_scalar base (kind.Str form) s = absurd s
+  flat_scalar base (kind.Bin n) s = absurd s
+  flat_scalar base (kind.Arr item n) s = absurd s
+  flat_scalar base (kind.Con c) s = absurd s
+
+  scalar_row : (id : ℕ) (d : Declared) → slice_get (types names) id ≡ Some d → is_container trees d.place ≡ false → KeepsRow (table_rows trees names) (table_row trees names id d)
+  scalar_row id d there is =
+      let scalar : IsScalarKind (kind_of trees names id d.place) = rw is (scalar_is_scalar (slice_get trees d.place.file) d.place.node (numbers_of trees (type_places names) (bases_of trees names) id)) in
+      record {
+        kind_keeps = rw is (scalar_keeps id d there);
+        derives = λ base e. (let some = number_some (base_found trees names d.place) base e in subst (λ n. HasKind (table_rows trees names) n (DerivesFrom (kind_of trees names id d.place))) some.2 (derives id d there some.0 some.1));
+        flat = flat_scalar (number_of_id (base_found trees names d.place)) (kind_of trees names id d.place) scalar;
+        bare = ap constraints_in (scalar_by_kind (kind_of trees names id d.place) scalar);
+        names = subst (λ c. AreDistinct (filter_map name_of (entries_in c))) (sym (scalar_by_kind (kind_of trees names id d.place) scalar)) tt;
+      }
+
+  -- ---- all rows
+
+  keeps_row : (id : ℕ) (d : Declared) → slice_get (types names) id ≡ Some d → has_few_entries (table_row trees names id d) ≡ true → KeepsRow (table_rows trees names) (table_row trees names id d)
+  keeps_row id d there few = go (is_container trees d.place) refl
+    where
+      go : (b : Bool) → is_container trees d.place ≡ b → KeepsRow (table_rows trees names) (table_row trees names id d)
+      go true is =
+          let short : nat_le (length (map (entry_part trees names) (entries_at trees d.place))) 32767 ≡ true = rw is at few in
+          rw is (container_row id d there is (subst (λ n. n ≤ 32767) (length-map (entries_at trees d.place) (entry_part trees names)) (leb-true _ 32767 short)))
+      go false is = scalar_row id d there is
+
+  base_row : (id base : ℕ) → base_of (table_rows trees names) id ≡ Some base → level (bases_of trees names) id ≡ suc (level (bases_of trees names) base)
+  base_row id base e = go (slice_get (table_rows trees names) id) refl e
+    where
+      go : (o : Option TypeRow) → slice_get (table_rows trees names) id ≡ o → base_in o ≡ Some base → level (bases_of trees names) id ≡ suc (level (bases_of trees names) base)
+      go None q h = absurd cc
+      go (Some row) q h =
+          let r = row_at trees names 0 (types names) id row q id (omega arith) in
+          let some = number_some (base_found trees names r.declared.place) base (sym (ap (λ (w : TypeRow). number_of_id w.base) r.is) ∙ h) in
+          let place = place_there (types names) id r.declared r.there in
+          subst (λ n. level (bases_of trees names) id ≡ suc (level (bases_of trees names) n)) some.2
+          (less_levels trees names u.cycles u.chains u.encodings u.ranges u.subs id some.0 (base_there trees names id r.declared.place place ∙ some.1))
+
+  flat_rows : NamesDiffer names.declared → are_few (table_rows trees names) ≡ true → AreFlatRows (table_rows trees names)
+  flat_rows apart few =
+      let parts = and_parts (nat_le (length (table_rows trees names)) 4096) (list_all has_few_entries (table_rows trees names)) few in
+      record {
+        few = leb-true _ 4096 parts.0;
+        names = subst AreDistinct (sym (row_names trees names 0 (types names))) (apart-distinct (map (λ d. d.name) (types names)) (types-apart names.declared apart));
+        level = level (bases_of trees names);
+        chains = few_levels trees names u.cycles u.chains u.encodings u.ranges u.subs;
+        base_level = base_row;
+        rows = λ id row e. row_keeps id row e (all_there has_few_entries (table_rows trees names) parts.1 id row e);
+      }
+    where
+      row_keeps : (id : ℕ) (row : TypeRow) → slice_get (table_rows trees names) id ≡ Some row → has_few_entries row ≡ true → KeepsRow (table_rows trees names) row
+      row_keeps id row e h =
+          let r = row_at trees names 0 (types names) id row e id (omega arith) in
+          subst (KeepsRow (table_rows trees names)) (sym r.is) (keeps_row id r.declared r.there (ap has_few_entries (sym r.is) ∙ h))
+
+-- ---- the laws
+
+unbroken_sheet : (trees : List (List Node)) (names : Names) (word : Option (List ℕ)) → NamesDiffer names.declared → are_few (table_rows trees names) ≡ true → least (table_breaks trees names word) ≡ None → AreFlatRows (table_rows trees names)
+unbroken_sheet trees names word apart few none = flat_rows trees names (unbroken trees names word (least-none (table_breaks trees names word) none)) apart few
+
+-- the rows of a sheet that is not refused keep the rules
+pub table_keeps : (trees : List (List Node)) (names : Names) (word : Option (List ℕ)) → NamesDiffer names.declared → are_few (table_rows trees names) ≡ true → least (table_breaks trees names word) ≡ None → KeepsRules (table_rows trees names)
+table_keeps trees names word apart few none = keeps_by_rows (table_rows trees names) (unbroken_sheet trees names word apart few none)
+
+-- and are scalar types and flat containers
+pub table_flat : (trees : List (List Node)) (names : Names) (word : Option (List ℕ)) → NamesDiffer names.declared → are_few (table_rows trees names) ≡ true → least (table_breaks trees names word) ≡ None → IsFlatTable (table_rows trees names)
+table_flat trees names word apart few none = flat_by_rows (table_rows trees names) (unbroken_sheet trees names word apart few none)

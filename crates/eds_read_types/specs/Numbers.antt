@@ -1,0 +1,86 @@
+-- The forms and domains of integer types and sub-ranges by their numbers among all types.
+use Rattle.std.specs.Prelude.{ℕ, zero, suc, List, Option, Some, None, slice_get, true, refl, if◌then◌else◌}
+use Rattle.std.specs.Option.{unwrap_or}
+use Rattle.eds_base.specs.declared.ids.Place.{Place}
+use Rattle.eds_base.specs.declared.ids.TypeId.{TypeId}
+use Rattle.eds_bits.specs.declared.forms.Encoding.TheVariants.{TwosComplement}
+use Rattle.eds_bits.specs.declared.forms.ByteOrder.TheVariants.{Big}
+use Rattle.eds_bits.specs.declared.forms.IntForm.{IntForm}
+use Rattle.eds_bits.specs.declared.forms.BoolForm.{BoolForm}
+use Rattle.eds_tree.specs.declared.tree.Node.{Node}
+use Rattle.eds_read_types.specs.declared.numbers.Numbers.{Numbers}
+use Rattle.eds_read_types.specs.declared.range.Range.{Range}
+use Rattle.eds_read_types.specs.Sizes.{is_form, some_bits, few_bits}
+use Rattle.eds_read_types.specs.Forms.{int_form_of}
+use Rattle.eds_read_types.specs.Ranges.{no_range, range_of}
+use Rattle.eds_read_types.specs.Domains.{domain_of, narrowed}
+use Rattle.eds_read_types.specs.ScalarRules.{is_integer}
+use Rattle.eds_read_types.specs.Bases.{base_at}
+
+-- ---- forms
+
+-- 64 bits in two's complement
+abbrev pub wide_form : IntForm
+wide_form = record { bits = 64; encoding = TwosComplement; order = Big; valid = is_form 64 TwosComplement Big refl }
+
+-- a form, or the wide one where there is none; in a sheet that is not refused each type has its form
+abbrev pub form_or_wide : Option IntForm → IntForm
+form_or_wide form = unwrap_or form wide_form
+
+-- 8 bits, of which zero is false
+abbrev pub octet_form : BoolForm
+octet_form = record { bits = 8; zero_is_false = true; some = some_bits 8 refl; few = few_bits 8 refl }
+
+-- the same for truth values
+abbrev pub truth_or_octet : Option BoolForm → BoolForm
+truth_or_octet form = unwrap_or form octet_form
+
+-- ---- one type
+
+-- the numbers of a form that a range admits
+abbrev pub numbers_with : IntForm → Range → Numbers
+numbers_with form range = record { form = form; spans = domain_of form range }
+
+abbrev pub all_numbers : Numbers
+all_numbers = numbers_with wide_form no_range
+
+-- the numbers of an integer type; whatever is none is read as one without an encoding and a range
+abbrev pub own_numbers : List Node → ℕ → Numbers
+own_numbers t n = if is_integer t n then numbers_with (form_or_wide (int_form_of t n)) (range_of t n) else all_numbers
+
+abbrev pub own_numbers_in : Option (List Node) → ℕ → Numbers
+own_numbers_in None n = all_numbers
+own_numbers_in (Some t) n = own_numbers t n
+
+abbrev pub own_numbers_at : List (List Node) → Option Place → Numbers
+own_numbers_at trees None = all_numbers
+own_numbers_at trees (Some at) = own_numbers_in (slice_get trees at.file) at.node
+
+abbrev pub range_held_in : Option (List Node) → ℕ → Range
+range_held_in None n = no_range
+range_held_in (Some t) n = range_of t n
+
+-- the range of the type at a place
+abbrev pub range_at : List (List Node) → Option Place → Range
+range_at trees None = no_range
+range_at trees (Some at) = range_held_in (slice_get trees at.file) at.node
+
+-- ---- a type and its bases
+
+-- the base's form, and the base's numbers that a range admits
+abbrev pub narrowed_numbers : Range → Numbers → Numbers
+narrowed_numbers range base = record { form = base.form; spans = narrowed range base.spans }
+
+-- the numbers of a type: its own, or, where it has a base, those of the base that its range admits
+abbrev pub numbers_by : (ℕ → Numbers) → Range → Numbers → Option TypeId → Numbers
+numbers_by up range own None = own
+numbers_by up range own (Some base) = narrowed_numbers range (up base.0)
+
+-- the same over at most n bases; places and bases are those of all types
+unfoldable pub numbers_within : ℕ → List (List Node) → List Place → List (Option TypeId) → ℕ → Numbers
+numbers_within zero trees places bases id = own_numbers_at trees (slice_get places id)
+numbers_within (suc n) trees places bases id = numbers_by (numbers_within n trees places bases) (range_at trees (slice_get places id)) (own_numbers_at trees (slice_get places id)) (base_at bases id)
+
+-- the form and the domain of the type of a number: no chain is longer than 16 types
+abbrev pub numbers_of : List (List Node) → List Place → List (Option TypeId) → ℕ → Numbers
+numbers_of trees places bases id = numbers_within 16 trees places bases id

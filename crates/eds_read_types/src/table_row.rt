@@ -1,0 +1,201 @@
+//! The rows of the table of types, and the types that are used.
+
+ghost use Rattle.std.specs.Prelude.{◌≡◌, ◌++◌, ◌∷◌, [], map, filter, length, slice_get, IfOk, OnOk};
+ghost use Rattle.eds_read_types.specs.Places.{is_type, type_places};
+ghost use Rattle.eds_read_types.specs.Bases.{bases_of as bases_in};
+ghost use Rattle.eds_read_types.specs.Numbers.{numbers_of as numbers_by_id};
+ghost use Rattle.eds_read_types.specs.TableRows.{entry_type as entry_type_of, id_or_first, entry_part as entry_part_of, container_at as container_by, scalar_kind as scalar_kind_of, scalar_kind_in as scalar_kind_by, kind_of as kind_by_id, table_row as table_row_of, rows_from, table_rows as table_rows_of, entry_types, used_types as used_types_of};
+
+use crate::base::{Chains, base_found};
+use crate::element::{is_container, own_name, tree_at};
+use crate::entry::entries_at;
+use crate::form::{bool_form_of, int_form_of};
+use crate::listing::listing_of;
+use crate::numbers::{Numbers, form_or_wide, numbers_of, truth_or_octet};
+use crate::read::id_of;
+use crate::reference::type_named;
+use crate::scalar_rules::{is_boolean, is_enumerated};
+use crate::sheet::Sheet;
+use eds_base::{Memory, Place, Text, TypeId};
+use eds_names::Declared;
+use eds_tree::Tree;
+use eds_types::{Constraints, Container, Kind, Part, Parts, TypeRow, TypeRows, Used};
+use std::alloc::Global;
+
+/// The number of the type that an entry names.
+fn entry_type(alloc: Global, sheet: &Sheet, at: Place) -> Result<Option<TypeId>, Memory>
+    ensures { IfOk result (λ id. id ≡ entry_type_of sheet.now.trees.now sheet.now.space.now at) }
+{
+    let text = match type_named(sheet.trees, at) {
+        None => return Ok(None),
+        Some(text) => text,
+    };
+    match sheet.space.look_up(alloc, at, text)? {
+        None => Ok(None),
+        Some(item) => Ok(id_of(item)),
+    }
+}
+
+/// The same, the first type's where it names none.
+fn entry_id(alloc: Global, sheet: &Sheet, at: Place) -> Result<TypeId, Memory>
+    ensures { IfOk result (λ id. id ≡ id_or_first (entry_type_of sheet.now.trees.now sheet.now.space.now at)) }
+{
+    let found = entry_type(alloc, sheet, at)?;
+    match found {
+        None => Ok(TypeId(0)),
+        Some(id) => Ok(id),
+    }
+}
+
+/// An entry by its name and its type.
+fn entry_part(alloc: Global, sheet: &Sheet, at: Place) -> Result<Part, Memory>
+    ensures { IfOk result (λ p. p ≡ entry_part_of sheet.now.trees.now sheet.now.space.now at) }
+{
+    let id = entry_id(alloc, sheet, at)?;
+    let name = Text::of(alloc, own_name(sheet.trees, at))?;
+    Ok(Part::Plain(name, id))
+}
+
+/// The container at a place, which has entries alone.
+fn container_at(alloc: Global, sheet: &Sheet, at: Place) -> Result<Container, Memory>
+    ensures { IfOk result (λ c. c ≡ container_by sheet.now.trees.now sheet.now.space.now at) }
+{
+    let places = entries_at(alloc, sheet.trees, at)?;
+    let mut entries = Parts::new(alloc);
+    for entry in &places {
+        let part = entry_part(alloc, sheet, *entry)?;
+        entries.push(part)?;
+    }
+    Ok(Container {
+        hidden: false,
+        constraints: Constraints::new(alloc),
+        entries,
+        trailers: Parts::new(alloc),
+    })
+}
+
+/// An enumerated type, a boolean type, or one of such numbers.
+fn scalar_kind(alloc: Global, tree: &Tree, node: u32, numbers: Numbers) -> Result<Kind, Memory>
+    ensures { IfOk result (λ k. k ≡ scalar_kind_of tree.now node numbers) }
+{
+    if is_enumerated(tree, node) {
+        let listing = listing_of(alloc, tree, node)?;
+        Ok(Kind::Enum(form_or_wide(int_form_of(tree, node)), listing))
+    } else if is_boolean(tree, node) {
+        Ok(Kind::Bool(truth_or_octet(bool_form_of(tree, node))))
+    } else {
+        Ok(Kind::Int(numbers.form, numbers.spans))
+    }
+}
+
+/// The same of the type at a place.
+fn scalar_kind_in(
+    alloc: Global,
+    trees: &[Tree],
+    at: Place,
+    numbers: Numbers,
+) -> Result<Kind, Memory>
+    ensures { IfOk result (λ k. k ≡ scalar_kind_by (slice_get trees.now at.file) at.node numbers) }
+{
+    match tree_at(trees, at.file) {
+        None => Ok(Kind::Int(numbers.form, numbers.spans)),
+        Some(tree) => scalar_kind(alloc, tree, at.node, numbers),
+    }
+}
+
+/// The form and the domain of a type.
+fn numbers_in_table(alloc: Global, chains: &Chains, id: usize) -> Result<Numbers, Memory>
+    ensures { IfOk result (λ n. n ≡ numbers_by_id chains.now.sheet.now.trees.now (type_places chains.now.sheet.now.space.now) (bases_in chains.now.sheet.now.trees.now chains.now.sheet.now.space.now) id) }
+{
+    numbers_of(alloc, chains, id)
+}
+
+/// What the type at a place is, of which the number among all types is given.
+fn kind_of(alloc: Global, chains: &Chains, id: usize, at: Place) -> Result<Kind, Memory>
+    ensures { IfOk result (λ k. k ≡ kind_by_id chains.now.sheet.now.trees.now chains.now.sheet.now.space.now id at) }
+{
+    let sheet = chains.sheet;
+    if is_container(sheet.trees, at) {
+        let container = container_at(alloc, sheet, at)?;
+        Ok(Kind::Con(container))
+    } else {
+        let numbers = numbers_in_table(alloc, chains, id)?;
+        scalar_kind_in(alloc, sheet.trees, at, numbers)
+    }
+}
+
+/// A declared type as a row.
+fn table_row(alloc: Global, chains: &Chains, id: usize, one: &Declared) -> Result<TypeRow, Memory>
+    ensures { IfOk result (λ row. row ≡ table_row_of chains.now.sheet.now.trees.now chains.now.sheet.now.space.now id one.now) }
+{
+    let name = Text::of(alloc, one.name.as_str())?;
+    let base = base_found(alloc, chains.sheet, one.place)?;
+    let kind = kind_of(alloc, chains, id, one.place)?;
+    Ok(TypeRow { name, base, kind })
+}
+
+/// Puts the row of what is declared last, where it is a type.
+fn push_row(
+    alloc: Global,
+    rows: &mut TypeRows,
+    chains: &Chains,
+    one: &Declared,
+) -> Result<(), Memory>
+    ensures { OnOk result (rows.new ≡ rows.old ++ rows_from chains.now.sheet.now.trees.now chains.now.sheet.now.space.now (length rows.old) (filter is_type (one.now ∷ []))) }
+{
+    if one.item.is_sort() {
+        let row = table_row(alloc, chains, rows.len(), one)?;
+        rows.push(row)?;
+    }
+    Ok(())
+}
+
+/// A row for each type of what is declared, in order.
+fn rows_among(alloc: Global, chains: &Chains, declared: &[Declared]) -> Result<TypeRows, Memory>
+    ensures { IfOk result (λ rows. rows ≡ rows_from chains.now.sheet.now.trees.now chains.now.sheet.now.space.now 0 (filter is_type declared.now)) }
+{
+    let mut rows = TypeRows::new(alloc);
+    for one in declared {
+        push_row(alloc, &mut rows, chains, one)?;
+    }
+    Ok(rows)
+}
+
+/// A row for each declared type, in order.
+pub(crate) fn table_rows(alloc: Global, chains: &Chains) -> Result<TypeRows, Memory>
+    ensures { IfOk result (λ rows. rows ≡ table_rows_of chains.now.sheet.now.trees.now chains.now.sheet.now.space.now) }
+{
+    rows_among(alloc, chains, chains.sheet.space.declared())
+}
+
+/// Puts the types last that the entries of a type name.
+fn push_used(alloc: Global, used: &mut Used, sheet: &Sheet, at: Place) -> Result<(), Memory>
+    ensures { OnOk result (used.new ≡ used.old ++ entry_types sheet.now.trees.now sheet.now.space.now at) }
+{
+    if !is_container(sheet.trees, at) {
+        return Ok(());
+    }
+    let entries = entries_at(alloc, sheet.trees, at)?;
+    for entry in &entries {
+        let id = entry_id(alloc, sheet, *entry)?;
+        used.push(id)?;
+    }
+    Ok(())
+}
+
+/// The types that an entry names, in the order of types and entries, and then the one that the TYPE word names.
+pub(crate) fn used_types(alloc: Global, sheet: &Sheet, word: Option<TypeId>) -> Result<Used, Memory>
+    ensures { IfOk result (λ used. used ≡ used_types_of sheet.now.trees.now sheet.now.space.now word) }
+{
+    let mut used = Used::new(alloc);
+    for at in sheet.types {
+        push_used(alloc, &mut used, sheet, *at)?;
+    }
+    match word {
+        None => Ok(used),
+        Some(id) => {
+            used.push(id)?;
+            Ok(used)
+        }
+    }
+}

@@ -1,0 +1,18 @@
+-- What an accepted sheet has.
+use Rattle.std.specs.Prelude.{◌≡◌, ℕ, ◌<◌, List, length, Option, Ok, IfSome, is_some}
+use Rattle.eds_types.specs.Rules.{KeepsRules}
+use Rattle.eds_types.specs.FlatTables.{IsFlatTable}
+use Rattle.eds_sheet.specs.declared.sheet.Sheet.{Sheet}
+use Rattle.eds_sheet.specs.Compiled.{compiled}
+
+-- The table keeps the rules on types and has scalar types and flat containers alone; where a word was given, the type
+-- that it names is in the table.
+pub record IsSound (word : Option (List ℕ)) (sheet : Sheet) : Type 0 where
+  pub rules : KeepsRules sheet.table
+  pub flat : IsFlatTable sheet.table
+  pub named : IfSome sheet.word (λ id. id.0 < length sheet.table)
+  pub asked : is_some sheet.word ≡ is_some word
+
+-- so is every sheet that is compiled
+abbrev pub SheetsAreSound : Type 0
+SheetsAreSound = (files : List (List ℕ)) (word : Option (List ℕ)) (sheet : Sheet) → compiled files word ≡ Ok sheet → IsSound word sheet
