@@ -3,7 +3,7 @@
 ghost use Rattle.std.specs.Prelude.{◌≡◌, option_map};
 ghost use Rattle.eds_read_types.specs.Forms.{bits_from, bits_at, encoding_of, order_of, int_form, given_int_form, int_form_of, reads_zero_as_false, bool_form, given_bool_form, bool_form_of};
 
-use crate::child::{child_named, number_at};
+use crate::element::{child_named, number_at};
 use eds_bits::{BoolForm, ByteOrder, Encoding, IntForm};
 use eds_tree::Tree;
 

@@ -7,7 +7,7 @@ ghost use Rattle.eds_base.specs.Reading.{same};
 ghost use Rattle.eds_read_types.specs.Held.{named_among};
 ghost use Rattle.eds_read_types.specs.Listings.{entry_at, listing_of, label, value, all_differ, has_number, is_entry, is_listing};
 
-use crate::child::{child_named, number_at};
+use crate::element::{child_named, number_at};
 use eds_base::{Memory, Text};
 use eds_bits::{IntForm, bounds_of};
 use eds_tree::Tree;

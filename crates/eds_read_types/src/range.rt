@@ -3,7 +3,7 @@
 ghost use Rattle.std.specs.Prelude.{◌≡◌, option_map};
 ghost use Rattle.eds_read_types.specs.Ranges.{inclusive_end, exclusive_end, includes_least, excludes_least, includes_greatest, excludes_greatest, lower_end, upper_end, no_range, range_by, range_in, range_of};
 
-use crate::child::{child_named, number_at};
+use crate::element::{child_named, number_at};
 use eds_tree::Tree;
 
 /// An end of a range.

@@ -4,11 +4,12 @@ ghost use Rattle.std.specs.Prelude.{◌≡◌, IfOk};
 ghost use Rattle.eds_base.specs.Refusals.{least};
 ghost use Rattle.eds_read_types.specs.ScalarRules.{is_integer, is_enumerated, is_boolean, broken_where, lacks_form, lacks_numbers_by, lacks_numbers, misses_listing, encoding_breaks, range_breaks, enumeration_breaks};
 
+use crate::breaks::broken;
 use crate::domain::is_empty_domain;
 use crate::form::{bool_form_of, int_form_of};
 use crate::listing::{is_listing, listing_of};
 use crate::range::{Range, range_of};
-use eds_base::{Kept, Memory, Place, Refusal, Rule};
+use eds_base::{Memory, Place, Refusal, Rule};
 use eds_bits::IntForm;
 use eds_tree::Tree;
 use std::alloc::Global;
@@ -32,18 +33,10 @@ pub(crate) fn is_boolean(tree: &Tree, node: u32) -> bool
 }
 
 /// The refusal at a place, where a rule is broken there.
-fn refusal_where(broken: bool, rule: Rule, at: Place) -> Option<Refusal>
-    ensures { result ≡ least (broken_where broken rule at) }
+fn refusal_where(fails: bool, rule: Rule, at: Place) -> Option<Refusal>
+    ensures { result ≡ least (broken_where fails rule at) }
 {
-    if broken {
-        Some(Refusal {
-            rule,
-            place: at,
-            kept: Kept::Nothing,
-        })
-    } else {
-        None
-    }
+    if fails { Some(broken(rule, at)) } else { None }
 }
 
 /// Whether an integer, enumerated or boolean type has no form.
@@ -112,6 +105,6 @@ fn misses_listing(alloc: Global, tree: &Tree, node: u32) -> Result<bool, Memory>
 pub fn bad_enumeration(alloc: Global, tree: &Tree, at: Place) -> Result<Option<Refusal>, Memory>
     ensures { IfOk result (λ r. r ≡ least (enumeration_breaks tree.now at)) }
 {
-    let broken = misses_listing(alloc, tree, at.node)?;
-    Ok(refusal_where(broken, Rule::BadEnumeration, at))
+    let misses = misses_listing(alloc, tree, at.node)?;
+    Ok(refusal_where(misses, Rule::BadEnumeration, at))
 }

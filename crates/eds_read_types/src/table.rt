@@ -11,7 +11,7 @@ ghost use Rattle.eds_read_types.specs.TableRows.{has_few_entries as has_few_entr
 ghost use Rattle.eds_read_types.specs.TableRead.{typed_of, table_read};
 
 use crate::base::{Chains, bases_of, cycles_of};
-use crate::read::word_type;
+use crate::reference::word_type;
 use crate::sheet::{Sheet, elements, type_places};
 use crate::table_row::{table_rows, used_types};
 use crate::table_rules::least_break;

@@ -5,13 +5,13 @@ ghost use Rattle.eds_base.specs.Refusals.{least, first_of};
 ghost use Rattle.eds_read_types.specs.TypeReferences.{reference_at as reference_in, breaks_finding, breaks_kind};
 ghost use Rattle.eds_read_types.specs.Bases.{is_number as is_number_at, base_kind_by, breaks_base_kind};
 ghost use Rattle.eds_read_types.specs.TableBreaks.{breaks_flat};
-ghost use Rattle.eds_read_types.specs.References.{type_found as type_found_by};
+ghost use Rattle.eds_read_types.specs.References.{type_found as type_found_by, unresolved as unresolved_in, wrong_kind as wrong_kind_in};
 
 use crate::base::base_named;
 use crate::breaks::{PlaceRule, broken_with, least_over};
 use crate::element::{attribute, is_container, is_element};
 use crate::entry::entries_at;
-use crate::reference::{judge_finding, judge_kind, type_found, type_named};
+use crate::reference::{type_found, type_named, type_of};
 use crate::sheet::Sheet;
 use eds_base::{Memory, Place, Refusal, Rule};
 use eds_tree::Tree;
@@ -23,10 +23,27 @@ fn reference_at(trees: &[Tree], at: Place) -> Option<&str>
 {
     if is_element(trees, "Entry", at) {
         attribute(trees, "type", at)
-    } else if is_element(trees, "SubRangeDataType", at) {
-        attribute(trees, "baseType", at)
     } else {
-        None
+        base_named(trees, at)
+    }
+}
+
+/// The refusal of a reference that finds nothing.
+fn judge_finding(
+    alloc: Global,
+    sheet: &Sheet,
+    at: Place,
+    text: Option<&str>,
+) -> Result<Option<Refusal>, Memory>
+    ensures { IfOk result (λ r. r ≡ least (unresolved_in sheet.now.space.now at (option_map (λ t. t.now) text.entry))) }
+{
+    let text = match text {
+        None => return Ok(None),
+        Some(text) => text,
+    };
+    match sheet.space.look_up(alloc, at, text)? {
+        Some(_) => Ok(None),
+        None => Ok(Some(broken_with(alloc, Rule::Unresolved, at, text)?)),
     }
 }
 
@@ -54,6 +71,29 @@ pub(crate) fn least_finding(
     let elements = least_over::<FindsNothing>(alloc, sheet, sheet.elements)?;
     let word = judge_finding(alloc, sheet, sheet.word_place(), word)?;
     Ok(Refusal::first(elements, word))
+}
+
+/// The refusal of a reference that finds what is no type.
+fn judge_kind(
+    alloc: Global,
+    sheet: &Sheet,
+    at: Place,
+    text: Option<&str>,
+) -> Result<Option<Refusal>, Memory>
+    ensures { IfOk result (λ r. r ≡ least (wrong_kind_in sheet.now.space.now at (option_map (λ t. t.now) text.entry))) }
+{
+    let text = match text {
+        None => return Ok(None),
+        Some(text) => text,
+    };
+    let item = match sheet.space.look_up(alloc, at, text)? {
+        None => return Ok(None),
+        Some(item) => item,
+    };
+    match type_of(sheet, item) {
+        Some(_) => Ok(None),
+        None => Ok(Some(broken_with(alloc, Rule::WrongKind, at, text)?)),
+    }
 }
 
 /// What a reference to a type finds is a type.
