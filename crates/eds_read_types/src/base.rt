@@ -2,7 +2,7 @@
 
 ghost use Rattle.std.specs.Prelude.{◌≡◌, map, option_map, IfOk, length, slice_get};
 ghost use Rattle.std.specs.List.{range_with_len};
-ghost use Rattle.eds_read_types.specs.Bases.{base_named as base_named_in, base_found as base_found_by, bases_of as bases_in, base_at as base_in, is_in_cycle as is_in_cycle_of};
+ghost use Rattle.eds_read_types.specs.Bases.{is_sub_range, base_named as base_named_in, base_found as base_found_by, bases_of as bases_in, base_at as base_in, is_in_cycle as is_in_cycle_of};
 
 use crate::element::{attribute, is_element};
 use crate::reference::id_found;
@@ -23,11 +23,18 @@ pub(crate) struct Chains<'a> {
     ghost judged: { cycles.now ≡ map (is_in_cycle_of bases.now) (range_with_len 0 (length bases.now)) },
 }
 
+/// Whether the type at a place is a sub-range.
+pub(crate) fn is_sub_range(trees: &[Tree], at: Place) -> bool
+    ensures { result ≡ is_sub_range trees.now at }
+{
+    is_element(trees, "SubRangeDataType", at)
+}
+
 /// The reference of a sub-range to its base.
 pub(crate) fn base_named(trees: &[Tree], at: Place) -> Option<&str>
     ensures { option_map (λ t. t.now) result ≡ base_named_in trees.now at }
 {
-    if is_element(trees, "SubRangeDataType", at) {
+    if is_sub_range(trees, at) {
         attribute(trees, "baseType", at)
     } else {
         None

@@ -1,4 +1,5 @@
-//! The types of a sheet.
+//! The data types of an electronic data sheet (CCSDS 876.0-B, data types): from the elements of its files to a table of types, and
+//! the rules that they keep.
 #![tactic(auto)]
 
 mod base;

@@ -43,7 +43,8 @@ fn push_enumeration(
     Ok(())
 }
 
-/// The labels of an enumerated type with their values, in document order.
+/// The labels of an enumerated type with their values (CCSDS 876.0-B, enumerated data types), in document order. Fails only where
+/// no memory is left.
 pub fn listing_of(alloc: Global, tree: &Tree, node: u32) -> Result<Listing, Memory>
     ensures { IfOk result (λ l. l ≡ listing_of tree.now node) }
 {
