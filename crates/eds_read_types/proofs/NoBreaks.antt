@@ -1,16 +1,12 @@
 -- What a sheet that breaks no rule on types has.
-use Rattle.std.proofs.Common.{◌≡◌, ℕ, ◌<◌, Bool, true, false, ◌||◌, List, [], ◌∷◌, ◌++◌, length, map, filter, Option, Some, None, Result, Ok, Err, refl, sym, ap, ◌∙◌, subst, slice_get, is_some, option_map}
-use Rattle.std.specs.Prelude.{IfSome, IfOk}
-use Rattle.std.specs.List.{flat_map, All, AllByRecursion}
+use Rattle.std.proofs.Common.{◌≡◌, ℕ, ◌<◌, Bool, true, false, ◌||◌, List, [], ◌∷◌, ◌++◌, length, map, filter, Option, Some, None, refl, sym, ◌∙◌, subst, slice_get, is_some, option_map}
+use Rattle.std.specs.Prelude.{IfSome}
 use Rattle.std.proofs.lemmas.Option.{slice_get_within}
 use Rattle.std.proofs.lemmas.List.{length-map}
-use Rattle.std.proofs.lemmas.List.Elements.{All-from_recursion}
 use Rattle.eds_base.specs.declared.ids.Place.{Place}
 use Rattle.eds_base.specs.declared.ids.TypeId.{TypeId}
-use Rattle.eds_base.specs.declared.fail.Fail.{Fail}
 use Rattle.eds_base.specs.declared.refusal.Refusal.{Refusal}
 use Rattle.eds_base.specs.declared.rule.Rule.TheVariants.{DuplicateEntry}
-use Rattle.eds_base.specs.Answering.{Answers}
 use Rattle.eds_base.specs.Reading.{same}
 use Rattle.eds_base.specs.Refusals.{first_of, least}
 use Rattle.eds_tree.specs.declared.tree.Node.{Node}
@@ -20,13 +16,10 @@ use Rattle.eds_names.specs.declared.declared.Declared.{Declared}
 use Rattle.eds_names.specs.Repeats.{is_among}
 use Rattle.eds_names.specs.LookUp.{Names, AreApart, NamesDiffer, look_up}
 use Rattle.eds_names.proofs.LookUpLemmas.{bytes_eq-sym}
-use Rattle.eds_read_types.specs.declared.row.Types.{Types}
-use Rattle.eds_read_types.specs.Rows.{row_name, EntriesDiffer, RowsDiffer}
-use Rattle.eds_read_types.specs.Places.{own_name, is_container, is_type, types, type_places, elements}
-use Rattle.eds_read_types.specs.References.{broken_with, word_place, unresolved, unresolved_at, unresolved_by, wrong_kind, wrong_kind_at, wrong_kind_by, no_type_by, breaks_unresolved, breaks_wrong_kind, breaks_nested}
-use Rattle.eds_read_types.specs.Encodings.{breaks_encoding}
-use Rattle.eds_read_types.specs.Entries.{entries_at, repeat_of, repeats, duplicates_at, breaks_empty, breaks_duplicate}
-use Rattle.eds_read_types.specs.ReadTypes.{type_breaks, entry_row, row_of, word_type, types_of, unless, types_read}
+use Rattle.eds_read_types.specs.Places.{own_name, is_type, types, type_places}
+use Rattle.eds_read_types.specs.References.{broken_with, word_place, unresolved, unresolved_by, wrong_kind, wrong_kind_by, no_type_by}
+use Rattle.eds_read_types.specs.Entries.{repeat_of, repeats}
+use Rattle.eds_read_types.specs.ReadTypes.{word_type}
 
 -- ---- no least, no breaks
 
@@ -41,29 +34,6 @@ least-none (r ∷ rs) h = go (least rs) h
 pub append-none : {A : Type 0} (xs ys : List A) → xs ++ ys ≡ [] → (xs ≡ []) × (ys ≡ [])
 append-none [] ys h = (refl, h)
 append-none (x ∷ xs) ys h = cc
-
--- of six lists that are empty together, the first two and the last
-none-of_six : {A : Type 0} (u v w x y z : List A) → u ++ v ++ w ++ x ++ y ++ z ≡ [] → (u ≡ []) × (v ≡ []) × (z ≡ [])
-none-of_six u v w x y z h =
-    let five = append-none (u ++ v ++ w ++ x ++ y) z h in
-    let four = append-none (u ++ v ++ w ++ x) y five.0 in
-    let three = append-none (u ++ v ++ w) x four.0 in
-    let two = append-none (u ++ v) w three.0 in
-    let one = append-none u v two.0 in
-    (one.0, one.1, five.1)
-
--- of the breaks on a sheet that breaks no rule
-no_breaks : (trees : List (List Node)) (names : Names) (word : Option (List ℕ)) → type_breaks trees names word ≡ [] → (breaks_unresolved trees names word ≡ []) × (breaks_wrong_kind trees names word ≡ []) × (breaks_duplicate trees names ≡ [])
-no_breaks trees names word h = none-of_six (breaks_unresolved trees names word) (breaks_wrong_kind trees names word) (breaks_nested trees names) (breaks_encoding trees names) (breaks_empty trees names word) (breaks_duplicate trees names) h
-
--- the types are read where no rule is broken
-none_broken : (trees : List (List Node)) (names : Names) (word : Option (List ℕ)) (t : Types) → types_read trees names word ≡ Ok t → (type_breaks trees names word ≡ []) × (types_of trees names word ≡ t)
-unfolding types_read
-none_broken trees names word t h = go (least (type_breaks trees names word)) refl h
-  where
-    go : (o : Option Refusal) → least (type_breaks trees names word) ≡ o → unless o (types_of trees names word) ≡ Ok t → (type_breaks trees names word ≡ []) × (types_of trees names word ≡ t)
-    go None e k = (least-none (type_breaks trees names word) e, cc)
-    go (Some r) e k = cc
 
 -- ---- the TYPE word
 
@@ -87,15 +57,6 @@ known trees names (Some text) h k = go (look_up names (word_place trees) text) r
     go (Some (item.Sort id)) e u w = rw e (sort id (slice_get (type_places names) id.0) refl w, refl)
     go (Some (item.Face id)) e u w = cc
     go (Some (item.Comp id)) e u w = cc
-
-pub word_known : (trees : List (List Node)) (names : Names) (word : Option (List ℕ)) (t : Types) → types_read trees names word ≡ Ok t → IfSome t.word (λ id. id.0 < length t.rows) × (is_some t.word ≡ is_some word)
-word_known trees names word t h =
-    let parts = none_broken trees names word t h in
-    let none = no_breaks trees names word parts.0 in
-    let first = append-none (flat_map (unresolved_at trees names) (elements trees)) (unresolved names (word_place trees) word) none.0 in
-    let second = append-none (flat_map (wrong_kind_at trees names) (elements trees)) (wrong_kind names (word_place trees) word) none.1 in
-    let both = known trees names word first.1 second.1 in
-    subst (λ (u : Types). IfSome u.word (λ id. id.0 < length u.rows) × (is_some u.word ≡ is_some word)) parts.1 (subst (λ n. IfSome (word_type trees names word) (λ id. id.0 < n)) (sym (length-map (types names) (row_of trees names))) both.0, both.1)
 
 -- ---- the names of rows
 
@@ -121,22 +82,6 @@ types-apart (d ∷ ds) h = go (is_type d) refl (types-apart ds h.1)
     go : (b : Bool) → is_type d ≡ b → AreApart (map (λ d. d.name) (filter is_type ds)) → AreApart (map (λ d. d.name) (filter is_type (d ∷ ds)))
     go true e below = rw e (none-among ds d.name h.0, below)
     go false e below = rw e below
-
-name_kept : (trees : List (List Node)) (names : Names) (d : Declared) → row_name (row_of trees names d) ≡ d.name
-name_kept trees names d = go (is_container trees d.place) refl
-  where
-    go : (b : Bool) → is_container trees d.place ≡ b → row_name (row_of trees names d) ≡ d.name
-    go true e = rw e refl
-    go false e = rw e refl
-
-row_names : (trees : List (List Node)) (names : Names) (ds : List Declared) → map row_name (map (row_of trees names) ds) ≡ map (λ d. d.name) ds
-row_names trees names [] = refl
-row_names trees names (d ∷ ds) = rw (name_kept trees names d, row_names trees names ds) refl
-
-pub rows_differ : (trees : List (List Node)) (names : Names) (word : Option (List ℕ)) (t : Types) → NamesDiffer names.declared → types_read trees names word ≡ Ok t → RowsDiffer t.rows
-rows_differ trees names word t apart h =
-    let parts = none_broken trees names word t h in
-    subst (λ (u : Types). RowsDiffer u.rows) parts.1 (subst AreApart (sym (row_names trees names (types names))) (types-apart names.declared apart))
 
 -- ---- the names of entries
 
@@ -168,37 +113,7 @@ no_repeats trees before (at ∷ ats) h =
     let rest = no_repeats trees (name ∷ before) ats parts.1 in
     ((repeat_of-none before at name parts.0, fewer name before (map (own_name trees) ats) rest.0), (not_among name before (map (own_name trees) ats) rest.0, rest.1))
 
-entry_names : (trees : List (List Node)) (names : Names) (ats : List Place) → map (λ e. e.name) (map (entry_row trees names) ats) ≡ map (own_name trees) ats
-entry_names trees names [] = refl
-entry_names trees names (at ∷ ats) = ap (λ ns. own_name trees at ∷ ns) (entry_names trees names ats)
-
-entries_of_row : (trees : List (List Node)) (names : Names) (d : Declared) → duplicates_at trees names d.place ≡ [] → EntriesDiffer (row_of trees names d)
-entries_of_row trees names d h = go (is_container trees d.place) refl
-  where
-    go : (b : Bool) → is_container trees d.place ≡ b → EntriesDiffer (row_of trees names d)
-    go true e =
-        let none : repeats trees [] (entries_at trees d.place) ≡ [] = sym (rw e refl) ∙ h in
-        rw e (subst AreApart (sym (entry_names trees names (entries_at trees d.place))) (no_repeats trees [] (entries_at trees d.place) none).1)
-    go false e = rw e tt
-
-entries_of_rows : (trees : List (List Node)) (names : Names) (ds : List Declared) → flat_map (duplicates_at trees names) (map (λ d. d.place) ds) ≡ [] → AllByRecursion EntriesDiffer (map (row_of trees names) ds)
-entries_of_rows trees names [] h = tt
-entries_of_rows trees names (d ∷ ds) h =
-    let parts = append-none (duplicates_at trees names d.place) (flat_map (duplicates_at trees names) (map (λ d. d.place) ds)) h in
-    (entries_of_row trees names d parts.0, entries_of_rows trees names ds parts.1)
-
-pub entries_differ : (trees : List (List Node)) (names : Names) (word : Option (List ℕ)) (t : Types) → types_read trees names word ≡ Ok t → All EntriesDiffer t.rows
-entries_differ trees names word t h =
-    let parts = none_broken trees names word t h in
-    let none = no_breaks trees names word parts.0 in
-    subst (λ (u : Types). All EntriesDiffer u.rows) parts.1 (All-from_recursion EntriesDiffer (map (row_of trees names) (types names)) (entries_of_rows trees names (types names) none.2))
-
 -- ---- what an answer has
-
--- what holds of the types that are read holds of those that are answered
-pub answered : (P : Types → Type 0) (r : Result Types (Fail Refusal)) (read : Result Types Refusal) → ((t : Types) → read ≡ Ok t → P t) → Answers (λ t. t) r read → IfOk r P
-answered P (Ok t) read h a = h t a
-answered P (Err e) read h a = tt
 
 pub same_presence : {A B : Type 0} (f : A → B) (o : Option A) → is_some (option_map f o) ≡ is_some o
 same_presence f None = refl

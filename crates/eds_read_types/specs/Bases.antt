@@ -7,10 +7,10 @@ use Rattle.eds_base.specs.declared.ids.TypeId.{TypeId}
 use Rattle.eds_base.specs.declared.refusal.Refusal.{Refusal}
 use Rattle.eds_base.specs.declared.rule.Rule.TheVariants.{Limit, WrongKind, BaseCycle}
 use Rattle.eds_tree.specs.declared.tree.Node.{Node}
-use Rattle.eds_names.specs.LookUp.{Names, look_up}
+use Rattle.eds_names.specs.LookUp.{Names}
 use Rattle.eds_read_types.specs.Places.{is_element, attribute, type_places}
 use Rattle.eds_read_types.specs.References.{broken, broken_with, type_found}
-use Rattle.eds_read_types.specs.ReadTypes.{id_of}
+use Rattle.eds_read_types.specs.ReadTypes.{id_found}
 
 -- ---- kinds
 
@@ -29,10 +29,7 @@ base_named trees at = if is_sub_range trees at then attribute trees (codes "base
 
 -- the type that the base of a sub-range finds
 abbrev pub base_found : List (List Node) → Names → Place → Option TypeId
-base_found trees names at = do
-  text ← base_named trees at
-  found ← look_up names at text
-  id_of found
+base_found trees names at = id_found names at (base_named trees at)
 
 -- for each type the one that it derives from; only a sub-range has one
 abbrev pub bases_of : List (List Node) → Names → List (Option TypeId)

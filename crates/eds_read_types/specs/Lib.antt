@@ -5,10 +5,8 @@ pub mod Ranges
 pub mod Domains
 pub mod Listings
 pub mod ScalarRules
-pub mod Rows
 pub mod Places
 pub mod References
-pub mod Encodings
 pub mod Entries
 pub mod ReadTypes
 pub mod TypeReferences

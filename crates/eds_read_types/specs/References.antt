@@ -1,18 +1,17 @@
--- References to types, and the rules on them.
-use Rattle.std.specs.Prelude.{ℕ, List, [], ◌∷◌, ◌++◌, length, codes, if◌then◌else◌, Option, Some, None, slice_get}
-use Rattle.std.specs.List.{flat_map}
+-- What references to types find, and the rules on it.
+use Rattle.std.specs.Prelude.{ℕ, List, [], ◌∷◌, length, codes, if◌then◌else◌, Option, Some, None, slice_get}
 use Rattle.eds_base.specs.Reading.{◌>>=◌}
 use Rattle.eds_base.specs.declared.ids.Place.{Place}
 use Rattle.eds_base.specs.declared.refusal.Refusal.{Refusal}
 use Rattle.eds_base.specs.declared.refusal.Kept.TheVariants.{Nothing}
 use Rattle.eds_base.specs.declared.rule.Rule.{Rule}
-use Rattle.eds_base.specs.declared.rule.Rule.TheVariants.{Unsupported, Unresolved, WrongKind}
+use Rattle.eds_base.specs.declared.rule.Rule.TheVariants.{Unresolved, WrongKind}
 use Rattle.eds_tree.specs.declared.tree.Node.{Node}
 use Rattle.eds_tree.specs.Breaks.{refusal_at}
 use Rattle.eds_names.specs.declared.declared.Item.{Item}
 use Rattle.eds_names.specs.declared.declared.Item.TheVariants as item
 use Rattle.eds_names.specs.LookUp.{Names, look_up}
-use Rattle.eds_read_types.specs.Places.{is_element, is_container, attribute, elements, type_places}
+use Rattle.eds_read_types.specs.Places.{is_element, attribute, type_places}
 
 -- ---- refusals at a place
 
@@ -30,7 +29,7 @@ broken rule at = record { rule = rule; place = at; kept = Nothing }
 abbrev pub word_place : List (List Node) → Place
 word_place trees = record { file = length trees; node = 0 }
 
--- the reference to a type that an element has; of the elements that may stand in a sheet so far only an entry has one
+-- the reference to its type that an entry has
 abbrev pub type_named : List (List Node) → Place → Option (List ℕ)
 type_named trees at = if is_element trees (codes "Entry") at then attribute trees (codes "type") at else None
 
@@ -54,14 +53,6 @@ abbrev pub unresolved : Names → Place → Option (List ℕ) → List Refusal
 unresolved names at None = []
 unresolved names at (Some text) = unresolved_by at text (look_up names at text)
 
--- where one element is judged
-abbrev pub unresolved_at : List (List Node) → Names → Place → List Refusal
-unresolved_at trees names at = unresolved names at (type_named trees at)
-
--- in all elements, and in the TYPE word
-abbrev pub breaks_unresolved : List (List Node) → Names → Option (List ℕ) → List Refusal
-breaks_unresolved trees names word = flat_map (unresolved_at trees names) (elements trees) ++ unresolved names (word_place trees) word
-
 -- ---- what it finds is a type
 
 abbrev pub no_type_by : Place → List ℕ → Option Place → List Refusal
@@ -75,21 +66,3 @@ wrong_kind_by names at text (Some found) = no_type_by at text (type_of names fou
 abbrev pub wrong_kind : Names → Place → Option (List ℕ) → List Refusal
 wrong_kind names at None = []
 wrong_kind names at (Some text) = wrong_kind_by names at text (look_up names at text)
-
-abbrev pub wrong_kind_at : List (List Node) → Names → Place → List Refusal
-wrong_kind_at trees names at = wrong_kind names at (type_named trees at)
-
-abbrev pub breaks_wrong_kind : List (List Node) → Names → Option (List ℕ) → List Refusal
-breaks_wrong_kind trees names word = flat_map (wrong_kind_at trees names) (elements trees) ++ wrong_kind names (word_place trees) word
-
--- ---- an entry's type is no container; such an entry is not supported yet
-
-abbrev pub nested_by : List (List Node) → Place → Option Place → List Refusal
-nested_by trees at None = []
-nested_by trees at (Some found) = if is_container trees found then broken_with Unsupported at (codes "Entry") ∷ [] else []
-
-abbrev pub nested_at : List (List Node) → Names → Place → List Refusal
-nested_at trees names at = nested_by trees at (type_named trees at >>= type_found names at)
-
-abbrev pub breaks_nested : List (List Node) → Names → List Refusal
-breaks_nested trees names = flat_map (nested_at trees names) (elements trees)

@@ -2,7 +2,6 @@
 use Rattle.std.specs.Prelude.{◌≡◌, ℕ, ℤ, List, [], ◌∷◌, codes, Bool, false, not, ◌||◌, is_none, if◌then◌else◌, Option, Some, None}
 use Rattle.eds_base.specs.declared.ids.Place.{Place}
 use Rattle.eds_base.specs.declared.refusal.Refusal.{Refusal}
-use Rattle.eds_base.specs.declared.refusal.Kept.TheVariants.{Nothing}
 use Rattle.eds_base.specs.declared.rule.Rule.{Rule}
 use Rattle.eds_base.specs.declared.rule.Rule.TheVariants.{BadEncoding, EmptyRange, BadEnumeration}
 use Rattle.eds_bits.specs.declared.forms.IntForm.{IntForm}
@@ -10,6 +9,7 @@ use Rattle.eds_tree.specs.declared.tree.Node.{Node}
 use Rattle.eds_tree.specs.Trees.{is_named}
 use Rattle.eds_types.specs.Rules.{IsDomain, IsListing}
 use Rattle.eds_read_types.specs.declared.range.Range.{Range}
+use Rattle.eds_read_types.specs.References.{broken}
 use Rattle.eds_read_types.specs.Forms.{int_form_of, bool_form_of}
 use Rattle.eds_read_types.specs.Ranges.{range_of}
 use Rattle.eds_read_types.specs.Domains.{domain_of, has_none}
@@ -28,11 +28,8 @@ is_boolean t n = is_named t (codes "BooleanDataType") n
 
 -- ---- what breaks a rule
 
-abbrev pub broken_at : Rule → Place → Refusal
-broken_at rule at = record { rule = rule; place = at; kept = Nothing }
-
 abbrev pub broken_where : Bool → Rule → Place → List Refusal
-broken_where broken rule at = if broken then broken_at rule at ∷ [] else []
+broken_where fails rule at = if fails then broken rule at ∷ [] else []
 
 -- ---- an integer, enumerated or boolean type has a form
 

@@ -24,8 +24,12 @@ abbrev pub not_scalar_by : List (List Node) → Place → Option Place → List 
 not_scalar_by trees at None = broken_with Unsupported at (codes "Entry") ∷ []
 not_scalar_by trees at (Some found) = if is_container trees found then broken_with Unsupported at (codes "Entry") ∷ [] else []
 
+-- the element of the type that an entry names
+abbrev pub entry_found : List (List Node) → Names → Place → Option Place
+entry_found trees names at = type_named trees at >>= type_found names at
+
 abbrev pub not_scalar_at : List (List Node) → Names → Place → List Refusal
-not_scalar_at trees names at = not_scalar_by trees at (type_named trees at >>= type_found names at)
+not_scalar_at trees names at = not_scalar_by trees at (entry_found trees names at)
 
 abbrev pub not_flat_at : List (List Node) → Names → Place → List Refusal
 not_flat_at trees names at = if is_container trees at then flat_map (not_scalar_at trees names) (entries_at trees at) else []

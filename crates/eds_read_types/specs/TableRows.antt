@@ -2,12 +2,11 @@
 use Rattle.std.specs.Prelude.{ℕ, ◌+◌, nat_le, List, [], ◌∷◌, ◌++◌, length, map, Bool, false, ◌&&◌, if◌then◌else◌, Option, Some, None, slice_get}
 use Rattle.std.specs.Option.{unwrap_or}
 use Rattle.std.specs.List.{flat_map, list_all}
-use Rattle.eds_base.specs.Reading.{◌>>=◌}
 use Rattle.eds_base.specs.declared.ids.Place.{Place}
 use Rattle.eds_base.specs.declared.ids.TypeId.{TypeId}
 use Rattle.eds_tree.specs.declared.tree.Node.{Node}
 use Rattle.eds_names.specs.declared.declared.Declared.{Declared}
-use Rattle.eds_names.specs.LookUp.{Names, look_up}
+use Rattle.eds_names.specs.LookUp.{Names}
 use Rattle.eds_types.specs.declared.row.TypeRow.{TypeRow}
 use Rattle.eds_types.specs.declared.row.Kind.{Kind}
 use Rattle.eds_types.specs.declared.row.Kind.TheVariants as kind
@@ -19,7 +18,7 @@ use Rattle.eds_read_types.specs.declared.numbers.Numbers.{Numbers}
 use Rattle.eds_read_types.specs.Places.{own_name, is_container, types, type_places}
 use Rattle.eds_read_types.specs.References.{type_named}
 use Rattle.eds_read_types.specs.Entries.{entries_at}
-use Rattle.eds_read_types.specs.ReadTypes.{id_of}
+use Rattle.eds_read_types.specs.ReadTypes.{id_found}
 use Rattle.eds_read_types.specs.Forms.{int_form_of, bool_form_of}
 use Rattle.eds_read_types.specs.Listings.{listing_of}
 use Rattle.eds_read_types.specs.ScalarRules.{is_enumerated, is_boolean}
@@ -30,10 +29,7 @@ use Rattle.eds_read_types.specs.Numbers.{form_or_wide, truth_or_octet, numbers_o
 
 -- the type that an entry names
 abbrev pub entry_type : List (List Node) → Names → Place → Option TypeId
-entry_type trees names at = do
-  text ← type_named trees at
-  found ← look_up names at text
-  id_of found
+entry_type trees names at = id_found names at (type_named trees at)
 
 -- a number, 0 where there is none; in a sheet that is not refused each entry has its type
 abbrev pub id_or_first : Option TypeId → TypeId

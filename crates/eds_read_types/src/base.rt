@@ -2,10 +2,10 @@
 
 ghost use Rattle.std.specs.Prelude.{◌≡◌, map, option_map, IfOk, length, slice_get};
 ghost use Rattle.std.specs.List.{range_with_len};
-ghost use Rattle.eds_read_types.specs.Bases.{base_named as base_named_in, base_found as base_found_by, bases_of as bases_in, base_at as base_in, is_in_cycle as is_in_cycle_of};
+ghost use Rattle.eds_read_types.specs.Bases.{is_sub_range, base_named as base_named_in, base_found as base_found_by, bases_of as bases_in, base_at as base_in, is_in_cycle as is_in_cycle_of};
 
 use crate::element::{attribute, is_element};
-use crate::read::id_of;
+use crate::reference::id_found;
 use crate::sheet::Sheet;
 use eds_base::{Memory, Place, TypeId};
 use eds_tree::Tree;
@@ -23,11 +23,18 @@ pub(crate) struct Chains<'a> {
     ghost judged: { cycles.now ≡ map (is_in_cycle_of bases.now) (range_with_len 0 (length bases.now)) },
 }
 
+/// Whether the type at a place is a sub-range.
+pub(crate) fn is_sub_range(trees: &[Tree], at: Place) -> bool
+    ensures { result ≡ is_sub_range trees.now at }
+{
+    is_element(trees, "SubRangeDataType", at)
+}
+
 /// The reference of a sub-range to its base.
 pub(crate) fn base_named(trees: &[Tree], at: Place) -> Option<&str>
     ensures { option_map (λ t. t.now) result ≡ base_named_in trees.now at }
 {
-    if is_element(trees, "SubRangeDataType", at) {
+    if is_sub_range(trees, at) {
         attribute(trees, "baseType", at)
     } else {
         None
@@ -38,14 +45,7 @@ pub(crate) fn base_named(trees: &[Tree], at: Place) -> Option<&str>
 pub(crate) fn base_found(alloc: Global, sheet: &Sheet, at: Place) -> Result<Option<TypeId>, Memory>
     ensures { IfOk result (λ id. id ≡ base_found_by sheet.now.trees.now sheet.now.space.now at) }
 {
-    let text = match base_named(sheet.trees, at) {
-        None => return Ok(None),
-        Some(text) => text,
-    };
-    match sheet.space.look_up(alloc, at, text)? {
-        None => Ok(None),
-        Some(item) => Ok(id_of(item)),
-    }
+    id_found(alloc, sheet, at, base_named(sheet.trees, at))
 }
 
 /// For each type the one that it derives from.

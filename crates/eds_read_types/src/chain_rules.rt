@@ -10,9 +10,9 @@ ghost use Rattle.eds_tree.specs.declared.tree.Node.{Node as node};
 ghost use Rattle.eds_read_types.specs.Bases.{is_in_cycle, bases_within, meets_cycle as meets_cycle_of, is_long as is_long_chain, breaks_over, breaks_cycle, breaks_chain};
 ghost use Rattle.eds_read_types.specs.TableBreaks.{lacks_form_at as lacks_form_in, is_empty_type as is_empty_type_of, is_faulty as is_faulty_of, lost_numbers as lost_numbers_of, breaks_sub_range};
 
-use crate::base::{Chains, base_at, type_at};
+use crate::base::{Chains, base_at, is_sub_range, type_at};
 use crate::breaks::{broken, broken_with};
-use crate::element::{is_element, tree_at};
+use crate::element::tree_at;
 use crate::numbers::numbers_of;
 use crate::scalar_rules::lacks_form;
 use eds_base::{Memory, Place, Refusal, Rule, TypeId};
@@ -251,7 +251,7 @@ impl ChainRule for EmptySubRange {
         id: usize,
         at: Place,
     ) -> Result<Option<Refusal>, Memory> {
-        if !is_element(chains.sheet.trees, "SubRangeDataType", at) {
+        if !is_sub_range(chains.sheet.trees, at) {
             return Ok(None);
         }
         let lost = lost_numbers(alloc, chains, id)?;

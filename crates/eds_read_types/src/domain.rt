@@ -53,7 +53,8 @@ fn interval(alloc: Global, low: i128, high: i128) -> Result<Spans, Memory>
     Ok(spans)
 }
 
-/// The domain of an integer type: the numbers of its form that its range admits.
+/// The domain of an integer type (CCSDS 876.0-B, integer data types): the numbers of its form that its range admits. Fails only
+/// where no memory is left.
 pub fn domain_of(alloc: Global, form: IntForm, range: Range) -> Result<Spans, Memory>
     ensures { IfOk result (λ s. s ≡ domain_of form range) }
 {
@@ -65,7 +66,7 @@ pub fn domain_of(alloc: Global, form: IntForm, range: Range) -> Result<Spans, Me
     )
 }
 
-/// Whether a form has no number that a range admits.
+/// Whether a form has no number that a range admits, so that the domain of an integer type is empty.
 pub fn is_empty_domain(form: IntForm, range: Range) -> bool
     ensures { result ≡ has_none (domain_of form range) }
 {
@@ -80,7 +81,8 @@ fn rises(spans: &Spans)
     let _intervals = spans.as_slice();
 }
 
-/// The domain of a sub-range: the numbers of its base that its range admits.
+/// The domain of a sub-range (CCSDS 876.0-B, sub-range data types): the numbers of its base that its range admits. Fails only
+/// where no memory is left.
 pub fn narrowed(alloc: Global, base: &Spans, range: Range) -> Result<Spans, Memory>
     ensures { IfOk result (λ s. s ≡ narrowed range base.now) }
 {

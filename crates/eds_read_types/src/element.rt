@@ -1,13 +1,13 @@
-//! The elements of a sheet by their places.
+//! The elements of a sheet by their places, and those of one file by their numbers.
 
 ghost use Rattle.std.specs.Prelude.{◌≡◌, ◌++◌, OnOk, IfOk, option_map, slice_get};
 ghost use Rattle.std.specs.Option.{option_copied};
 ghost use Rattle.eds_tree.specs.Trees.{node_name, node_children};
 ghost use Rattle.eds_read_types.specs.Places.{element as element_of, is_element as is_named, attribute as attribute_of, own_name as own_name_of, is_container as is_container_at, held};
-ghost use Rattle.eds_read_types.specs.Encodings.{first_held as first_of_held};
+ghost use Rattle.eds_read_types.specs.Held.{child_named, number_at};
 
 use eds_base::{Memory, Place};
-use eds_tree::{Node, Tree};
+use eds_tree::{Node, Tree, whole_number};
 
 /// The tree of a file.
 pub(crate) fn tree_at(trees: &[Tree], file: u16) -> Option<&Tree>
@@ -98,20 +98,26 @@ pub(crate) fn push_held(
     Ok(())
 }
 
-/// The first of its children that have a name.
-pub(crate) fn first_held(trees: &[Tree], name: &str, at: Place) -> Option<Place>
-    ensures { result ≡ first_of_held (held trees.now name.now at) }
+/// The first child of an element that has a name.
+pub(crate) fn child_named(tree: &Tree, node: u32, name: &str) -> Option<u32>
+    ensures { result ≡ child_named tree.now node name.now }
 {
-    let mut rest = children_at(trees, at);
-    while let [node, after @ ..] = rest {
-        let child = Place {
-            file: at.file,
-            node: *node,
-        };
-        if is_element(trees, name, child) {
-            return Some(child);
+    let mut rest = tree.children_at(node);
+    while let [child, after @ ..] = rest {
+        if tree.name_at(*child) == name {
+            return Some(*child);
         }
         rest = after;
     }
     None
+}
+
+/// The whole number that an attribute of an element spells.
+pub(crate) fn number_at(tree: &Tree, node: u32, name: &str) -> Option<i128>
+    ensures { result ≡ number_at tree.now node name.now }
+{
+    match tree.attribute_at(node, name) {
+        Some(text) => whole_number(text),
+        None => None,
+    }
 }

@@ -3,7 +3,7 @@
 ghost use Rattle.std.specs.Prelude.{◌≡◌, option_map};
 ghost use Rattle.eds_read_types.specs.Forms.{bits_from, bits_at, encoding_of, order_of, int_form, given_int_form, int_form_of, reads_zero_as_false, bool_form, given_bool_form, bool_form_of};
 
-use crate::child::{child_named, number_at};
+use crate::element::{child_named, number_at};
 use eds_bits::{BoolForm, ByteOrder, Encoding, IntForm};
 use eds_tree::Tree;
 
@@ -25,6 +25,7 @@ fn bits_at(tree: &Tree, encoding: u32) -> Option<u32>
     bits_from(number_at(tree, encoding, "sizeInBits")?)
 }
 
+/// The encoding that a word names.
 fn encoding_of(word: &str) -> Option<Encoding>
     ensures { result ≡ encoding_of word.now }
 {
@@ -45,6 +46,7 @@ fn encoding_of(word: &str) -> Option<Encoding>
     }
 }
 
+/// The byte order that a word names, big-endian where there is no word.
 fn order_of(word: Option<&str>) -> Option<ByteOrder>
     ensures { result ≡ order_of (option_map (λ w. w.now) word.entry) }
 {
@@ -79,9 +81,9 @@ fn given_int_form(tree: &Tree, encoding: u32) -> Option<IntForm>
     int_form(bits, coded, order)
 }
 
-/// The integer form of an integer or enumerated type: that of its encoding, and without one 64 bits in two's complement,
-/// big-endian. None exactly where the encoding is no form: its size is outside 1 to 64 bits, has no whole decimal digits or,
-/// in little-endian order, no whole octets.
+/// The integer form of an integer or enumerated type (CCSDS 876.0-B, integer data encodings): that of its encoding, and without
+/// one 64 bits in two's complement, big-endian. None exactly where the encoding is no form: its size is outside 1 to 64 bits,
+/// has no whole decimal digits or, in little-endian order, no whole octets.
 pub fn int_form_of(tree: &Tree, node: u32) -> Option<IntForm>
     ensures { result ≡ int_form_of tree.now node }
 {
@@ -91,6 +93,7 @@ pub fn int_form_of(tree: &Tree, node: u32) -> Option<IntForm>
     }
 }
 
+/// Whether all bits zero are false, as they are where no word says otherwise.
 fn reads_zero_as_false(word: Option<&str>) -> Option<bool>
     ensures { result ≡ reads_zero_as_false (option_map (λ w. w.now) word.entry) }
 {
@@ -131,8 +134,8 @@ fn given_bool_form(tree: &Tree, encoding: u32) -> Option<BoolForm>
     bool_form(bits, zero_is_false)
 }
 
-/// The form of a boolean type: that of its encoding, and without one 8 bits, of which zero is false. None exactly where the
-/// encoding's size is outside 1 to 64 bits.
+/// The form of a boolean type (CCSDS 876.0-B, boolean data encodings): that of its encoding, and without one 8 bits, of which
+/// zero is false. None exactly where the encoding's size is outside 1 to 64 bits.
 pub fn bool_form_of(tree: &Tree, node: u32) -> Option<BoolForm>
     ensures { result ≡ bool_form_of tree.now node }
 {

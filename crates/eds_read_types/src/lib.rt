@@ -1,22 +1,19 @@
-//! The types of a sheet.
+//! The data types of an electronic data sheet (CCSDS 876.0-B, data types): from the elements of its files to a table of types, and
+//! the rules that they keep.
 #![tactic(auto)]
 
 mod base;
 mod breaks;
 mod chain_rules;
-mod child;
 mod domain;
 mod element;
-mod encoding;
 mod entry;
 mod form;
 pub mod law;
 mod listing;
 mod numbers;
 mod range;
-mod read;
 mod reference;
-mod row;
 mod scalar_rules;
 mod sheet;
 mod table;
@@ -28,13 +25,10 @@ pub use domain::{domain_of, is_empty_domain, narrowed};
 pub use form::{bool_form_of, int_form_of};
 pub use listing::{is_listing, listing_of};
 pub use range::{End, Range, range_in, range_of};
-pub use row::{AtMost, ENTRIES, Row, Rows, Size, TYPES, Types, Unsigned};
 pub use scalar_rules::{bad_encoding, bad_enumeration, empty_range};
 pub use table::{Typed, read_types};
 
 #[cfg(test)]
 mod scalar_tests;
-#[cfg(test)]
-mod table_tests;
 #[cfg(test)]
 mod tests;

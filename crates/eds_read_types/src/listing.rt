@@ -7,7 +7,7 @@ ghost use Rattle.eds_base.specs.Reading.{same};
 ghost use Rattle.eds_read_types.specs.Held.{named_among};
 ghost use Rattle.eds_read_types.specs.Listings.{entry_at, listing_of, label, value, all_differ, has_number, is_entry, is_listing};
 
-use crate::child::{child_named, number_at};
+use crate::element::{child_named, number_at};
 use eds_base::{Memory, Text};
 use eds_bits::{IntForm, bounds_of};
 use eds_tree::Tree;
@@ -43,7 +43,8 @@ fn push_enumeration(
     Ok(())
 }
 
-/// The labels of an enumerated type with their values, in document order.
+/// The labels of an enumerated type with their values (CCSDS 876.0-B, enumerated data types), in document order. Fails only where
+/// no memory is left.
 pub fn listing_of(alloc: Global, tree: &Tree, node: u32) -> Result<Listing, Memory>
     ensures { IfOk result (λ l. l ≡ listing_of tree.now node) }
 {

@@ -3,10 +3,10 @@
 ghost use Rattle.std.specs.Prelude.{◌≡◌, option_map};
 ghost use Rattle.eds_read_types.specs.Ranges.{inclusive_end, exclusive_end, includes_least, excludes_least, includes_greatest, excludes_greatest, lower_end, upper_end, no_range, range_by, range_in, range_of};
 
-use crate::child::{child_named, number_at};
+use crate::element::{child_named, number_at};
 use eds_tree::Tree;
 
-/// An end of a range.
+/// An end of a range: what is admitted on its side.
 #[derive(Clone, Copy, Debug, PartialEq, Eq)]
 pub enum End {
     /// No number is beyond it.
@@ -17,10 +17,12 @@ pub enum End {
     Exclusive(i128),
 }
 
-/// The numbers from a lower end to an upper one.
+/// The numbers from a lower end to an upper one (CCSDS 876.0-B, minimum and maximum ranges).
 #[derive(Clone, Copy, Debug, PartialEq, Eq)]
 pub struct Range {
+    /// The lower end.
     pub low: End,
+    /// The upper end.
     pub high: End,
 }
 
@@ -133,7 +135,7 @@ pub fn range_in(tree: &Tree, node: u32) -> Range
     }
 }
 
-/// The range of a type, which admits any number where the type has none.
+/// The range of an integer type or sub-range, which admits any number where the type has none.
 pub fn range_of(tree: &Tree, node: u32) -> Range
     ensures { result ≡ range_of tree.now node }
 {

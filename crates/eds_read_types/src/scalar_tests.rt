@@ -5,6 +5,7 @@ use crate::{
 use eds_base::{Memory, Place, Spans};
 use eds_bits::{BoolForm, ByteOrder, Encoding, IntForm};
 use eds_tree::{Tree, read_tree};
+use eds_types::Listing;
 use std::alloc::Global;
 
 // The tree of a type that is the root of a file.
@@ -36,7 +37,8 @@ fn order(form: &IntForm) -> &'static str {
     }
 }
 
-fn intervals(alloc: Global, spans: &Spans) -> Result<String, Memory> {
+// The intervals of a set, each after a space.
+pub(crate) fn intervals(alloc: Global, spans: &Spans) -> Result<String, Memory> {
     let mut text = String::new(alloc);
     for span in spans.as_slice() {
         let low = span.low;
@@ -47,16 +49,9 @@ fn intervals(alloc: Global, spans: &Spans) -> Result<String, Memory> {
     Ok(text)
 }
 
-// What an integer type is, and the values of an enumerated one.
-fn number_type(alloc: Global, tree: &Tree, form: IntForm) -> Result<String, Memory> {
-    let bits = form.bits;
-    let coded = encoding(&form);
-    let order = order(&form);
-    let domain = domain_of(alloc, form, range_of(tree, 0))?;
-    let domain = intervals(alloc, &domain)?;
-    let domain = domain.as_str();
-    let mut text = format!(in alloc; "{bits} {coded} {order}{domain}")?;
-    let listing = listing_of(alloc, tree, 0)?;
+// Each label with its value, after a space.
+pub(crate) fn labels(alloc: Global, listing: &Listing) -> Result<String, Memory> {
+    let mut text = String::new(alloc);
     for (label, value) in listing.as_slice() {
         let label = label.as_str();
         let value = *value;
@@ -66,7 +61,26 @@ fn number_type(alloc: Global, tree: &Tree, form: IntForm) -> Result<String, Memo
     Ok(text)
 }
 
-fn truth_type(alloc: Global, form: BoolForm) -> Result<String, Memory> {
+pub(crate) fn form_text(alloc: Global, form: &IntForm) -> Result<String, Memory> {
+    let bits = form.bits;
+    let coded = encoding(form);
+    let order = order(form);
+    Ok(format!(in alloc; "{bits} {coded} {order}")?)
+}
+
+// What an integer type is, and the values of an enumerated one.
+fn number_type(alloc: Global, tree: &Tree, form: IntForm) -> Result<String, Memory> {
+    let domain = domain_of(alloc, form, range_of(tree, 0))?;
+    let listing = listing_of(alloc, tree, 0)?;
+    let mut text = form_text(alloc, &form)?;
+    let domain = intervals(alloc, &domain)?;
+    text.push_str(domain.as_str())?;
+    let labels = labels(alloc, &listing)?;
+    text.push_str(labels.as_str())?;
+    Ok(text)
+}
+
+pub(crate) fn truth_text(alloc: Global, form: &BoolForm) -> Result<String, Memory> {
     let bits = form.bits;
     let zero_is_false = form.zero_is_false;
     Ok(format!(in alloc; "{bits} {zero_is_false}")?)
@@ -90,7 +104,7 @@ fn said(alloc: Global, text: &str) -> Result<String, Memory> {
     }
     if tree.name_at(0) == "BooleanDataType" {
         return match bool_form_of(&tree, 0) {
-            Some(form) => truth_type(alloc, form),
+            Some(form) => truth_text(alloc, &form),
             None => Err(Memory),
         };
     }

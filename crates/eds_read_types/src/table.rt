@@ -11,7 +11,7 @@ ghost use Rattle.eds_read_types.specs.TableRows.{has_few_entries as has_few_entr
 ghost use Rattle.eds_read_types.specs.TableRead.{typed_of, table_read};
 
 use crate::base::{Chains, bases_of, cycles_of};
-use crate::read::word_type;
+use crate::reference::word_type;
 use crate::sheet::{Sheet, elements, type_places};
 use crate::table_row::{table_rows, used_types};
 use crate::table_rules::least_break;
@@ -21,12 +21,14 @@ use eds_tree::Trees;
 use eds_types::{Kind, TypeRow, TypeTable, Used};
 use std::alloc::Global;
 
-/// The table of the types of a sheet, the types that are used, and the type that the TYPE word names, where there is a TYPE
-/// word.
+/// What is read of the types of a sheet (CCSDS 876.0-B, data types).
 #[derive(Drop)]
 pub struct Typed {
+    /// A row for each declared type, at its `TypeId`: in the order of files and elements.
     pub table: TypeTable,
+    /// The types that entries name, in the order of types and entries, and then that of the TYPE word.
     pub used: Used,
+    /// The type that the TYPE word names, where there is a TYPE word.
     pub word: Option<TypeId>,
 }
 
@@ -86,8 +88,9 @@ fn read_chains(alloc: Global, chains: &Chains, word: Option<&str>) -> Result<Typ
     }
 }
 
-/// The table of the types of a sheet, of which `space` has the names, the types that are used, and the type that the TYPE word
-/// names, where one is given; or the first rule that is broken: a reference to a type finds nothing or no type, or the base of a
+/// Reads the types of a sheet (CCSDS 876.0-B, data types), of which `space` has the names: their table, those that are used, and
+/// the one that the TYPE word `extra` names, where one is given; or the first rule that is broken, by phase, then by place, then by
+/// number: a reference to a type finds nothing or no type, or the base of a
 /// sub-range is no integer type or sub-range; a type is its own base, more than 16 types are in a chain of bases, or an entry is
 /// a container; a type has no form, an integer type or sub-range no numbers, or an enumerated type no good list of labels; two
 /// entries of a container have one name, or the TYPE word names a container without entries. So many types or entries that the

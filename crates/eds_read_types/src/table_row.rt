@@ -12,8 +12,7 @@ use crate::entry::entries_at;
 use crate::form::{bool_form_of, int_form_of};
 use crate::listing::listing_of;
 use crate::numbers::{Numbers, form_or_wide, numbers_of, truth_or_octet};
-use crate::read::id_of;
-use crate::reference::type_named;
+use crate::reference::{id_found, type_named};
 use crate::scalar_rules::{is_boolean, is_enumerated};
 use crate::sheet::Sheet;
 use eds_base::{Memory, Place, Text, TypeId};
@@ -26,14 +25,7 @@ use std::alloc::Global;
 fn entry_type(alloc: Global, sheet: &Sheet, at: Place) -> Result<Option<TypeId>, Memory>
     ensures { IfOk result (λ id. id ≡ entry_type_of sheet.now.trees.now sheet.now.space.now at) }
 {
-    let text = match type_named(sheet.trees, at) {
-        None => return Ok(None),
-        Some(text) => text,
-    };
-    match sheet.space.look_up(alloc, at, text)? {
-        None => Ok(None),
-        Some(item) => Ok(id_of(item)),
-    }
+    id_found(alloc, sheet, at, type_named(sheet.trees, at))
 }
 
 /// The same, the first type's where it names none.

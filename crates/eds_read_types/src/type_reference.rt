@@ -4,14 +4,14 @@ ghost use Rattle.std.specs.Prelude.{◌≡◌, option_map, IfOk};
 ghost use Rattle.eds_base.specs.Refusals.{least, first_of};
 ghost use Rattle.eds_read_types.specs.TypeReferences.{reference_at as reference_in, breaks_finding, breaks_kind};
 ghost use Rattle.eds_read_types.specs.Bases.{is_number as is_number_at, base_kind_by, breaks_base_kind};
-ghost use Rattle.eds_read_types.specs.TableBreaks.{breaks_flat};
-ghost use Rattle.eds_read_types.specs.References.{type_found as type_found_by};
+ghost use Rattle.eds_read_types.specs.TableBreaks.{entry_found as entry_found_by, breaks_flat};
+ghost use Rattle.eds_read_types.specs.References.{unresolved as unresolved_in, wrong_kind as wrong_kind_in};
 
-use crate::base::base_named;
+use crate::base::{base_named, is_sub_range};
 use crate::breaks::{PlaceRule, broken_with, least_over};
 use crate::element::{attribute, is_container, is_element};
 use crate::entry::entries_at;
-use crate::reference::{judge_finding, judge_kind, type_found, type_named};
+use crate::reference::{type_found, type_named, type_of};
 use crate::sheet::Sheet;
 use eds_base::{Memory, Place, Refusal, Rule};
 use eds_tree::Tree;
@@ -23,10 +23,27 @@ fn reference_at(trees: &[Tree], at: Place) -> Option<&str>
 {
     if is_element(trees, "Entry", at) {
         attribute(trees, "type", at)
-    } else if is_element(trees, "SubRangeDataType", at) {
-        attribute(trees, "baseType", at)
     } else {
-        None
+        base_named(trees, at)
+    }
+}
+
+/// The refusal of a reference that finds nothing.
+fn judge_finding(
+    alloc: Global,
+    sheet: &Sheet,
+    at: Place,
+    text: Option<&str>,
+) -> Result<Option<Refusal>, Memory>
+    ensures { IfOk result (λ r. r ≡ least (unresolved_in sheet.now.space.now at (option_map (λ t. t.now) text.entry))) }
+{
+    let text = match text {
+        None => return Ok(None),
+        Some(text) => text,
+    };
+    match sheet.space.look_up(alloc, at, text)? {
+        Some(_) => Ok(None),
+        None => Ok(Some(broken_with(alloc, Rule::Unresolved, at, text)?)),
     }
 }
 
@@ -54,6 +71,29 @@ pub(crate) fn least_finding(
     let elements = least_over::<FindsNothing>(alloc, sheet, sheet.elements)?;
     let word = judge_finding(alloc, sheet, sheet.word_place(), word)?;
     Ok(Refusal::first(elements, word))
+}
+
+/// The refusal of a reference that finds what is no type.
+fn judge_kind(
+    alloc: Global,
+    sheet: &Sheet,
+    at: Place,
+    text: Option<&str>,
+) -> Result<Option<Refusal>, Memory>
+    ensures { IfOk result (λ r. r ≡ least (wrong_kind_in sheet.now.space.now at (option_map (λ t. t.now) text.entry))) }
+{
+    let text = match text {
+        None => return Ok(None),
+        Some(text) => text,
+    };
+    let item = match sheet.space.look_up(alloc, at, text)? {
+        None => return Ok(None),
+        Some(item) => item,
+    };
+    match type_of(sheet, item) {
+        Some(_) => Ok(None),
+        None => Ok(Some(broken_with(alloc, Rule::WrongKind, at, text)?)),
+    }
 }
 
 /// What a reference to a type finds is a type.
@@ -86,7 +126,7 @@ pub(crate) fn least_kind(
 fn is_number(trees: &[Tree], at: Place) -> bool
     ensures { result ≡ is_number_at trees.now at }
 {
-    is_element(trees, "IntegerDataType", at) || is_element(trees, "SubRangeDataType", at)
+    is_element(trees, "IntegerDataType", at) || is_sub_range(trees, at)
 }
 
 fn judge_base(
@@ -98,16 +138,12 @@ fn judge_base(
 ) -> Result<Option<Refusal>, Memory>
     ensures { IfOk result (λ r. r ≡ least (base_kind_by trees.now at text.now found)) }
 {
-    match found {
-        None => Ok(Some(broken_with(alloc, Rule::WrongKind, at, text)?)),
-        Some(found) => {
-            if is_number(trees, found) {
-                Ok(None)
-            } else {
-                Ok(Some(broken_with(alloc, Rule::WrongKind, at, text)?))
-            }
+    if let Some(found) = found {
+        if is_number(trees, found) {
+            return Ok(None);
         }
     }
+    Ok(Some(broken_with(alloc, Rule::WrongKind, at, text)?))
 }
 
 /// A sub-range derives from an integer type or a sub-range.
@@ -135,6 +171,16 @@ pub(crate) fn least_base_kind(alloc: Global, sheet: &Sheet) -> Result<Option<Ref
     least_over::<BaseKind>(alloc, sheet, sheet.types)
 }
 
+/// The element of the type that an entry names.
+fn entry_found(alloc: Global, sheet: &Sheet, at: Place) -> Result<Option<Place>, Memory>
+    ensures { IfOk result (λ p. p ≡ entry_found_by sheet.now.trees.now sheet.now.space.now at) }
+{
+    match type_named(sheet.trees, at) {
+        None => Ok(None),
+        Some(text) => type_found(alloc, sheet, at, text),
+    }
+}
+
 /// The type of an entry is scalar: an entry that is a container is not supported yet.
 struct NotScalar;
 
@@ -144,20 +190,12 @@ impl PlaceRule for NotScalar {
     ghost breaks = { not_scalar_at };
 
     fn least_at(alloc: Global, sheet: &Sheet, at: Place) -> Result<Option<Refusal>, Memory> {
-        let text = match type_named(sheet.trees, at) {
-            None => return Ok(Some(broken_with(alloc, Rule::Unsupported, at, "Entry")?)),
-            Some(text) => text,
-        };
-        match type_found(alloc, sheet, at, text)? {
-            None => Ok(Some(broken_with(alloc, Rule::Unsupported, at, "Entry")?)),
-            Some(found) => {
-                if is_container(sheet.trees, found) {
-                    Ok(Some(broken_with(alloc, Rule::Unsupported, at, "Entry")?))
-                } else {
-                    Ok(None)
-                }
+        if let Some(found) = entry_found(alloc, sheet, at)? {
+            if !is_container(sheet.trees, found) {
+                return Ok(None);
             }
         }
+        Ok(Some(broken_with(alloc, Rule::Unsupported, at, "Entry")?))
     }
 }
 
