@@ -2,6 +2,7 @@
 #![tactic(auto)]
 
 mod chain;
+mod flat_sample;
 mod look;
 mod reason;
 mod row;
@@ -13,6 +14,7 @@ mod table;
 mod value;
 
 pub use chain::Chain;
+pub use flat_sample::flat_table;
 pub use reason::PackReason;
 pub use row::{
     Constraint, Constraints, Container, EntryPath, Kind, Listing, Part, Parts, TypeRow, TypeRows, Used,
