@@ -36,7 +36,8 @@ module _ (bits : ℕ) (encoding : Encoding) (order : ByteOrder) (form : IntForm)
   pub numbers_form : (n : ℤ) → HasNumber form n → (least_by encoding bits ≤ℤ n) × (n ≤ℤ greatest_by encoding bits)
   numbers_form n h = (
     subst (λ b. least_by encoding b ≤ℤ n) is.size (subst (λ e. least_by e form.bits ≤ℤ n) is.encoded h.from_least),
-    subst (λ b. n ≤ℤ greatest_by encoding b) is.size (subst (λ e. n ≤ℤ greatest_by e form.bits) is.encoded h.to_greatest))
+    subst (λ b. n ≤ℤ greatest_by encoding b) is.size (subst (λ e. n ≤ℤ greatest_by e form.bits) is.encoded h.to_greatest),
+  )
 
 between : (a b c : ℤ) → a ≤ℤ b → b ≤ℤ c → a ≤ℤ c
 between a b c h k = omega (arith, ints)

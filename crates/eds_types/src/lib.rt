@@ -17,7 +17,8 @@ pub use chain::Chain;
 pub use flat_sample::flat_table;
 pub use reason::PackReason;
 pub use row::{
-    Constraint, Constraints, Container, EntryPath, Kind, Listing, Part, Parts, TypeRow, TypeRows, Used,
+    Constraint, Constraints, Container, EntryPath, Kind, Listing, Part, Parts, TypeRow, TypeRows,
+    Used,
 };
 pub use sample::sample_table;
 pub use sequence::Sequence;

@@ -118,11 +118,7 @@ fn texts_are_read_as_the_type_says(rt: HostRuntime) -> Result<(), Memory> {
         ),
         // a container comes before its members, and these in the order of the entries
         (STATUS, "{\"level\":true,\"on\":1}", "wrong at $"),
-        (
-            STATUS,
-            "{\"Mode\":0,\"level\":7,\"on\":1}",
-            "wrong at $.on",
-        ),
+        (STATUS, "{\"Mode\":0,\"level\":7,\"on\":1}", "wrong at $.on"),
         (
             STATUS,
             "{\"Mode\":0,\"level\":7,\"on\":true}",
