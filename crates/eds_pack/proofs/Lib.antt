@@ -6,4 +6,3 @@ pub mod Passes
 pub mod Writing
 pub mod Filling
 pub mod Rooms
-pub mod SampleKeeps

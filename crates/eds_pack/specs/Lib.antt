@@ -2,4 +2,3 @@ pub mod Packs
 pub mod Scalars
 pub mod Sizes
 pub mod Written
-pub mod FlatSample

@@ -5,14 +5,12 @@ mod fail;
 mod fields;
 mod octets;
 mod room;
-mod sample;
 mod scalar;
 mod size;
 
 pub use fail::PackFail;
 pub use octets::pack;
 pub use room::pack_into;
-pub use sample::flat_table;
 pub use size::{conforms, packed_bits};
 
 #[cfg(test)]

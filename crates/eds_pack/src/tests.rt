@@ -1,6 +1,6 @@
-use crate::{PackFail, conforms, flat_table, pack, pack_into, packed_bits};
+use crate::{PackFail, conforms, pack, pack_into, packed_bits};
 use eds_base::{Memory, Step, Text, TypeId};
-use eds_types::{PackReason, Value};
+use eds_types::{PackReason, Value, flat_table};
 use std::alloc::Global;
 use std::test::Fail;
 
@@ -10,15 +10,25 @@ const ONES: TypeId = TypeId(1);
 
 const TWOS: TypeId = TypeId(2);
 
-const TRUTH: TypeId = TypeId(3);
+const PACKED: TypeId = TypeId(3);
 
-const DIGITS: TypeId = TypeId(4);
+const DIGIT: TypeId = TypeId(5);
 
-const MODE: TypeId = TypeId(7);
+const LITTLE: TypeId = TypeId(9);
 
-const WORD: TypeId = TypeId(8);
+const WIDE: TypeId = TypeId(10);
 
-const STATE: TypeId = TypeId(9);
+const LEVEL: TypeId = TypeId(11);
+
+const BIT: TypeId = TypeId(12);
+
+const TRUTH: TypeId = TypeId(13);
+
+const MODE: TypeId = TypeId(14);
+
+const WORD: TypeId = TypeId(15);
+
+const STATE: TypeId = TypeId(16);
 
 /// A value in short.
 #[derive(Clone, Copy)]
@@ -60,12 +70,16 @@ fn packs_into_known_octets(rt: HostRuntime) -> Result<(), Fail> {
         (ONES, Short::Num(-5), [0xFA, 0xAA, 0xAA], 8),
         (TWOS, Short::Num(-5), [0xFB, 0xAA, 0xAA], 8),
         (SIGNED, Short::Num(0), [0x00, 0xAA, 0xAA], 8),
+        (PACKED, Short::Num(1234), [0x12, 0x34, 0xAA], 16),
+        (DIGIT, Short::Num(7), [0x07, 0xAA, 0xAA], 8),
+        (LITTLE, Short::Num(4660), [0x34, 0x12, 0xAA], 16),
+        (BIT, Short::Truth(true), [0x00, 0xAA, 0xAA], 1),
+        (BIT, Short::Truth(false), [0x80, 0xAA, 0xAA], 1),
         (TRUTH, Short::Truth(true), [0x01, 0xAA, 0xAA], 8),
-        (DIGITS, Short::Num(1234), [0x12, 0x34, 0xAA], 16),
-        (MODE, Short::Label("RUN"), [0x20, 0xAA, 0xAA], 4),
+        (MODE, Short::Label("LAST"), [0x20, 0xAA, 0xAA], 4),
         (WORD, Short::Word(15, 4095), [0xFF, 0xFF, 0xAA], 16),
         (WORD, Short::Word(1, 564), [0x12, 0x34, 0xAA], 16),
-        (STATE, Short::State("SAFE", -5), [0x98, 0x50, 0xAA], 12),
+        (STATE, Short::State("UNSEG", -5), [0x38, 0x50, 0xAA], 12),
     ] {
         let value = value_of(alloc, short)?;
         let mut room = [0xAA; 3];
@@ -92,7 +106,10 @@ fn refuses_at_the_first_fault(rt: HostRuntime) -> Result<(), Fail> {
     for (id, short, reason, step) in [
         (SIGNED, Short::Num(-128), PackReason::OutOfRange, None),
         (TWOS, Short::Num(128), PackReason::OutOfRange, None),
-        (DIGITS, Short::Num(-1), PackReason::OutOfRange, None),
+        (PACKED, Short::Num(-1), PackReason::OutOfRange, None),
+        (DIGIT, Short::Num(10), PackReason::OutOfRange, None),
+        (WIDE, Short::Num(1 << 64), PackReason::OutOfRange, None),
+        (LEVEL, Short::Num(2), PackReason::OutOfRange, None),
         (TRUTH, Short::Num(1), PackReason::WrongKind, None),
         (MODE, Short::Num(9), PackReason::WrongKind, None),
         (MODE, Short::Label("STOP"), PackReason::NoLabel, None),
@@ -101,7 +118,7 @@ fn refuses_at_the_first_fault(rt: HostRuntime) -> Result<(), Fail> {
         (WORD, Short::Empty(SIGNED), PackReason::WrongKind, None),
         (
             WORD,
-            Short::State("RUN", 1),
+            Short::State("LAST", 1),
             PackReason::NotDerived,
             Some(Step::Choice(STATE)),
         ),
@@ -146,7 +163,7 @@ fn refuses_at_the_first_fault(rt: HostRuntime) -> Result<(), Fail> {
 fn wants_room_for_each_octet(rt: HostRuntime) -> Result<(), Fail> {
     let alloc = rt.alloc();
     let table = flat_table(alloc)?;
-    let value = value_of(alloc, Short::State("SAFE", -5))?;
+    let value = value_of(alloc, Short::State("UNSEG", -5))?;
     let mut small = [0xAA; 1];
     match pack_into(&table, STATE, &value, &mut small) {
         Ok(_) => assert!(rt; false),
@@ -159,10 +176,10 @@ fn wants_room_for_each_octet(rt: HostRuntime) -> Result<(), Fail> {
     assert_eq!(rt; small, [0xAA]);
     let mut room = [0xAA; 2];
     assert_eq!(rt; pack_into(&table, STATE, &value, &mut room).ok(), Some(12));
-    assert_eq!(rt; room, [0x98, 0x50]);
+    assert_eq!(rt; room, [0x38, 0x50]);
     match pack(alloc, &table, STATE, &value) {
         Ok((octets, bits)) => {
-            assert_eq!(rt; octets.as_slice(), [0x98, 0x50].as_slice());
+            assert_eq!(rt; octets.as_slice(), [0x38, 0x50].as_slice());
             assert_eq!(rt; bits, 12);
         }
         Err(_) => assert!(rt; false),

@@ -32,5 +32,7 @@ pub mod PackingLaws
 pub mod LeastBound
 pub mod RuleFacts
 pub mod ByRows
+pub mod SampleFacts
 pub mod SampleKeeps
+pub mod FlatSampleKeeps
 pub mod Appended

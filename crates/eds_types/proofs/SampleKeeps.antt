@@ -8,6 +8,7 @@ use Rattle.std.proofs.lemmas.Bool.Decides.{Decides-int_eq}
 use Rattle.eds_base.specs.declared.spans.Span.{Span}
 use Rattle.eds_base.specs.Spans.{IsWithin}
 use Rattle.eds_base.specs.Reading.{same as same_text}
+use Rattle.eds_bits.specs.declared.forms.ByteOrder.TheVariants.{Big}
 use Rattle.eds_bits.specs.declared.forms.Encoding.TheVariants.{Unsigned}
 use Rattle.eds_bits.specs.declared.forms.IntForm.{IntForm}
 use Rattle.eds_bits.specs.declared.forms.CheckKind.TheVariants.{Crc16Ccitt}
@@ -20,66 +21,26 @@ use Rattle.eds_types.specs.Fields.{type_by}
 use Rattle.eds_types.specs.Rules.{IsDomain, IsListing, HoldsCheck, KindKeeps, HasKind, IsContainer, IsHollow, DerivesFrom, IsNested, ItemsNest, PartKeeps, name_of, is_length, ConstraintKeeps, SequenceKeeps, AreDistinct, KeepsRules}
 use Rattle.eds_types.specs.declared.sample.Numbers.{Numbers}
 use Rattle.eds_types.specs.declared.sample.Given.{Given}
-use Rattle.eds_types.specs.Sample.{IsUnsigned, IsNumbers, IsGiven, flag_labels, sample}
-use Rattle.eds_types.proofs.ByRows.{AllFrom, by_row, by_number, distinct, distinct_is, derived-le, none_hollow, not_hollow, sequence_past}
-
-infixr 20 ◌⊗◌
-◌⊗◌ : {A B : Type 0} → A → B → A × B
-a ⊗ b = (a, b)
-
--- ---- unsigned forms
-
-form_numbers : (bits : ℕ) (form : IntForm) (n : ℤ) → IsUnsigned bits form → pos 0 ≤ℤ n → n ≤ℤ pos (2 ^ bits - 1) → HasNumber form n
-form_numbers bits form n u lo hi = record {
-  from_least = subst (λ e. least_by e form.bits ≤ℤ n) (sym u.encoding) lo;
-  to_greatest = subst (λ e. n ≤ℤ greatest_by e form.bits) (sym u.encoding) (subst (λ b. n ≤ℤ pos (2 ^ b - 1)) (sym u.size) hi);
-}
-
-numbers_form : (bits : ℕ) (form : IntForm) (n : ℤ) → IsUnsigned bits form → HasNumber form n → (pos 0 ≤ℤ n) × (n ≤ℤ pos (2 ^ bits - 1))
-numbers_form bits form n u h = (subst (λ e. least_by e form.bits ≤ℤ n) u.encoding h.from_least, subst (λ b. n ≤ℤ pos (2 ^ b - 1)) u.size (subst (λ e. n ≤ℤ greatest_by e form.bits) u.encoding h.to_greatest))
-
-domain : (bits high : ℕ) (n : Numbers) → IsNumbers bits high n → 2 ^ bits - 1 ≡ high → pos 0 ≤ℤ pos high → IsDomain n.form n.spans
-domain bits high n h e le = record {
-  some = (pos 0, h.range.all (pos 0) (≤ℤ_refl (pos 0)) le);
-  of_form = λ m w. form_numbers bits n.form m h.form (h.range.from_low m w) (subst (λ x. m ≤ℤ pos x) (sym e) (h.range.to_high m w));
-}
-
-listing : (form : IntForm) → IsUnsigned 2 form → IsListing form flag_labels
-listing form u = record {
-  some = lit≤ tt;
-  named = lit≤ tt ⊗ lit≤ tt ⊗ lit≤ tt ⊗ lit≤ tt ⊗ tt;
-  labels = distinct_is same_text text_same (map (λ e. e.0) flag_labels) refl;
-  numbers = distinct_is int_eq (λ n. (Decides-int_eq n n).1 refl) (map (λ e. e.1) flag_labels) refl;
-  of_form = number 0 (record { le = tt }) (record { le = tt }) ⊗ number 1 (record { le = tt }) (record { le = tt }) ⊗ number 2 (record { le = tt }) (record { le = tt }) ⊗ number 3 (record { le = tt }) (record { le = tt }) ⊗ tt;
-}
-  where
-    number : (n : ℕ) → pos 0 ≤ℤ pos n → pos n ≤ℤ pos 3 → HasNumber form (pos n)
-    number n lo hi = form_numbers 2 form (pos n) u lo hi
-
-    text_same : (xs : List ℕ) → same_text xs xs ≡ true
-    text_same xs = (bytes_decides xs xs).1 refl
+use Rattle.eds_types.specs.Sample.{IsNumbers, IsGiven, sample}
+use Rattle.eds_types.proofs.ByRows.{by_row, by_number, none_hollow, not_hollow, sequence_past}
+use Rattle.eds_types.proofs.SampleFacts.{◌⊗◌, numbers_form, domain, listing, own_in, at_some, no_base, one_or_none, names_keep, family_keeps, sequence_keeps}
 
 -- an unsigned type holds a check of its size
-holds_check : (n : Numbers) → IsNumbers 16 65535 n → HoldsCheck Crc16Ccitt n.form n.spans
+holds_check : (n : Numbers) → IsNumbers 16 Unsigned Big (pos 0) (pos 65535) n → HoldsCheck Crc16Ccitt n.form n.spans
 holds_check n h = record {
-  encoding = h.form.encoding;
+  encoding = h.form.encoded;
   size = h.form.size;
-  all = λ m has. let k = numbers_form 16 n.form m h.form has in h.range.all m k.0 k.1;
+  all = λ m has. let k = numbers_form 16 Unsigned Big n.form h.form m has in h.range.all m k.0 k.1;
 }
+
+-- all numbers of a size
+whole_domain : (bits high : ℕ) (n : Numbers) → IsNumbers bits Unsigned Big (pos 0) (pos high) n → pos 0 ≤ℤ pos high → pos high ≤ℤ pos (2 ^ bits - 1) → IsDomain n.form n.spans
+whole_domain bits high n h le most = domain bits Unsigned Big (pos 0) (pos high) n h le (≤ℤ_refl (pos 0)) most
 
 -- ---- the whole table
 
-abbrev own_in : ℕ → Option TypeRow → List Placed
-own_in y row = placed_from y 0 (entries_in (container_in row)) ++ placed_from y (length (entries_in (container_in row))) (trailers_in (container_in row))
-
-at_some : (P : ℕ → Type 0) (x : ℕ) → P x → (y : ℕ) → Some x ≡ Some y → P y
-at_some P x h y e = let q : x ≡ y = cc in subst P q h
-
 at_row : (P : TypeRow → Type 0) (r : TypeRow) → P r → (row : TypeRow) → Some r ≡ Some row → P row
 at_row P r h row e = let q : r ≡ row = cc in subst P q h
-
-no_base : (P : ℕ → Type 0) (y : ℕ) → None ≡ Some y → P y
-no_base P y e = absurd cc
 
 -- how many bases a type has: those that derive have one
 level : ℕ → ℕ
@@ -89,21 +50,14 @@ level id = cond (list_has (7 ∷ 12 ∷ []) id) 1 0
 rank : ℕ → ℕ
 rank id = cond (list_has (6 ∷ 7 ∷ 10 ∷ 11 ∷ 12 ∷ 14 ∷ []) id) 1 0
 
-one_or_none : (b : Bool) → cond b 1 0 ≤ 1
-one_or_none true = lit≤ tt
-one_or_none false = lit≤ tt
-
 module _ (g : Given) (is : IsGiven g) where
   few : length (sample g) ≤ 4096
   few = lit≤ tt
 
-  names : AreDistinct (map (λ (row : TypeRow). row.name) (sample g))
-  names = distinct_is same_text (λ xs. (bytes_decides xs xs).1 refl) (map (λ (row : TypeRow). row.name) (sample g)) refl
-
   kinds : (id : ℕ) (row : TypeRow) → slice_get (sample g) id ≡ Some row → KindKeeps row.kind
   kinds = by_row (λ id row. KindKeeps row.kind) (sample g)
-      (domain 3 7 g.u3 is.u3 refl (record { le = tt }) ⊗ tt ⊗ domain 11 2047 g.u11 is.u11 refl (record { le = tt }) ⊗ domain 14 16383 g.u14 is.u14 refl (record { le = tt }) ⊗ domain 16 65535 g.u16 is.u16 refl (record { le = tt })
-      ⊗ listing g.flags is.flags ⊗ (lit≤ tt, lit≤ tt) ⊗ (lit≤ tt, lit≤ tt) ⊗ domain 8 255 g.u8 is.u8 refl (record { le = tt }) ⊗ tt ⊗ (lit≤ tt, lit≤ tt) ⊗ (lit≤ tt, lit≤ tt) ⊗ (lit≤ tt, lit≤ tt) ⊗ domain 4 15 g.u4 is.u4 refl (record { le = tt }) ⊗ (lit≤ tt, lit≤ tt) ⊗ tt)
+      (whole_domain 3 7 g.u3 is.u3 (record { le = tt }) (record { le = tt }) ⊗ tt ⊗ whole_domain 11 2047 g.u11 is.u11 (record { le = tt }) (record { le = tt }) ⊗ whole_domain 14 16383 g.u14 is.u14 (record { le = tt }) (record { le = tt }) ⊗ whole_domain 16 65535 g.u16 is.u16 (record { le = tt }) (record { le = tt })
+      ⊗ listing 2 g.flags is.flags (record { le = tt }) ⊗ (lit≤ tt, lit≤ tt) ⊗ (lit≤ tt, lit≤ tt) ⊗ whole_domain 8 255 g.u8 is.u8 (record { le = tt }) (record { le = tt }) ⊗ tt ⊗ (lit≤ tt, lit≤ tt) ⊗ (lit≤ tt, lit≤ tt) ⊗ (lit≤ tt, lit≤ tt) ⊗ whole_domain 4 15 g.u4 is.u4 (record { le = tt }) (record { le = tt }) ⊗ (lit≤ tt, lit≤ tt) ⊗ tt)
 
   -- what holds of each type and its base, from what holds of the two that derive
   by_bases : (P : ℕ → ℕ → Type 0) → P 7 6 → P 12 11 → (id base : ℕ) → base_of (sample g) id ≡ Some base → P id base
@@ -119,9 +73,6 @@ module _ (g : Given) (is : IsGiven g) where
   bases : (id base : ℕ) (row : TypeRow) → slice_get (sample g) id ≡ Some row → base_of (sample g) id ≡ Some base → HasKind (sample g) base (DerivesFrom row.kind)
   bases id base row e f = by_bases (λ id base. (row : TypeRow) → slice_get (sample g) id ≡ Some row → HasKind (sample g) base (DerivesFrom row.kind))
       (at_row (λ row. HasKind (sample g) 6 (DerivesFrom row.kind)) _ (_, refl, tt)) (at_row (λ row. HasKind (sample g) 11 (DerivesFrom row.kind)) _ (_, refl, tt)) id base f row e
-
-  family : (id : ℕ) → IsContainer (sample g) id → length (derived (sample g) id) ≤ 512
-  family id c = let h = derived-le (sample g) id in let n : length (sample g) ≤ 512 = lit≤ tt in omega arith
 
   parts_nest : (y : ℕ) → AllByRecursion (λ (p : Placed). (id : ℕ) → type_by (Some p.part) ≡ Some id → IsNested (sample g) rank y id) (own_parts (sample g) y)
   unfolding rank
@@ -152,9 +103,6 @@ module _ (g : Given) (is : IsGiven g) where
       (solid 8 refl ⊗ solid 8 refl ⊗ tt)
       (solid 8 refl ⊗ (solid 13 refl, record { name = codes "Count"; id = id_of 8; before = record { before = []; between = []; after = []; is = refl }; counts = (_, refl, λ n w. is.u8.range.from_low n w) }) ⊗ tt)
 
-  sequence_keeps : (k : ℕ) → distinct same_text (filter_map (λ (p : Placed). name_of p.part) (sequence (sample g) k)) ≡ true → length (filter (λ (p : Placed). is_length p.part) (sequence (sample g) k)) ≤ 1 → SequenceKeeps (sequence (sample g) k)
-  sequence_keeps k e h = record { names = distinct_is same_text (λ xs. (bytes_decides xs xs).1 refl) (filter_map (λ (p : Placed). name_of p.part) (sequence (sample g) k)) e; one_length = h }
-
   sequences : (k : ℕ) → SequenceKeeps (sequence (sample g) k)
   unfolding chain_within
   sequences k = go (slice_get (sample g) k) refl
@@ -162,9 +110,9 @@ module _ (g : Given) (is : IsGiven g) where
       go : (row : Option TypeRow) → slice_get (sample g) k ≡ row → SequenceKeeps (sequence (sample g) k)
       go None e = subst SequenceKeeps (sym (sequence_past (sample g) k e)) (record { names = tt; one_length = lit≤ tt })
       go (Some row) e = by_row (λ k row. SequenceKeeps (sequence (sample g) k)) (sample g)
-          (sequence_keeps 0 refl (lit≤ tt) ⊗ sequence_keeps 1 refl (lit≤ tt) ⊗ sequence_keeps 2 refl (lit≤ tt) ⊗ sequence_keeps 3 refl (lit≤ tt) ⊗ sequence_keeps 4 refl (lit≤ tt)
-          ⊗ sequence_keeps 5 refl (lit≤ tt) ⊗ sequence_keeps 6 refl (lit≤ tt) ⊗ sequence_keeps 7 refl (lit≤ tt) ⊗ sequence_keeps 8 refl (lit≤ tt) ⊗ sequence_keeps 9 refl (lit≤ tt)
-          ⊗ sequence_keeps 10 refl (lit≤ tt) ⊗ sequence_keeps 11 refl (lit≤ tt) ⊗ sequence_keeps 12 refl (lit≤ tt) ⊗ sequence_keeps 13 refl (lit≤ tt) ⊗ sequence_keeps 14 refl (lit≤ tt) ⊗ tt) k row e
+          (sequence_keeps (sample g) 0 refl (lit≤ tt) ⊗ sequence_keeps (sample g) 1 refl (lit≤ tt) ⊗ sequence_keeps (sample g) 2 refl (lit≤ tt) ⊗ sequence_keeps (sample g) 3 refl (lit≤ tt) ⊗ sequence_keeps (sample g) 4 refl (lit≤ tt)
+          ⊗ sequence_keeps (sample g) 5 refl (lit≤ tt) ⊗ sequence_keeps (sample g) 6 refl (lit≤ tt) ⊗ sequence_keeps (sample g) 7 refl (lit≤ tt) ⊗ sequence_keeps (sample g) 8 refl (lit≤ tt) ⊗ sequence_keeps (sample g) 9 refl (lit≤ tt)
+          ⊗ sequence_keeps (sample g) 10 refl (lit≤ tt) ⊗ sequence_keeps (sample g) 11 refl (lit≤ tt) ⊗ sequence_keeps (sample g) 12 refl (lit≤ tt) ⊗ sequence_keeps (sample g) 13 refl (lit≤ tt) ⊗ sequence_keeps (sample g) 14 refl (lit≤ tt) ⊗ tt) k row e
 
   root_constraints : (k : ℕ) → base_of (sample g) k ≡ None → constraints_of (sample g) k ≡ []
   root_constraints = by_number (λ k row. base_in row ≡ None → constraints_in (container_in row) ≡ []) (sample g) (λ k e. refl)
@@ -190,13 +138,13 @@ module _ (g : Given) (is : IsGiven g) where
   unfolding level rank
   sample_keeps = record {
     few = few;
-    names = names;
+    names = names_keep (sample g) refl;
     kinds = kinds;
     bases = bases;
     level = level;
     chains = λ id. omega (arith, one_or_none (list_has (7 ∷ 12 ∷ []) id));
     base_level = by_bases (λ id base. level id ≡ suc (level base)) refl refl;
-    family = family;
+    family = family_keeps (sample g) (lit≤ tt);
     rank = rank;
     nesting = λ id. omega (arith, one_or_none (list_has (6 ∷ 7 ∷ 10 ∷ 11 ∷ 12 ∷ 14 ∷ []) id));
     base_rank = by_bases (λ id base. rank id ≡ rank base) refl refl;

@@ -4,6 +4,9 @@ use Rattle.std.specs.Prelude.{◌≡◌, ℕ, ℤ, pos, ◌≤ℤ◌, List, [], 
 use Rattle.std.specs.Borrow.{Bor}
 use Rattle.eds_base.specs.declared.spans.Span.{Span}
 use Rattle.eds_base.specs.Spans.{IsWithin}
+use Rattle.eds_bits.specs.declared.forms.ByteOrder.{ByteOrder}
+use Rattle.eds_bits.specs.declared.forms.ByteOrder.TheVariants.{Big}
+use Rattle.eds_bits.specs.declared.forms.Encoding.{Encoding}
 use Rattle.eds_bits.specs.declared.forms.Encoding.TheVariants.{Unsigned}
 use Rattle.eds_bits.specs.declared.forms.IntForm.{IntForm}
 use Rattle.eds_bits.specs.declared.forms.BoolForm.{BoolForm}
@@ -19,10 +22,11 @@ use Rattle.eds_types.specs.declared.sample.Numbers.{Numbers}
 use Rattle.eds_types.specs.declared.sample.Given.{Given}
 use Rattle.eds_types.specs.Rows.{Table, id_of}
 
--- a form of unsigned numbers of so many bits
-pub record IsUnsigned (bits : ℕ) (form : IntForm) : Type 0 where
+-- a form of so many bits, in this encoding and order
+pub record IsFormOf (bits : ℕ) (encoding : Encoding) (order : ByteOrder) (form : IntForm) : Type 0 where
   pub size : form.bits ≡ bits
-  pub encoding : form.encoding ≡ Unsigned
+  pub encoded : form.encoding ≡ encoding
+  pub ordered : form.order ≡ order
 
 -- the numbers from low to high
 pub record IsRange (low high : ℤ) (spans : List Span) : Type 0 where
@@ -44,19 +48,19 @@ constrained c entries = kind.Con (record { hidden = false; constraints = c ∷ [
 
 -- ---- what the table is made of
 
--- an unsigned integer type of so many bits, with all its numbers
-pub record IsNumbers (bits high : ℕ) (numbers : Numbers) : Type 0 where
-  pub form : IsUnsigned bits numbers.form
-  pub range : IsRange (pos 0) (pos high) numbers.spans
+-- an integer type of such a form, with the numbers from low to high
+pub record IsNumbers (bits : ℕ) (encoding : Encoding) (order : ByteOrder) (low high : ℤ) (numbers : Numbers) : Type 0 where
+  pub form : IsFormOf bits encoding order numbers.form
+  pub range : IsRange low high numbers.spans
 
 pub record IsGiven (g : Given) : Type 0 where
-  pub u3 : IsNumbers 3 7 g.u3
-  pub u4 : IsNumbers 4 15 g.u4
-  pub u8 : IsNumbers 8 255 g.u8
-  pub u11 : IsNumbers 11 2047 g.u11
-  pub u14 : IsNumbers 14 16383 g.u14
-  pub u16 : IsNumbers 16 65535 g.u16
-  pub flags : IsUnsigned 2 g.flags
+  pub u3 : IsNumbers 3 Unsigned Big (pos 0) (pos 7) g.u3
+  pub u4 : IsNumbers 4 Unsigned Big (pos 0) (pos 15) g.u4
+  pub u8 : IsNumbers 8 Unsigned Big (pos 0) (pos 255) g.u8
+  pub u11 : IsNumbers 11 Unsigned Big (pos 0) (pos 2047) g.u11
+  pub u14 : IsNumbers 14 Unsigned Big (pos 0) (pos 16383) g.u14
+  pub u16 : IsNumbers 16 Unsigned Big (pos 0) (pos 65535) g.u16
+  pub flags : IsFormOf 2 Unsigned Big g.flags
   pub apid : IsRange (pos 291) (pos 291) g.apid
 
 abbrev pub int : Numbers → Kind

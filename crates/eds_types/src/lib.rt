@@ -2,6 +2,7 @@
 #![tactic(auto)]
 
 mod chain;
+mod flat_sample;
 mod look;
 mod reason;
 mod row;
@@ -13,9 +14,11 @@ mod table;
 mod value;
 
 pub use chain::Chain;
+pub use flat_sample::flat_table;
 pub use reason::PackReason;
 pub use row::{
-    Constraint, Constraints, Container, EntryPath, Kind, Listing, Part, Parts, TypeRow, TypeRows, Used,
+    Constraint, Constraints, Container, EntryPath, Kind, Listing, Part, Parts, TypeRow, TypeRows,
+    Used,
 };
 pub use sample::sample_table;
 pub use sequence::Sequence;

@@ -1,10 +1,14 @@
 //! A small table, for examples and tests.
 
-ghost use Rattle.std.specs.Prelude.{◌≡◌, ◌≤◌, ◌++◌, [], ◌∷◌, pos, length, map, true, false, codes, OnOk, IfOk};
+ghost use Rattle.std.specs.Prelude.{◌≡◌, ◌≤◌, ◌≤ℤ◌, ◌%◌, ◌++◌, [], ◌∷◌, pos, length, map, true, false, codes, OnOk, IfOk};
+ghost use Rattle.eds_base.specs.Spans.{bottom, top};
+ghost use Rattle.eds_bits.specs.Encodings.{digit_bits, order_bits};
+ghost use Rattle.eds_bits.specs.declared.forms.ByteOrder.TheVariants.{Big};
 ghost use Rattle.eds_bits.specs.declared.forms.CheckKind.TheVariants.{Crc16Ccitt};
+ghost use Rattle.eds_bits.specs.declared.forms.Encoding.TheVariants.{Unsigned};
 ghost use Rattle.eds_types.specs.declared.row.Part.TheVariants as part;
 ghost use Rattle.eds_types.specs.Rows.{id_of};
-ghost use Rattle.eds_types.specs.Sample.{IsUnsigned, IsRange, IsNumbers, IsGiven, plain_part, plain_of, label_of, row, derived_row, int, container, constrained, packet_entries, is_housekeeping, demo_scalars, demo_packets, trailed, counted_list, sample};
+ghost use Rattle.eds_types.specs.Sample.{IsFormOf, IsRange, IsNumbers, IsGiven, plain_part, plain_of, label_of, flag_labels, row, derived_row, int, container, constrained, packet_entries, is_housekeeping, demo_scalars, demo_packets, trailed, counted_list, sample};
 
 use crate::{
     Constraint, Constraints, Container, EntryPath, Kind, Listing, Part, Parts, TypeRow, TypeRows,
@@ -16,9 +20,9 @@ use std::alloc::Global;
 
 /// An integer type's form and domain.
 #[derive(Drop)]
-struct Numbers {
-    form: IntForm,
-    spans: Spans,
+pub(crate) struct Numbers {
+    pub(crate) form: IntForm,
+    pub(crate) spans: Spans,
 }
 
 /// The forms and sets of numbers that the table is made of.
@@ -37,10 +41,10 @@ struct Given {
 }
 
 /// The big-endian form of unsigned numbers of so many bits.
-fn unsigned_form(bits: u32) -> IntForm
+pub(crate) fn unsigned_form(bits: u32) -> IntForm
     requires some { 1 ≤ bits }
     requires few { bits ≤ 64 }
-    ensures { IsUnsigned bits result }
+    ensures { IsFormOf bits Unsigned Big result }
 {
     IntForm {
         bits,
@@ -50,22 +54,61 @@ fn unsigned_form(bits: u32) -> IntForm
 }
 
 /// The numbers from one to another.
-fn range(alloc: Global, low: u64, high: u64) -> Result<Spans, Memory>
-    requires { low ≤ high }
-    ensures { IfOk result (IsRange (pos low) (pos high)) }
+fn range(alloc: Global, low: i128, high: i128) -> Result<Spans, Memory>
+    requires some { low ≤ℤ high }
+    requires from_bottom { bottom ≤ℤ low }
+    requires to_top { high ≤ℤ top }
+    ensures { IfOk result (IsRange low high) }
 {
     let mut spans = Spans::new(alloc);
-    spans.push(low as i128, high as i128)?;
+    spans.push(low, high)?;
     Ok(spans)
 }
 
-/// An unsigned integer type of so many bits with the numbers from 0 to another one.
-fn numbers_to(alloc: Global, bits: u32, high: u64) -> Result<Numbers, Memory>
+/// An integer type of so many bits with the numbers from one to another.
+pub(crate) fn number_type(
+    alloc: Global,
+    bits: u32,
+    encoding: Encoding,
+    order: ByteOrder,
+    low: i128,
+    high: i128,
+) -> Result<Numbers, Memory>
     requires some { 1 ≤ bits }
     requires few { bits ≤ 64 }
-    ensures { IfOk result (IsNumbers bits high) }
+    requires digits { bits % digit_bits encoding ≡ 0 }
+    requires octets { bits % order_bits order ≡ 0 }
+    requires in_order { low ≤ℤ high }
+    requires from_bottom { bottom ≤ℤ low }
+    requires to_top { high ≤ℤ top }
+    ensures { IfOk result (IsNumbers bits encoding order low high) }
 {
-    let spans = range(alloc, 0, high)?;
+    let spans = range(alloc, low, high)?;
+    Ok(Numbers {
+        form: IntForm {
+            bits,
+            encoding,
+            order,
+        },
+        spans,
+    })
+}
+
+/// A big-endian unsigned integer type of so many bits with the numbers from one to another.
+pub(crate) fn unsigned_type(
+    alloc: Global,
+    bits: u32,
+    low: i128,
+    high: i128,
+) -> Result<Numbers, Memory>
+    requires some { 1 ≤ bits }
+    requires few { bits ≤ 64 }
+    requires in_order { low ≤ℤ high }
+    requires from_bottom { bottom ≤ℤ low }
+    requires to_top { high ≤ℤ top }
+    ensures { IfOk result (IsNumbers bits Unsigned Big low high) }
+{
+    let spans = range(alloc, low, high)?;
     Ok(Numbers {
         form: unsigned_form(bits),
         spans,
@@ -73,7 +116,7 @@ fn numbers_to(alloc: Global, bits: u32, high: u64) -> Result<Numbers, Memory>
 }
 
 /// Entries by their names and types.
-fn plains(alloc: Global, entries: &[(&str, u32)]) -> Result<Parts, Memory>
+pub(crate) fn plains(alloc: Global, entries: &[(&str, u32)]) -> Result<Parts, Memory>
     ensures { IfOk result (λ parts. parts ≡ map plain_of entries.now) }
 {
     let mut parts = Parts::new(alloc);
@@ -100,8 +143,18 @@ fn labels(alloc: Global, entries: &[(&str, i128)]) -> Result<Listing, Memory>
     Ok(labels)
 }
 
+/// The labels of a packet's place in a sequence.
+pub(crate) fn sequence_labels(alloc: Global) -> Result<Listing, Memory>
+    ensures { IfOk result (λ labels. labels ≡ flag_labels) }
+{
+    labels(
+        alloc,
+        &[("CONT", 0), ("FIRST", 1), ("LAST", 2), ("UNSEG", 3)],
+    )
+}
+
 /// A container without constraints.
-fn container(alloc: Global, hidden: bool, entries: Parts, trailers: Parts) -> Kind
+pub(crate) fn container(alloc: Global, hidden: bool, entries: Parts, trailers: Parts) -> Kind
     ensures { result ≡ container hidden entries trailers }
 {
     Kind::Con(Container {
@@ -183,7 +236,13 @@ fn counted(alloc: Global) -> Result<Kind, Memory>
     Ok(container(alloc, false, entries, Parts::new(alloc)))
 }
 
-fn push_row(alloc: Global, rows: &mut TypeRows, name: &str, kind: Kind) -> Result<(), Memory>
+/// Pushes the row of a type without a base.
+pub(crate) fn push_row(
+    alloc: Global,
+    rows: &mut TypeRows,
+    name: &str,
+    kind: Kind,
+) -> Result<(), Memory>
     ensures { OnOk result (rows.new ≡ rows.old ++ row name.now kind ∷ []) }
 {
     let name = Text::of(alloc, name)?;
@@ -217,12 +276,12 @@ fn forms_and_numbers(alloc: Global) -> Result<Given, Memory>
     ensures { IfOk result IsGiven }
 {
     Ok(Given {
-        u3: numbers_to(alloc, 3, 7)?,
-        u4: numbers_to(alloc, 4, 15)?,
-        u8: numbers_to(alloc, 8, 255)?,
-        u11: numbers_to(alloc, 11, 2047)?,
-        u14: numbers_to(alloc, 14, 16383)?,
-        u16: numbers_to(alloc, 16, 65535)?,
+        u3: unsigned_type(alloc, 3, 0, 7)?,
+        u4: unsigned_type(alloc, 4, 0, 15)?,
+        u8: unsigned_type(alloc, 8, 0, 255)?,
+        u11: unsigned_type(alloc, 11, 0, 2047)?,
+        u14: unsigned_type(alloc, 14, 0, 16383)?,
+        u16: unsigned_type(alloc, 16, 0, 65535)?,
         bit: BoolForm {
             bits: 1,
             zero_is_false: true,
@@ -239,7 +298,7 @@ fn forms_and_numbers(alloc: Global) -> Result<Given, Memory>
 }
 
 /// An integer type.
-fn integer(numbers: Numbers) -> Kind
+pub(crate) fn integer(numbers: Numbers) -> Kind
     ensures { result ≡ int numbers }
 {
     Kind::Int(numbers.form, numbers.spans)
@@ -272,10 +331,7 @@ fn push_demo_packets(
 ) -> Result<(), Memory>
     ensures { OnOk result (rows.new ≡ rows.old ++ demo_packets flags apid) }
 {
-    let listing = labels(
-        alloc,
-        &[("CONT", 0), ("FIRST", 1), ("LAST", 2), ("UNSEG", 3)],
-    )?;
+    let listing = sequence_labels(alloc)?;
     push_row(alloc, rows, "Demo/Flags", Kind::Enum(flags, listing))?;
     push_row(alloc, rows, "Demo/Packet", packet(alloc)?)?;
     push_derived(alloc, rows, "Demo/Hk", 6, housekeeping(alloc, apid)?)?;

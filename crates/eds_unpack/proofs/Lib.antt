@@ -3,4 +3,3 @@ pub mod Numbers
 pub mod Labels
 pub mod FlatContainers
 pub mod Fronts
-pub mod FlatSampleKeeps

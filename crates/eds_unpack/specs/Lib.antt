@@ -1,4 +1,3 @@
 pub mod Answers
 pub mod Readers
 pub mod Entries
-pub mod FlatSample

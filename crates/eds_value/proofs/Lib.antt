@@ -12,5 +12,4 @@ pub mod ShownIsRead
 pub mod Named
 pub mod Plains
 pub mod Depths
-pub mod SampleKeeps
 pub mod SampleValue

@@ -1,6 +1,8 @@
--- The value of the small table has a canonical spelling.
-use Rattle.std.proofs.Common.{◌≡◌, ℕ, suc, pos, true, false, List, [], ◌∷◌, ◌++◌, length, refl, sym, subst, ◌∙◌, lit≤}
-use Rattle.std.specs.Prelude.{codes}
+-- A value of the small flat table has a canonical spelling.
+use Rattle.std.proofs.Common.{◌≡◌, ℕ, suc, pos, true, false, List, [], ◌∷◌, ◌++◌, length, refl, sym, ap, subst, ◌∙◌, lit≤}
+use Rattle.std.specs.Prelude.{codes, not}
+use Rattle.eds_bits.specs.declared.forms.ByteOrder.TheVariants.{Big}
+use Rattle.eds_bits.specs.declared.forms.Encoding.TheVariants.{Unsigned}
 use Rattle.eds_bits.specs.declared.forms.IntForm.{IntForm}
 use Rattle.eds_bits.specs.declared.forms.BoolForm.{BoolForm}
 use Rattle.eds_bits.specs.Bits.{Bits, unsigned_of}
@@ -9,25 +11,25 @@ use Rattle.eds_bits.specs.Lists.{Has}
 use Rattle.eds_bits.specs.Scalars.{IsBool}
 use Rattle.eds_bits.specs.Style.{canonical}
 use Rattle.eds_types.specs.Fields.{Field, IsCandidate, IsUnder}
-use Rattle.eds_types.specs.Plain.{Plain, num, label, truth, none, more}
+use Rattle.eds_types.specs.Plain.{Plain, num, label, truth, fields, none, more}
 use Rattle.eds_types.specs.Rows.{Table, chain_within, Placed, sequence}
 use Rattle.eds_types.specs.FlatTables.{IsFlatTable}
-use Rattle.eds_types.specs.Sample.{plain_part}
+use Rattle.eds_types.specs.FlatSample.{IsFlatSample, flat_sample}
+use Rattle.eds_types.specs.Sample.{IsFormOf, plain_part}
 use Rattle.eds_types.specs.Spelling.{ContainerSpells, PartsPass, SpellsWithin, State, started, took}
 use Rattle.eds_value.specs.Laws.{IsOfType}
-use Rattle.eds_value.specs.Sample.{AreForms, Forms, IsBig, IsBit, IsSample, sample, sample_word}
+use Rattle.eds_types.proofs.FlatSampleKeeps.{sample_flat}
 use Rattle.eds_value.proofs.FlatFacts.{flat_chain}
-use Rattle.eds_value.proofs.SampleKeeps.{sample_flat}
 use Rattle.eds_value.proofs.ShownIsRead.{concrete_container}
 
-big_number : (bits : ℕ) (form : IntForm) (b : Bits) (n : ℕ) → IsBig bits form → length b ≡ bits → unsigned_of b ≡ suc n → IsNumber canonical form (pos (suc n)) b
+big_number : (bits : ℕ) (form : IntForm) (b : Bits) (n : ℕ) → IsFormOf bits Unsigned Big form → length b ≡ bits → unsigned_of b ≡ suc n → IsNumber canonical form (pos (suc n)) b
 big_number bits form b n u l e = record {
-  is = record { size = l ∙ sym u.size; number = rw (u.encoding, u.order, e) refl };
+  is = record { size = l ∙ sym u.size; number = rw (u.encoded, u.ordered, e) refl };
   zero_plain = λ z. absurd cc;
 }
 
-one_bit : (form : BoolForm) → IsBit form → IsBool canonical form true (true ∷ [])
-one_bit form u = record { size = sym u.size; meaning = sym u.zero; one = lit≤ tt }
+zero_bit : (form : BoolForm) → form.bits ≡ 1 → form.zero_is_false ≡ false → IsBool canonical form true (false ∷ [])
+zero_bit form size zero = record { size = sym size; meaning = sym (ap not zero); one = lit≤ tt }
 
 alone : (l x : ℕ) (before after : List ℕ) → l ∷ [] ≡ before ++ x ∷ after → l ≡ x
 alone l x [] after e = cc
@@ -42,62 +44,72 @@ none_derives t flat k l fs other under candidate =
     other (alone l k h.before h.after h.is)
 
 abbrev seven : Bits
-seven = false ∷ false ∷ false ∷ false ∷ false ∷ true ∷ true ∷ true ∷ []
+seven = false ∷ true ∷ true ∷ true ∷ []
 
-abbrev off : Bits
-off = false ∷ true ∷ []
+abbrev on : Bits
+on = false ∷ []
 
-abbrev part_b : Placed
-part_b = record { container = 3; place = 0; part = plain_part (codes "b") 0 }
+abbrev last : Bits
+last = false ∷ false ∷ true ∷ false ∷ []
 
-abbrev part_a : Placed
-part_a = record { container = 3; place = 1; part = plain_part (codes "a") 1 }
+abbrev level_part : Placed
+level_part = record { container = 17; place = 0; part = plain_part (codes "level") 11 }
 
-abbrev part_z : Placed
-part_z = record { container = 3; place = 2; part = plain_part (codes "Z") 2 }
+abbrev on_part : Placed
+on_part = record { container = 17; place = 1; part = plain_part (codes "on") 12 }
 
-abbrev after_b : State
-after_b = took started part_b (num (pos 7)) seven
+abbrev mode_part : Placed
+mode_part = record { container = 17; place = 2; part = plain_part (codes "Mode") 14 }
 
-abbrev after_a : State
-after_a = took after_b part_a (truth true) (true ∷ [])
+abbrev after_level : State
+after_level = took started level_part (num (pos 7)) seven
 
-abbrev after_z : State
-after_z = took after_a part_z (label (codes "OFF")) off
+abbrev after_on : State
+after_on = took after_level on_part (truth true) on
 
-module _ (f : Forms) (is : AreForms f) where
-  spells_b : SpellsWithin 31 canonical (sample f) 0 (num (pos 7)) seven
+abbrev after_mode : State
+after_mode = took after_on mode_part (label (codes "LAST")) last
+
+-- the level 7, on, in the mode LAST
+abbrev status : Plain
+status = fields 17 (more (num (pos 7)) (more (truth true) (more (label (codes "LAST")) none)))
+
+module _ (table : Table) (is : IsFlatSample table) where
+  abbrev t : Table
+  t = flat_sample is.0
+
+  spells_level : SpellsWithin 31 canonical t 11 (num (pos 7)) seven
   unfolding SpellsWithin
-  spells_b = (_, refl, (pos 7, refl, is.numbers.all (pos 7) (record { le = tt }) (record { le = tt }), big_number 8 f.byte seven 6 is.byte refl refl))
+  spells_level = (_, refl, (pos 7, refl, is.1.natural.level.range.all (pos 7) (record { le = tt }) (record { le = tt }), big_number 4 _ seven 6 is.1.natural.level.form refl refl))
 
-  spells_a : SpellsWithin 31 canonical (sample f) 1 (truth true) (true ∷ [])
+  spells_on : SpellsWithin 31 canonical t 12 (truth true) on
   unfolding SpellsWithin
-  spells_a = (_, refl, (true, refl, one_bit f.bit is.bit))
+  spells_on = (_, refl, (true, refl, zero_bit _ is.1.bit_size is.1.bit_truth))
 
-  spells_z : SpellsWithin 31 canonical (sample f) 2 (label (codes "OFF")) off
+  spells_mode : SpellsWithin 31 canonical t 14 (label (codes "LAST")) last
   unfolding SpellsWithin
-  spells_z = (_, refl, (codes "OFF", pos 1, refl, refl, big_number 2 f.flags off 0 is.flags refl refl))
+  spells_mode = (_, refl, (codes "LAST", pos 2, refl, refl, big_number 4 _ last 1 is.1.mode refl refl))
 
-  spells_parts : PartsPass canonical (sample f) (SpellsWithin 31 canonical (sample f)) started (sequence (sample f) 3) after_z (seven ++ (true ∷ []) ++ off)
+  spells_parts : PartsPass canonical t (SpellsWithin 31 canonical t) started (sequence t 17) after_mode (seven ++ on ++ last)
   unfolding chain_within
-  spells_parts = (after_b, seven, true ∷ off, refl, (num (pos 7), spells_b, refl), (after_a, true ∷ [], off, refl, (truth true, spells_a, refl), (after_z, off, [], refl, (label (codes "OFF"), spells_z, refl), (refl, refl))))
+  spells_parts = (after_level, seven, on ++ last, refl, (num (pos 7), spells_level, refl), (after_on, on, last, refl, (truth true, spells_on, refl), (after_mode, last, [], refl, (label (codes "LAST"), spells_mode, refl), (refl, refl))))
 
-  spells_word : ContainerSpells canonical (sample f) (SpellsWithin 31 canonical (sample f)) 3 3 (num (pos 7) ∷ truth true ∷ label (codes "OFF") ∷ []) (seven ++ (true ∷ []) ++ off)
+  spells_status : ContainerSpells canonical t (SpellsWithin 31 canonical t) 17 17 (num (pos 7) ∷ truth true ∷ label (codes "LAST") ∷ []) (seven ++ on ++ last)
   unfolding chain_within
-  spells_word = record {
+  spells_status = record {
     concrete = refl;
     under = record { before = []; after = []; is = refl };
-    end = after_z;
+    end = after_mode;
     parts = spells_parts;
     values = refl;
     size = tt;
     constraints = tt;
-    most_derived = λ l other under candidate. none_derives (sample f) (sample_flat f is) 3 l after_z.fields other under candidate;
+    most_derived = λ l other under candidate. none_derives t (sample_flat is.0 is.1) 17 l after_mode.fields other under candidate;
   }
 
-  pub word_value : IsOfType (sample f) 3 sample_word
+  pub status_value : IsOfType t 17 status
   unfolding SpellsWithin
-  word_value = (seven ++ (true ∷ []) ++ off, (_, refl, (3, more (num (pos 7)) (more (truth true) (more (label (codes "OFF")) none)), refl, spells_word)))
+  status_value = (seven ++ on ++ last, (_, refl, (17, more (num (pos 7)) (more (truth true) (more (label (codes "LAST")) none)), refl, spells_status)))
 
-pub is_word : (t : Table) (v : Plain) → IsSample t → v ≡ sample_word → IsOfType t 3 v
-is_word t v s e = subst (λ (u : Table). IsOfType u 3 v) (sym s.2) (subst (IsOfType (sample s.0) 3) (sym e) (word_value s.0 s.1))
+pub is_status : (t : Table) (v : Plain) → IsFlatSample t → v ≡ status → IsOfType t 17 v
+is_status t v s e = subst (λ (u : Table). IsOfType u 17 v) (sym s.2) (subst (IsOfType (flat_sample s.0) 17) (sym e) (status_value t s))

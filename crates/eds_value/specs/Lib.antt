@@ -5,4 +5,3 @@ pub mod Json
 pub mod Paths
 pub mod Laws
 pub mod Given
-pub mod Sample

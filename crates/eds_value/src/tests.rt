@@ -1,20 +1,22 @@
-mod sample;
+ghost use Rattle.std.specs.Prelude.{IfOk};
+ghost use Rattle.eds_types.specs.FlatSample.{IsFlatSample};
+ghost use Rattle.eds_types.specs.Plain.{plain};
+ghost use Rattle.eds_value.specs.Laws.{IsOfType};
 
 use crate::{ValueFail, from_json, path_text, to_json};
-use eds_base::{Fail, Memory, Path, Step, TypeId};
-use eds_types::{TypeTable, Value};
-use sample::{sample_table, sample_word};
+use eds_base::{Fail, Memory, Path, Step, Text, TypeId};
+use eds_types::{TypeTable, Value, flat_table};
 use std::alloc::Global;
 
-const BYTE: TypeId = TypeId(0);
+const BYTE: TypeId = TypeId(6);
 
-const BIT: TypeId = TypeId(1);
+const BIT: TypeId = TypeId(12);
 
-const FLAGS: TypeId = TypeId(2);
+const MODE: TypeId = TypeId(14);
 
-const WORD: TypeId = TypeId(3);
+const STATUS: TypeId = TypeId(17);
 
-const OTHER: TypeId = TypeId(4);
+const OTHER: TypeId = TypeId(18);
 
 // A scalar as a word.
 fn push_scalar(alloc: Global, text: &mut String, value: &Value) -> Result<(), Memory> {
@@ -66,7 +68,7 @@ fn outcome(
 #[test]
 fn texts_are_read_as_the_type_says(rt: HostRuntime) -> Result<(), Memory> {
     let alloc = rt.alloc();
-    let table = sample_table(alloc)?;
+    let table = flat_table(alloc)?;
     for (id, text, want) in [
         (BYTE, "7", "7"),
         (BYTE, " 7\n", "7"),
@@ -89,52 +91,60 @@ fn texts_are_read_as_the_type_says(rt: HostRuntime) -> Result<(), Memory> {
         (BIT, "false", "false"),
         (BIT, "0", "wrong at $"),
         (BIT, "\"true\"", "wrong at $"),
-        (FLAGS, "\"OFF\"", "OFF"),
+        (MODE, "\"LAST\"", "LAST"),
         // nor is the list of labels
-        (FLAGS, "\"SLOW\"", "SLOW"),
-        (FLAGS, "1", "wrong at $"),
+        (MODE, "\"SLOW\"", "SLOW"),
+        (MODE, "1", "wrong at $"),
         (
-            WORD,
-            "{\"$type\":\"T/Word\",\"Z\":\"ON\",\"a\":true,\"b\":7}",
-            "fields 3 7 true ON",
+            STATUS,
+            "{\"$type\":\"Flat/Status\",\"Mode\":\"CONT\",\"level\":7,\"on\":true}",
+            "fields 17 7 true CONT",
         ),
         (
-            WORD,
-            "{\"b\":7,\"a\":true,\"Z\":\"ON\"}",
-            "fields 3 7 true ON",
+            STATUS,
+            "{\"on\":true,\"level\":7,\"Mode\":\"CONT\"}",
+            "fields 17 7 true CONT",
         ),
-        (WORD, "{\"b\":7,\"a\":true}", "wrong at $"),
+        (STATUS, "{\"level\":7,\"on\":true}", "wrong at $"),
         (
-            WORD,
-            "{\"b\":7,\"a\":true,\"Z\":\"ON\",\"c\":1}",
+            STATUS,
+            "{\"level\":7,\"on\":true,\"Mode\":\"CONT\",\"c\":1}",
             "wrong at $",
         ),
-        (WORD, "{\"b\":7,\"a\":true,\"c\":\"ON\"}", "wrong at $"),
+        (
+            STATUS,
+            "{\"level\":7,\"on\":true,\"c\":\"CONT\"}",
+            "wrong at $",
+        ),
         // a container comes before its members, and these in the order of the entries
-        (WORD, "{\"b\":true,\"a\":1}", "wrong at $"),
-        (WORD, "{\"Z\":0,\"a\":1,\"b\":7}", "wrong at $.a"),
-        (WORD, "{\"Z\":0,\"a\":true,\"b\":7}", "wrong at $.Z"),
-        (WORD, "[7,true,\"ON\"]", "wrong at $"),
+        (STATUS, "{\"level\":true,\"on\":1}", "wrong at $"),
+        (STATUS, "{\"Mode\":0,\"level\":7,\"on\":1}", "wrong at $.on"),
         (
-            WORD,
-            "{\"$type\":\"T/U8\",\"Z\":\"ON\",\"a\":true,\"b\":7}",
+            STATUS,
+            "{\"Mode\":0,\"level\":7,\"on\":true}",
+            "wrong at $.Mode",
+        ),
+        (STATUS, "[7,true,\"CONT\"]", "wrong at $"),
+        (
+            STATUS,
+            "{\"$type\":\"Sc/U8\",\"Mode\":\"CONT\",\"level\":7,\"on\":true}",
             "wrong at $",
         ),
         (
-            WORD,
-            "{\"$type\":\"Word\",\"Z\":\"ON\",\"a\":true,\"b\":7}",
+            STATUS,
+            "{\"$type\":\"Status\",\"Mode\":\"CONT\",\"level\":7,\"on\":true}",
             "wrong at $",
         ),
         (
-            WORD,
-            "{\"$type\":3,\"Z\":\"ON\",\"a\":true,\"b\":7}",
+            STATUS,
+            "{\"$type\":17,\"Mode\":\"CONT\",\"level\":7,\"on\":true}",
             "wrong at $",
         ),
         // another container's members count, and its path is lost
-        (WORD, "{\"$type\":\"A/B/T\",\"b\":7}", "fields 4 7"),
-        (WORD, "{\"$type\":\"A/B/T\",\"b\":true}", "wrong at $"),
+        (STATUS, "{\"$type\":\"A/B/T\",\"b\":7}", "fields 18 7"),
+        (STATUS, "{\"$type\":\"A/B/T\",\"b\":true}", "wrong at $"),
         (OTHER, "{\"$type\":\"A/B/T\",\"b\":true}", "wrong at $.b"),
-        (OTHER, "{\"b\":1,\"b\":2}", "fields 4 2"),
+        (OTHER, "{\"b\":1,\"b\":2}", "fields 18 2"),
     ] {
         if id.0 < table.len() {
             let read = from_json(alloc, &table, id, text.as_bytes());
@@ -142,18 +152,29 @@ fn texts_are_read_as_the_type_says(rt: HostRuntime) -> Result<(), Memory> {
             assert_eq!(rt; got.as_str(), want, "{text}");
         }
     }
-    let read = from_json(alloc, &table, FLAGS, b"\"\xFF\"");
+    let read = from_json(alloc, &table, MODE, b"\"\xFF\"");
     assert_eq!(rt; outcome(alloc, &table, read)?.as_str(), "no JSON");
     Ok(())
+}
+
+/// The value of a status: the level 7, on, in the mode LAST.
+fn sample_status(alloc: Global, table: &TypeTable) -> Result<Value, Memory>
+    requires { IsFlatSample table.now }
+    ensures { IfOk result (λ v. IsOfType table.now 17 (plain v)) }
+{
+    let _ = table;
+    let label = Text::of(alloc, "LAST")?;
+    let values = vec![in alloc; Value::Num(7), Value::Bool(true), Value::Label(label)]?;
+    Ok(Value::Fields(STATUS, values))
 }
 
 #[test]
 fn members_are_written_in_byte_order(rt: HostRuntime) -> Result<(), Memory> {
     let alloc = rt.alloc();
-    let table = sample_table(alloc)?;
-    let value = sample_word(alloc, &table)?;
-    let text = to_json(alloc, &table, WORD, &value)?;
-    let want = "{\"$type\":\"T/Word\",\"Z\":\"OFF\",\"a\":true,\"b\":7}";
+    let table = flat_table(alloc)?;
+    let value = sample_status(alloc, &table)?;
+    let text = to_json(alloc, &table, STATUS, &value)?;
+    let want = "{\"$type\":\"Flat/Status\",\"Mode\":\"LAST\",\"level\":7,\"on\":true}";
     assert_eq!(rt; text.as_slice(), want.as_bytes());
     Ok(())
 }
@@ -161,16 +182,16 @@ fn members_are_written_in_byte_order(rt: HostRuntime) -> Result<(), Memory> {
 #[test]
 fn a_path_has_a_text_for_each_step(rt: HostRuntime) -> Result<(), Memory> {
     let alloc = rt.alloc();
-    let table = sample_table(alloc)?;
+    let table = flat_table(alloc)?;
     let mut path = Path::root();
     assert_eq!(rt; path_text(alloc, &table, &path)?.as_str(), "$");
     path.put_first(Step::Choice(OTHER));
     path.put_first(Step::Part(OTHER, 7));
     path.put_first(Step::Item(2));
-    path.put_first(Step::Part(WORD, 0));
+    path.put_first(Step::Part(STATUS, 0));
     assert_eq!(rt;
         path_text(alloc, &table, &path)?.as_str(),
-        "$.b[2].T#7<A/B/T>"
+        "$.level[2].T#7<A/B/T>"
     );
     Ok(())
 }
