@@ -2,6 +2,7 @@
 
 ghost use Rattle.std.specs.Prelude.{◌≡◌, ◌<◌, ◌^◌, ◌≤ℤ◌, ◌-◌, IfOk, Ok, OnOk, length, map, neg_ℤ, pos};
 ghost use Rattle.std.specs.List.{AllByRecursion};
+ghost use Rattle.std.specs.Str.{IsUtf8};
 ghost use Rattle.serde_json.specs.Data.{number, put};
 ghost use Rattle.serde_json.specs.Find.{of_integer};
 ghost use Rattle.serde_json.specs.View.{members_view, view};
@@ -110,6 +111,7 @@ pub fn to_json(
     requires flat { IsFlatTable table.now }
     requires one { IsOfType table.now id.0 (plain value.now) }
     ensures text { IfOk result (λ o. o ≡ shown_text table.now (plain value.now)) }
+    ensures utf8 { IfOk result IsUtf8 }
     ensures reads_back { HasNoTypeEntry table.now → IfOk result (λ o. value_in table.now id.0 o ≡ Ok (plain value.now)) }
 {
     table.keeps_rules();
