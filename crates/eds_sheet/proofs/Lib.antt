@@ -4,3 +4,4 @@ pub mod FilesLemmas
 pub mod Phases
 pub mod TypePhases
 pub mod CompiledLaws
+pub mod Limits
