@@ -7,13 +7,13 @@ use Rattle.eds_sheet.proofs.sheet.count_containers.Goals.{then-is_container, els
 pub loop-i-preserved : goal.loop-i-preserved
 loop-i-preserved c =
     elim c.if-is_container.branch [
-      then-is_container w ↦ record {
+      | then-is_container w ↦ record {
         counted =
             w.count-is ∙ ap (λ n. n + 1) c.loop-i.invariant.counted
             ∙ sym (counted_more is_container c.args.table.now c.loop-i.i c.row.result.now c.row.ensures (sym c.is_container.ensures ∙ w.if-is_container.true));
         few = omega (arith, w.count-is, c.loop-i.invariant.few);
       }
-    | else-is_container w ↦ record {
+      | else-is_container w ↦ record {
         counted =
             w.count-is ∙ c.loop-i.invariant.counted
             ∙ sym (counted_as_before is_container c.args.table.now c.loop-i.i c.row.result.now c.row.ensures (sym c.is_container.ensures ∙ w.if-is_container.false));
