@@ -7,8 +7,9 @@ use Rattle.eds_base.specs.Refusals.{first_of, least}
 use Rattle.eds_tree.specs.declared.tree.Node.{Node}
 use Rattle.eds_tree.specs.ShapeCheck.{shape_breaks, shape_verdict, unless_broken}
 use Rattle.eds_names.specs.LookUp.{Names, names_in, names_of, duplicates, unless as names_unless}
-use Rattle.eds_read_types.specs.declared.row.Types.{Types}
-use Rattle.eds_read_types.specs.ReadTypes.{type_breaks, types_read, types_of, unless as types_unless}
+use Rattle.eds_read_types.specs.declared.table.Typed.{Typed}
+use Rattle.eds_read_types.specs.TableBreaks.{table_breaks}
+use Rattle.eds_read_types.specs.TableRead.{typed_of, unless as types_unless, table_read}
 use Rattle.eds_sheet.specs.Judging.{judged_first}
 use Rattle.eds_sheet.specs.Files.{trees_in, reading_breaks}
 use Rattle.eds_sheet.specs.Pending.{pending_breaks, pending_verdict}
@@ -40,40 +41,40 @@ names-are trees names h = go (least (duplicates trees)) h
     go None e = cc
     go (Some r) e = absurd (cc)
 
-types-stop : (trees : List (List Node)) (names : Names) (word : Option (List ℕ)) → stop_of (types_read trees names word) ≡ least (type_breaks trees names word)
-unfolding types_read
-types-stop trees names word = go (least (type_breaks trees names word))
+types-stop : (trees : List (List Node)) (names : Names) (word : Option (List ℕ)) → stop_of (table_read trees names word) ≡ least (table_breaks trees names word)
+unfolding table_read
+types-stop trees names word = go (least (table_breaks trees names word))
   where
-    go : (o : Option Refusal) → stop_of (types_unless o (types_of trees names word)) ≡ o
+    go : (o : Option Refusal) → stop_of (types_unless o (typed_of trees names word)) ≡ o
     go None = refl
     go (Some r) = refl
 
 -- ---- trees
 
 -- the sheet of the types, or why there are none
-sheet-stop : (names : Names) (types : Result Types Refusal) → stop_of (types >>= λ ts. Ok (sheet_of names ts)) ≡ stop_of types
-sheet-stop names (Ok ts) = refl
+sheet-stop : (names : Names) (typed : Result Typed Refusal) → stop_of (typed >>= λ t. Ok (sheet_of names t)) ≡ stop_of typed
+sheet-stop names (Ok t) = refl
 sheet-stop names (Err r) = refl
 
 module _ (trees : List (List Node)) (word : Option (List ℕ)) where
-  typed-stop : (names : Names) → names_in trees ≡ Ok names → stop_of (types_read trees names word >>= λ types. Ok (sheet_of names types)) ≡ least (type_breaks trees (names_of trees) word)
-  typed-stop names h = sheet-stop names (types_read trees names word) ∙ (types-stop trees names word ∙ ap (λ ns. least (type_breaks trees ns word)) (names-are trees names h))
+  typed-stop : (names : Names) → names_in trees ≡ Ok names → stop_of (table_read trees names word >>= λ typed. Ok (sheet_of names typed)) ≡ least (table_breaks trees (names_of trees) word)
+  typed-stop names h = sheet-stop names (table_read trees names word) ∙ (types-stop trees names word ∙ ap (λ ns. least (table_breaks trees ns word)) (names-are trees names h))
 
   -- the stops of the steps, one after another
   staged-stop : stop_of (compiled_trees trees word)
-      ≡ or_then (least (shape_breaks trees)) (or_then (least (pending_breaks trees)) (or_then (least (duplicates trees)) (least (type_breaks trees (names_of trees) word))))
+      ≡ or_then (least (shape_breaks trees)) (or_then (least (pending_breaks trees)) (or_then (least (duplicates trees)) (least (table_breaks trees (names_of trees) word))))
   staged-stop =
       stop_of-then (shape_verdict trees) _ _ (λ shaped h.
       stop_of-then (pending_verdict trees) _ _ (λ built k.
       stop_of-then (names_in trees) _ _ typed-stop
-      ∙ ap (λ o. or_then o (least (type_breaks trees (names_of trees) word))) (names-stop trees))
-      ∙ ap (λ o. or_then o (or_then (least (duplicates trees)) (least (type_breaks trees (names_of trees) word)))) (unless_broken-stop (least (pending_breaks trees))))
-      ∙ ap (λ o. or_then o (or_then (least (pending_breaks trees)) (or_then (least (duplicates trees)) (least (type_breaks trees (names_of trees) word))))) (unless_broken-stop (least (shape_breaks trees)))
+      ∙ ap (λ o. or_then o (least (table_breaks trees (names_of trees) word))) (names-stop trees))
+      ∙ ap (λ o. or_then o (or_then (least (duplicates trees)) (least (table_breaks trees (names_of trees) word)))) (unless_broken-stop (least (pending_breaks trees))))
+      ∙ ap (λ o. or_then o (or_then (least (pending_breaks trees)) (or_then (least (duplicates trees)) (least (table_breaks trees (names_of trees) word))))) (unless_broken-stop (least (shape_breaks trees)))
 
   least-staged_trees : least (tree_breaks trees word)
-      ≡ or_then (least (shape_breaks trees)) (or_then (least (pending_breaks trees)) (or_then (least (duplicates trees)) (least (type_breaks trees (names_of trees) word))))
+      ≡ or_then (least (shape_breaks trees)) (or_then (least (pending_breaks trees)) (or_then (least (duplicates trees)) (least (table_breaks trees (names_of trees) word))))
   least-staged_trees =
-      let types = type_breaks trees (names_of trees) word in
+      let types = table_breaks trees (names_of trees) word in
       least-staged 2 (judged_first (shape_breaks trees) (pending_breaks trees)) (judged_first (duplicates trees) types)
       (judged_first-is IsEarly (shape_breaks trees) (pending_breaks trees) (shape-early trees) (pending-early trees))
       (judged_first-is IsLate (duplicates trees) types (duplicates-late trees) (types-late trees (names_of trees) word))

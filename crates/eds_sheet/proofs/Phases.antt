@@ -1,5 +1,5 @@
 -- The phases in which the rules on elements and names are judged.
-use Rattle.std.proofs.Common.{◌≡◌, ℕ, ◌+◌, ◌<◌, ◌≤◌, Bool, true, false, ◌&&◌, ◌||◌, List, [], ◌∷◌, ◌++◌, length, map, Option, Some, None, refl, sym, ap, ◌∙◌, arith}
+use Rattle.std.proofs.Common.{◌≡◌, ℕ, ◌+◌, ◌<◌, ◌≤◌, Bool, true, false, List, [], ◌∷◌, ◌++◌, map, Option, Some, None, refl, sym, ap, ◌∙◌, arith}
 use Rattle.std.specs.Prelude.{IfSome, codes, nat_eq, slice_get}
 use Rattle.std.specs.List.{AllByRecursion, flat_map}
 use Rattle.std.proofs.lemmas.Slice.Eq.{bytes_eq-Decides}
@@ -11,13 +11,13 @@ use Rattle.eds_base.specs.Reading.{same}
 use Rattle.eds_base.specs.Refusals.{phase_by, phase_of}
 use Rattle.eds_tree.specs.declared.tree.Node.{Node}
 use Rattle.eds_tree.specs.declared.link.Link.{Link}
-use Rattle.eds_tree.specs.Trees.{links_of, name_at, attributes_at, children_named, text_among}
+use Rattle.eds_tree.specs.Trees.{links_of, name_at, attributes_at, text_among}
 use Rattle.eds_tree.specs.ByteOrder.{precedes, first_of, first_from}
-use Rattle.eds_tree.specs.Shapes.{shape_at, is_among as among}
+use Rattle.eds_tree.specs.Shapes.{shape_at}
 use Rattle.eds_tree.specs.Attributes.{has_attribute}
 use Rattle.eds_tree.specs.Breaks.{Judgement, refusal_at, refusal_if, breaks_in, breaks_from, breaks_of}
 use Rattle.eds_tree.specs.Unknown.{unknown_root, unknown_children, unknown_at, breaks_unknown}
-use Rattle.eds_tree.specs.Unsupported.{is_other_word, spells_flag, is_element_unsupported, has_failed, has_open_size, has_fixed_value, has_transaction, word_if, unsupported_words, unsupported_word, breaks_unsupported}
+use Rattle.eds_tree.specs.Unsupported.{spells_flag, is_element_unsupported, has_failed, has_open_size, has_fixed_value, has_transaction, word_if, unsupported_words, unsupported_word, breaks_unsupported}
 use Rattle.eds_tree.specs.Missing.{missing_in, breaks_missing}
 use Rattle.eds_tree.specs.BadAttribute.{bad_attribute, breaks_attribute}
 use Rattle.eds_tree.specs.BadName.{bad_name, breaks_name}
@@ -27,7 +27,7 @@ use Rattle.eds_names.specs.Standings.{standings_of}
 use Rattle.eds_names.specs.Declarations.{declared_in, named_of}
 use Rattle.eds_names.specs.Repeats.{Named, Holding, is_among, repeat_of, repeats, repeats_by, repeats_at, repeats_in, repeats_from, holdings, named_at, held_by}
 use Rattle.eds_names.specs.LookUp.{duplicates}
-use Rattle.eds_sheet.specs.Pending.{is_word, pending_names, pending_word, breaks_pending, pending_breaks, is_pending, pending_attribute, pending_of_encoding, pending_of_container, word_or}
+use Rattle.eds_sheet.specs.Pending.{is_pending, word_or, pending_of_container, pending_attribute, pending_word, breaks_pending, pending_breaks}
 
 -- ---- what holds of each break of a list
 
@@ -200,12 +200,6 @@ other-word_or : (b : Bool) (word : List ℕ) (o : Option (List ℕ)) → (b ≡ 
 other-word_or true word o h k = h refl
 other-word_or false word o h k = k
 
-encoding-other : (held : List (List ℕ × List ℕ)) → IfSome (pending_of_encoding held) IsOther
-encoding-other held =
-    let little = is_word (codes "littleEndian") (text_among held (codes "byteOrder")) in
-    let signed = is_other_word (codes "unsigned" ∷ []) (text_among held (codes "encoding")) in
-    other-word_or little (codes "byteOrder") (word_or signed (codes "encoding") None) (λ e. refl) (other-word_or signed (codes "encoding") None (λ e. refl) tt)
-
 container-other : (held : List (List ℕ × List ℕ)) → IfSome (pending_of_container held) IsOther
 container-other held =
     let unreal = spells_flag true (text_among held (codes "abstract")) in
@@ -213,25 +207,19 @@ container-other held =
     other-word_or unreal (codes "abstract") (word_or based (codes "baseType") None) (λ e. refl) (other-word_or based (codes "baseType") None (λ e. refl) tt)
 
 attribute-other : (name : List ℕ) (held : List (List ℕ × List ℕ)) → IfSome (pending_attribute name held) IsOther
-attribute-other name held = go (same name (codes "IntegerDataEncoding")) (same name (codes "ContainerDataType")) refl refl
+attribute-other name held = go (same name (codes "ContainerDataType")) refl
   where
-    go : (a b : Bool) → same name (codes "IntegerDataEncoding") ≡ a → same name (codes "ContainerDataType") ≡ b → IfSome (pending_attribute name held) IsOther
-    go true b e f = rw e (encoding-other held)
-    go false true e f = rw (e, f) (container-other held)
-    go false false e f = rw (e, f) tt
+    go : (b : Bool) → same name (codes "ContainerDataType") ≡ b → IfSome (pending_attribute name held) IsOther
+    go true e = rw e (container-other held)
+    go false e = rw e tt
 
-pending-by : (in_integer bare : Bool) (name : List ℕ) → (among pending_names name || ((same name (codes "Range") && in_integer) || (same name (codes "IntegerDataType") && bare))) ≡ true → IsOther name
-pending-by in_integer bare name = other_by (λ n. among pending_names n || ((same n (codes "Range") && in_integer) || (same n (codes "IntegerDataType") && bare))) refl name
-
-pending-word : (t : List Node) (link : Link) → IfSome (pending_word t link) IsOther
-pending-word t link =
-    let name = name_at t link.node in
-    other-word_or (is_pending t link) name (pending_attribute name (attributes_at t link.node))
-    (pending-by (same (name_at t link.parent) (codes "IntegerDataType")) (nat_eq (length (children_named t link.node (codes "IntegerDataEncoding"))) 0) name)
-    (attribute-other name (attributes_at t link.node))
+pending-word : (t : List Node) (node : ℕ) → IfSome (pending_word t node) IsOther
+pending-word t node =
+    let name = name_at t node in
+    other-word_or (is_pending name) name (pending_attribute name (attributes_at t node)) (other_by is_pending refl name) (attribute-other name (attributes_at t node))
 
 pub pending-early : (ts : List (List Node)) → AllByRecursion IsEarly (pending_breaks ts)
-pending-early ts = each-judged IsEarly breaks_pending (λ f t link. other-refused f link.node (pending_word t link) (pending-word t link)) ts
+pending-early ts = each-judged IsEarly breaks_pending (λ f t link. other-refused f link.node (pending_word t link.node) (pending-word t link.node)) ts
 
 -- ---- names
 

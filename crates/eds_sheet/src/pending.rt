@@ -1,18 +1,18 @@
 //! The rule that a sheet holds nothing that is not compiled yet.
 
-ghost use Rattle.std.specs.Prelude.{◌≡◌, ◌≤◌, true, [], ◌∷◌, map, length, option_map, IfOk};
+ghost use Rattle.std.specs.Prelude.{◌≡◌, ◌≤◌, true, map, length, option_map, IfOk};
 ghost use Rattle.std.specs.List.{flat_map};
 ghost use Rattle.eds_base.specs.Answering.{Answers};
 ghost use Rattle.eds_base.specs.Refusals.{least};
 ghost use Rattle.eds_base.specs.declared.rule.Rule.TheVariants.{Unsupported};
-ghost use Rattle.eds_tree.specs.Trees.{name_at, attributes_at, children_named};
+ghost use Rattle.eds_tree.specs.Trees.{name_at, attributes_at};
 ghost use Rattle.eds_tree.specs.Breaks.{refusal_if, breaks_in};
 ghost use Rattle.eds_tree.specs.Shapes.{is_among as among};
-ghost use Rattle.eds_tree.specs.Unsupported.{is_other_word as other_word, spells_flag};
-ghost use Rattle.eds_sheet.specs.Pending.{is_range_of_integer as range_of_integer, lacks_encoding as without_encoding, is_pending as pending, is_word as same_word, pending_of_encoding as of_encoding, pending_of_container as of_container, pending_attribute as attribute_of, pending_word as word_of, breaks_pending, pending_breaks, pending_verdict};
+ghost use Rattle.eds_tree.specs.Unsupported.{spells_flag};
+ghost use Rattle.eds_sheet.specs.Pending.{is_pending as pending, pending_of_container as of_container, pending_attribute as attribute_of, pending_word as word_of, breaks_pending, pending_breaks, pending_verdict};
 
 use eds_base::{Fail, Kept, Memory, Place, Refusal, Rule, Text};
-use eds_tree::{Link, Tree, Trees, flag_value, is_passed_over};
+use eds_tree::{Link, Tree, Trees, flag_value};
 use std::alloc::Global;
 
 // ---- elements
@@ -30,37 +30,11 @@ fn is_among(names: &'static [&'static str], name: &str) -> bool
     false
 }
 
-fn is_range_of_integer(tree: &Tree, link: Link) -> bool
-    ensures { result ≡ range_of_integer tree.now link }
-{
-    tree.name_at(link.node) == "Range" && tree.name_at(link.parent) == "IntegerDataType"
-}
-
-// How many children of an element have a name.
-fn count_named(tree: &Tree, node: u32, name: &str) -> usize
-    ensures { result ≡ length (children_named tree.now node name.now) }
-{
-    tree.children_at(node)
-        .iter()
-        .filter(|child| !is_passed_over(tree.name_at(**child)))
-        .filter(|child| tree.name_at(**child) == name)
-        .count()
-}
-
-fn lacks_encoding(tree: &Tree, node: u32) -> bool
-    ensures { result ≡ without_encoding tree.now node }
-{
-    tree.name_at(node) == "IntegerDataType" && count_named(tree, node, "IntegerDataEncoding") == 0
-}
-
-fn is_pending(tree: &Tree, link: Link) -> bool
-    ensures { result ≡ pending tree.now link }
+fn is_pending(name: &str) -> bool
+    ensures { result ≡ pending name.now }
 {
     is_among(
         &[
-            "EnumeratedDataType",
-            "BooleanDataType",
-            "SubRangeDataType",
             "StringDataType",
             "BinaryDataType",
             "ArrayDataType",
@@ -75,30 +49,11 @@ fn is_pending(tree: &Tree, link: Link) -> bool
             "ComponentSet",
             "StateMachineSet",
         ],
-        tree.name_at(link.node),
-    ) || (is_range_of_integer(tree, link) || lacks_encoding(tree, link.node))
+        name,
+    )
 }
 
 // ---- attributes
-
-fn is_word(word: &str, text: Option<&str>) -> bool
-    ensures { result ≡ same_word word.now (option_map (λ t. t.now) text.entry) }
-{
-    match text {
-        None => false,
-        Some(text) => text == word,
-    }
-}
-
-// Whether a text is there that is another word than this one.
-fn is_other_word(word: &str, text: Option<&str>) -> bool
-    ensures { result ≡ other_word (word.now ∷ []) (option_map (λ t. t.now) text.entry) }
-{
-    match text {
-        None => false,
-        Some(text) => text != word,
-    }
-}
 
 fn is_true(text: Option<&str>) -> bool
     ensures { result ≡ spells_flag true (option_map (λ t. t.now) text.entry) }
@@ -107,18 +62,6 @@ fn is_true(text: Option<&str>) -> bool
         None => false,
         Some(text) => flag_value(text) == Some(true),
     }
-}
-
-fn pending_of_encoding(tree: &Tree, node: u32) -> Option<&'static str>
-    ensures { option_map (λ w. w.now) result ≡ of_encoding (attributes_at tree.now node) }
-{
-    if is_word("littleEndian", tree.attribute_at(node, "byteOrder")) {
-        return Some("byteOrder");
-    }
-    if is_other_word("unsigned", tree.attribute_at(node, "encoding")) {
-        return Some("encoding");
-    }
-    None
 }
 
 fn pending_of_container(tree: &Tree, node: u32) -> Option<&'static str>
@@ -136,10 +79,7 @@ fn pending_of_container(tree: &Tree, node: u32) -> Option<&'static str>
 fn pending_attribute(tree: &Tree, node: u32) -> Option<&'static str>
     ensures { option_map (λ w. w.now) result ≡ attribute_of (name_at tree.now node) (attributes_at tree.now node) }
 {
-    let name = tree.name_at(node);
-    if name == "IntegerDataEncoding" {
-        pending_of_encoding(tree, node)
-    } else if name == "ContainerDataType" {
+    if tree.name_at(node) == "ContainerDataType" {
         pending_of_container(tree, node)
     } else {
         None
@@ -149,13 +89,14 @@ fn pending_attribute(tree: &Tree, node: u32) -> Option<&'static str>
 // ---- the rule
 
 // What of an element is not compiled yet.
-fn pending_word(tree: &Tree, link: Link) -> Option<&str>
-    ensures { option_map (λ w. w.now) result ≡ word_of tree.now link }
+fn pending_word(tree: &Tree, node: u32) -> Option<&str>
+    ensures { option_map (λ w. w.now) result ≡ word_of tree.now node }
 {
-    if is_pending(tree, link) {
-        Some(tree.name_at(link.node))
+    let name = tree.name_at(node);
+    if is_pending(name) {
+        Some(name)
     } else {
-        pending_attribute(tree, link.node)
+        pending_attribute(tree, node)
     }
 }
 
@@ -180,7 +121,7 @@ fn refusal(
 fn least_at(alloc: Global, file: u16, tree: &Tree, link: Link) -> Result<Option<Refusal>, Memory>
     ensures { IfOk result (λ r. r ≡ least (breaks_pending file tree.now link)) }
 {
-    refusal(alloc, file, link.node, pending_word(tree, link))
+    refusal(alloc, file, link.node, pending_word(tree, link.node))
 }
 
 // The first in some elements of a file.

@@ -58,7 +58,7 @@ fn accepted(alloc: Global, sheet: &Sheet) -> Result<String, Memory> {
     let containers = sheet.counts.containers;
     let interfaces = sheet.counts.interfaces;
     let components = sheet.counts.components;
-    match sheet.types.word {
+    match sheet.word {
         None => Ok(format!(in alloc;
             "types {types} containers {containers} interfaces {interfaces} components {components}"
         )?),
@@ -93,6 +93,10 @@ const FLOAT: &str =
 
 const ONE: &str =
     "[\"PackageFile\",[\"Package\",{\"name\":\"A\"},[\"DataTypeSet\",[\"IntegerDataType\",{\"name\":\"U8\"},[\"IntegerDataEncoding\",{\"sizeInBits\":\"8\",\"encoding\":\"unsigned\"}]]]]]";
+
+// The integers of `ONE`, an enumeration, truth values, a sub-range, integers without an encoding, and a container of them.
+const SCALARS: &str =
+    r#"["PackageFile",["Package",{"name":"A"},["DataTypeSet",["IntegerDataType",{"name":"U8"},["IntegerDataEncoding",{"sizeInBits":"8","encoding":"unsigned"}]],["EnumeratedDataType",{"name":"E"},["EnumerationList",["Enumeration",{"label":"OFF","value":"0"}],["Enumeration",{"label":"ON","value":"1"}]]],["BooleanDataType",{"name":"B"}],["SubRangeDataType",{"name":"S","baseType":"I"},["Range",["MinMaxRange",{"rangeType":"inclusiveMinExclusiveMax","min":"-5","max":"5"}]]],["IntegerDataType",{"name":"I"}],["ContainerDataType",{"name":"K"},["EntryList",["Entry",{"name":"e","type":"E"}],["Entry",{"name":"b","type":"B"}],["Entry",{"name":"s","type":"S"}]]]]]]"#;
 
 const OTHER: &str =
     "[\"PackageFile\",[\"Package\",{\"name\":\"A/B\"},[\"DataTypeSet\",[\"ContainerDataType\",{\"name\":\"C\"},[\"EntryList\",[\"Entry\",{\"name\":\"x\",\"type\":\"U8\"}]]]]]]";
@@ -166,50 +170,136 @@ fn sheets_are_compiled_or_refused(rt: HostRuntime) -> Result<(), Memory> {
         (LI, "{", None, "1 NotJson 1:0"),
         (LI, "[\"Table\"]", None, "3 UnknownElement 1:0 Table"),
         (TWICE, LI, None, "4 Unsupported 1:10 ListEntry"),
-        (DEMO, "", None, "4 Unsupported 0:5 BooleanDataType"),
+        (DEMO, "", None, "4 Unsupported 0:20 abstract"),
         (DEV, "", None, "4 Unsupported 0:7 FixedValueEntry"),
+        (
+            SCALARS,
+            OTHER,
+            Some("A/K"),
+            "types 7 containers 2 interfaces 0 components 0 word 5",
+        ),
     ];
     for (one, other, word, answer) in table {
         let said = said(alloc, one, other, word)?;
         assert_eq!(rt; said.as_str(), answer);
     }
+    Ok(())
+}
+
+#[test]
+fn scalar_types_are_compiled(rt: HostRuntime) -> Result<(), Memory> {
+    let alloc = rt.alloc();
+    let one_type = "types 1 containers 0 interfaces 0 components 0";
     let table = [
         (
-            "[\"IntegerDataType\",{\"name\":\"T\"},[\"IntegerDataEncoding\",{\"sizeInBits\":\"16\",\"encoding\":\"twosComplement\",\"byteOrder\":\"littleEndian\"}]]",
-            "4 Unsupported 0:4 byteOrder",
+            r#"["IntegerDataType",{"name":"T"},["IntegerDataEncoding",{"sizeInBits":"16","encoding":"twosComplement","byteOrder":"littleEndian"}]]"#,
+            one_type,
         ),
         (
-            "[\"IntegerDataType\",{\"name\":\"T\"},[\"IntegerDataEncoding\",{\"sizeInBits\":\"16\",\"encoding\":\"twosComplement\"}]]",
-            "4 Unsupported 0:4 encoding",
+            r#"["IntegerDataType",{"name":"T"},["Device",["IntegerDataEncoding"]]]"#,
+            one_type,
         ),
         (
-            "[\"IntegerDataType\",{\"name\":\"T\"},[\"IntegerDataEncoding\",{\"sizeInBits\":\"16\",\"encoding\":\"unsigned\",\"byteOrder\":\"bigEndian\"}]]",
-            "types 1 containers 0 interfaces 0 components 0",
+            r#"["IntegerDataType",{"name":"T"},["IntegerDataEncoding",{"sizeInBits":"8","encoding":"unsigned"}],["Range",["MinMaxRange",{"rangeType":"atMost","max":"1"}]]]"#,
+            one_type,
         ),
         (
-            "[\"IntegerDataType\",{\"name\":\"T\"},[\"Device\",[\"IntegerDataEncoding\"]]]",
-            "4 Unsupported 0:3 IntegerDataType",
+            r#"["EnumeratedDataType",{"name":"T"},["EnumerationList",["Enumeration",{"label":"ON","value":"1"}]]]"#,
+            one_type,
         ),
         (
-            "[\"IntegerDataType\",{\"name\":\"T\"},[\"IntegerDataEncoding\",{\"sizeInBits\":\"8\",\"encoding\":\"unsigned\"}],[\"Range\",[\"MinMaxRange\",{\"rangeType\":\"atMost\",\"max\":\"1\"}]]]",
-            "4 Unsupported 0:5 Range",
+            r#"["BooleanDataType",{"name":"T"},["BooleanDataEncoding",{"sizeInBits":"1","falseValue":"nonZeroIsFalse"}]]"#,
+            one_type,
         ),
         (
-            "[\"ContainerDataType\",{\"name\":\"T\",\"baseType\":\"B\",\"abstract\":\"1\"}]",
-            "4 Unsupported 0:3 abstract",
-        ),
-        (
-            "[\"ContainerDataType\",{\"name\":\"T\",\"baseType\":\"B\",\"abstract\":\"0\"}]",
-            "4 Unsupported 0:3 baseType",
-        ),
-        (
-            "[\"ContainerDataType\",{\"name\":\"T\",\"abstract\":\"false\"}]",
-            "types 1 containers 1 interfaces 0 components 0",
+            r#"["SubRangeDataType",{"name":"T","baseType":"U"},["Range",["MinMaxRange",{"rangeType":"greaterThan","min":"-3"}]]],["IntegerDataType",{"name":"U"}]"#,
+            "types 2 containers 0 interfaces 0 components 0",
         ),
     ];
     for (types, answer) in table {
         let sheet = package(alloc, types)?;
         let said = said(alloc, sheet.as_str(), "", None)?;
+        assert_eq!(rt; said.as_str(), answer);
+    }
+    Ok(())
+}
+
+#[test]
+fn what_is_not_compiled_yet_is_refused(rt: HostRuntime) -> Result<(), Memory> {
+    let alloc = rt.alloc();
+    let table = [
+        (
+            r#"["ContainerDataType",{"name":"T","baseType":"B","abstract":"1"}]"#,
+            "4 Unsupported 0:3 abstract",
+        ),
+        (
+            r#"["ContainerDataType",{"name":"T","baseType":"B","abstract":"0"}]"#,
+            "4 Unsupported 0:3 baseType",
+        ),
+        (
+            r#"["ContainerDataType",{"name":"T","abstract":"false"}]"#,
+            "types 1 containers 1 interfaces 0 components 0",
+        ),
+        (
+            r#"["BinaryDataType",{"name":"T","sizeInBits":"8"}],["StringDataType",{"name":"S","length":"9"}]"#,
+            "4 Unsupported 0:3 BinaryDataType",
+        ),
+        (
+            r#"["ContainerDataType",{"name":"T"},["EntryList",["PaddingEntry",{"sizeInBits":"4"}]],["TrailerEntryList"]]"#,
+            "4 Unsupported 0:5 PaddingEntry",
+        ),
+    ];
+    for (types, answer) in table {
+        let sheet = package(alloc, types)?;
+        let said = said(alloc, sheet.as_str(), "", None)?;
+        assert_eq!(rt; said.as_str(), answer);
+    }
+    Ok(())
+}
+
+#[test]
+fn phases_come_before_places(rt: HostRuntime) -> Result<(), Memory> {
+    let alloc = rt.alloc();
+    let table = [
+        (
+            r#"["SubRangeDataType",{"name":"S","baseType":"S"},["Range",["MinMaxRange",{"rangeType":"atLeast","min":"0"}]]],["ContainerDataType",{"name":"C"},["EntryList",["Entry",{"name":"x","type":"Gone"}]]]"#,
+            None,
+            "10 Unresolved 0:8 Gone",
+        ),
+        (
+            r#"["IntegerDataType",{"name":"I"},["IntegerDataEncoding",{"sizeInBits":"8","encoding":"unsigned"}],["Range",["MinMaxRange",{"rangeType":"atLeast","min":"256"}]]],["SubRangeDataType",{"name":"S","baseType":"S"},["Range",["MinMaxRange",{"rangeType":"atLeast","min":"0"}]]]"#,
+            None,
+            "15 BaseCycle 0:7",
+        ),
+        (
+            r#"["IntegerDataType",{"name":"I"},["IntegerDataEncoding",{"sizeInBits":"0","encoding":"unsigned"}]],["ContainerDataType",{"name":"C"}],["ContainerDataType",{"name":"D"},["EntryList",["Entry",{"name":"c","type":"C"}]]]"#,
+            None,
+            "4 Unsupported 0:8 Entry",
+        ),
+        (
+            r#"["ContainerDataType",{"name":"C"},["EntryList",["Entry",{"name":"e","type":"E"}],["Entry",{"name":"e","type":"E"}]]],["EnumeratedDataType",{"name":"E"},["EnumerationList"]]"#,
+            None,
+            "14 BadEnumeration 0:7",
+        ),
+        (
+            r#"["IntegerDataType",{"name":"I"},["IntegerDataEncoding",{"sizeInBits":"8","encoding":"unsigned"}],["Range",["MinMaxRange",{"rangeType":"atLeast","min":"256"}]]],["IntegerDataType",{"name":"J"},["IntegerDataEncoding",{"sizeInBits":"65","encoding":"unsigned"}]]"#,
+            None,
+            "13 EmptyRange 0:3",
+        ),
+        (
+            r#"["ContainerDataType",{"name":"C"}],["ContainerDataType",{"name":"D"},["EntryList",["Entry",{"name":"b","type":"B"}],["Entry",{"name":"b","type":"B"}]]],["BooleanDataType",{"name":"B"}]"#,
+            Some("A/C"),
+            "18 DuplicateEntry 0:7 b",
+        ),
+        (
+            r#"["ContainerDataType",{"name":"C"}]"#,
+            Some("A/C"),
+            "17 EmptyType 1:0",
+        ),
+    ];
+    for (types, word, answer) in table {
+        let sheet = package(alloc, types)?;
+        let said = said(alloc, sheet.as_str(), "", word)?;
         assert_eq!(rt; said.as_str(), answer);
     }
     Ok(())
