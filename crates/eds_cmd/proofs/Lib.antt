@@ -1,11 +1,5 @@
-pub mod ReportsLemmas
-pub mod ShownLemmas
-pub mod SpellingLemmas
+pub mod Unpacking
 pub mod SheetFiles
 pub mod AnswerLemmas
 pub mod ValidLemmas
-pub mod PackLemmas
-pub mod ShapeLemmas
-pub mod PackAnswer
-pub mod PackWork
 pub mod Results
