@@ -1,11 +1,4 @@
-pub mod ReportsLemmas
-pub mod ShownLemmas
-pub mod SpellingLemmas
 pub mod SheetFiles
+pub mod OneAnswer
 pub mod AnswerLemmas
 pub mod ValidLemmas
-pub mod PackLemmas
-pub mod ShapeLemmas
-pub mod PackAnswer
-pub mod PackWork
-pub mod Results
