@@ -1,5 +1,5 @@
 pub mod Unpacking
 pub mod SheetFiles
+pub mod OneAnswer
 pub mod AnswerLemmas
 pub mod ValidLemmas
-pub mod Results

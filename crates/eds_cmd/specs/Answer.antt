@@ -22,7 +22,7 @@ use Rattle.eds_cmd.specs.Command.{CommandWords, JobWords, command_of, input_most
 use Rattle.eds_cmd.specs.Hex.{hex_octets}
 use Rattle.eds_cmd.specs.Pack.{Packs}
 use Rattle.eds_cmd.specs.Reports.{counts_line, usage_line}
-use Rattle.eds_cmd.specs.Stops.{IsStop, limited, missing, refused, status_of}
+use Rattle.eds_cmd.specs.Stops.{IsStop, limited, missing, refused}
 use Rattle.eds_cmd.specs.Target.{TypeIn, type_of}
 use Rattle.eds_cmd.specs.Unpack.{Begins, Unpacks}
 
@@ -62,6 +62,10 @@ accepted files c = sheet_files files 0 c.sheets >>= λ octets. or_refused (compi
 -- the octets of the input file
 abbrev pub input_for : Files → JobWords → Result (List ℕ) Stop
 input_for files job = whole_file files job.input what.Input (input_most job.verb)
+
+-- a report that is no longer than a report may be
+abbrev pub within_report : List ℕ → Result (List ℕ) Stop
+within_report report = if nat_le (length report) report_octets then Ok report else Err (limited what.Report report_octets)
 
 -- ---- the answer
 

@@ -49,6 +49,68 @@ const DEMO: &str =
 [\"ContainerDataType\",{\"name\":\"Hk\",\"baseType\":\"Packet\"},[\"ConstraintSet\",[\"ValueConstraint\",{\"entry\":\"Apid\",\"value\":\"291\"}]],\
 [\"EntryList\",[\"Entry\",{\"name\":\"Temp\",\"type\":\"U16\"}]]]]]]";
 
+// Scalar types of each encoding.
+const SC: &str = "[\"PackageFile\",[\"Package\",{\"name\":\"Sc\"},[\"DataTypeSet\",\
+[\"IntegerDataType\",{\"name\":\"U64\"},[\"IntegerDataEncoding\",{\"sizeInBits\":\"64\",\"encoding\":\"unsigned\"}]],\
+[\"IntegerDataType\",{\"name\":\"SM\"},[\"IntegerDataEncoding\",{\"sizeInBits\":\"8\",\"encoding\":\"signMagnitude\"}]],\
+[\"IntegerDataType\",{\"name\":\"OC\"},[\"IntegerDataEncoding\",{\"sizeInBits\":\"8\",\"encoding\":\"onesComplement\"}]],\
+[\"IntegerDataType\",{\"name\":\"TC\"},[\"IntegerDataEncoding\",{\"sizeInBits\":\"8\",\"encoding\":\"twosComplement\"}]],\
+[\"IntegerDataType\",{\"name\":\"LE\"},[\"IntegerDataEncoding\",{\"sizeInBits\":\"16\",\"encoding\":\"unsigned\",\"byteOrder\":\"littleEndian\"}]],\
+[\"IntegerDataType\",{\"name\":\"PB\"},[\"IntegerDataEncoding\",{\"sizeInBits\":\"16\",\"encoding\":\"packedBCD\"}]],\
+[\"BooleanDataType\",{\"name\":\"BO\"},[\"BooleanDataEncoding\",{\"sizeInBits\":\"8\"}]]]]]";
+
+// Types that say no encoding, digits of eight bits, and a truth value whose zero is true.
+const PLAIN: &str = "[\"PackageFile\",[\"Package\",{\"name\":\"Pl\"},[\"DataTypeSet\",\
+[\"IntegerDataType\",{\"name\":\"I\"}],\
+[\"BooleanDataType\",{\"name\":\"B\"}],\
+[\"IntegerDataType\",{\"name\":\"D\"},[\"IntegerDataEncoding\",{\"sizeInBits\":\"16\",\"encoding\":\"BCD\"}]],\
+[\"BooleanDataType\",{\"name\":\"N\"},[\"BooleanDataEncoding\",{\"sizeInBits\":\"8\",\"falseValue\":\"nonZeroIsFalse\"}]]]]]";
+
+// Sub-ranges, labels and truth values, and containers of them.
+const MIX: &str = "[\"PackageFile\",[\"Package\",{\"name\":\"Mi\"},[\"DataTypeSet\",\
+[\"IntegerDataType\",{\"name\":\"U8\"},[\"IntegerDataEncoding\",{\"sizeInBits\":\"8\",\"encoding\":\"unsigned\"}]],\
+[\"SubRangeDataType\",{\"name\":\"Small\",\"baseType\":\"U8\"},[\"Range\",[\"MinMaxRange\",{\"rangeType\":\"inclusiveMinInclusiveMax\",\"min\":\"10\",\"max\":\"20\"}]]],\
+[\"SubRangeDataType\",{\"name\":\"Tiny\",\"baseType\":\"Small\"},[\"Range\",[\"MinMaxRange\",{\"rangeType\":\"exclusiveMinInclusiveMax\",\"min\":\"12\",\"max\":\"15\"}]]],\
+[\"SubRangeDataType\",{\"name\":\"Wide\",\"baseType\":\"Small\"},[\"Range\",[\"MinMaxRange\",{\"rangeType\":\"atMost\",\"max\":\"100\"}]]],\
+[\"EnumeratedDataType\",{\"name\":\"Flags\"},[\"IntegerDataEncoding\",{\"sizeInBits\":\"2\",\"encoding\":\"unsigned\"}],\
+[\"EnumerationList\",[\"Enumeration\",{\"label\":\"CONT\",\"value\":\"0\"}],[\"Enumeration\",{\"label\":\"FIRST\",\"value\":\"1\"}],\
+[\"Enumeration\",{\"label\":\"LAST\",\"value\":\"2\"}],[\"Enumeration\",{\"label\":\"UNSEG\",\"value\":\"3\"}]]],\
+[\"EnumeratedDataType\",{\"name\":\"Gap\"},[\"IntegerDataEncoding\",{\"sizeInBits\":\"2\",\"encoding\":\"unsigned\"}],\
+[\"EnumerationList\",[\"Enumeration\",{\"label\":\"A\",\"value\":\"0\"}],[\"Enumeration\",{\"label\":\"B\",\"value\":\"2\"}]]],\
+[\"BooleanDataType\",{\"name\":\"Bit\"},[\"BooleanDataEncoding\",{\"sizeInBits\":\"1\"}]],\
+[\"ContainerDataType\",{\"name\":\"Mix\"},[\"EntryList\",[\"Entry\",{\"name\":\"n\",\"type\":\"Tiny\"}],\
+[\"Entry\",{\"name\":\"g\",\"type\":\"Gap\"}],[\"Entry\",{\"name\":\"t\",\"type\":\"Bit\"}]]],\
+[\"ContainerDataType\",{\"name\":\"Other\"},[\"EntryList\",[\"Entry\",{\"name\":\"n\",\"type\":\"Tiny\"}]]]]]]";
+
+// A range in which no number of the encoding lies.
+const EMPTY: &str = "[\"PackageFile\",[\"Package\",{\"name\":\"E\"},[\"DataTypeSet\",\
+[\"IntegerDataType\",{\"name\":\"X\"},[\"IntegerDataEncoding\",{\"sizeInBits\":\"8\",\"encoding\":\"unsigned\"}],\
+[\"Range\",[\"MinMaxRange\",{\"rangeType\":\"inclusiveMinInclusiveMax\",\"min\":\"256\",\"max\":\"400\"}]]]]]]";
+
+// A sub-range that shares no number with its base.
+const APART: &str = "[\"PackageFile\",[\"Package\",{\"name\":\"E\"},[\"DataTypeSet\",\
+[\"IntegerDataType\",{\"name\":\"X\"},[\"IntegerDataEncoding\",{\"sizeInBits\":\"8\",\"encoding\":\"unsigned\"}],\
+[\"Range\",[\"MinMaxRange\",{\"rangeType\":\"lessThan\",\"max\":\"20\"}]]],\
+[\"SubRangeDataType\",{\"name\":\"Y\",\"baseType\":\"X\"},[\"Range\",[\"MinMaxRange\",{\"rangeType\":\"atLeast\",\"min\":\"20\"}]]]]]]";
+
+// Little-endian octets of a size that is no whole number of them.
+const HALF: &str = "[\"PackageFile\",[\"Package\",{\"name\":\"E\"},[\"DataTypeSet\",\
+[\"IntegerDataType\",{\"name\":\"X\"},[\"IntegerDataEncoding\",{\"sizeInBits\":\"12\",\"encoding\":\"unsigned\",\"byteOrder\":\"littleEndian\"}]]]]]";
+
+// Two labels of one value.
+const TWICE: &str = "[\"PackageFile\",[\"Package\",{\"name\":\"E\"},[\"DataTypeSet\",\
+[\"EnumeratedDataType\",{\"name\":\"X\"},[\"EnumerationList\",[\"Enumeration\",{\"label\":\"A\",\"value\":\"1\"}],[\"Enumeration\",{\"label\":\"B\",\"value\":\"1\"}]]]]]]";
+
+// A sub-range that is its own base.
+const CYCLE: &str = "[\"PackageFile\",[\"Package\",{\"name\":\"E\"},[\"DataTypeSet\",\
+[\"SubRangeDataType\",{\"name\":\"X\",\"baseType\":\"X\"},[\"Range\",[\"MinMaxRange\",{\"rangeType\":\"atLeast\",\"min\":\"0\"}]]]]]]";
+
+// A container in a container.
+const NESTED: &str = "[\"PackageFile\",[\"Package\",{\"name\":\"E\"},[\"DataTypeSet\",\
+[\"IntegerDataType\",{\"name\":\"U8\"},[\"IntegerDataEncoding\",{\"sizeInBits\":\"8\",\"encoding\":\"unsigned\"}]],\
+[\"ContainerDataType\",{\"name\":\"In\"},[\"EntryList\",[\"Entry\",{\"name\":\"x\",\"type\":\"U8\"}]]],\
+[\"ContainerDataType\",{\"name\":\"Out\"},[\"EntryList\",[\"Entry\",{\"name\":\"in\",\"type\":\"In\"}]]]]]]";
+
 // A container with a list.
 const LI: &str =
     "[\"PackageFile\",[\"Package\",{\"name\":\"Li\"},[\"DataTypeSet\",[\"IntegerDataType\",{\"name\":\"U4\"},[\"IntegerDataEncoding\",{\"sizeInBits\":\"4\",\"encoding\":\"unsigned\"}]],[\"IntegerDataType\",{\"name\":\"U8\"},[\"IntegerDataEncoding\",{\"sizeInBits\":\"8\",\"encoding\":\"unsigned\"}]],[\"ContainerDataType\",{\"name\":\"L\"},[\"EntryList\",\
@@ -305,7 +367,7 @@ fn sheets_are_judged(rt: HostRuntime) -> Result<(), Fail> {
             DEMO,
             "",
             1,
-            "refused 4 Unsupported at 0:5 BooleanDataType\n",
+            "refused 4 Unsupported at 0:20 abstract\n",
         ),
         (
             "check sheet",
@@ -320,6 +382,56 @@ fn sheets_are_judged(rt: HostRuntime) -> Result<(), Fail> {
             "",
             1,
             "refused 4 Unsupported at 0:7 FixedValueEntry\n",
+        ),
+        (
+            "check sheet",
+            SC,
+            "",
+            0,
+            "accepted types 7 containers 0 interfaces 0 components 0\n",
+        ),
+        (
+            "check sheet",
+            MIX,
+            "",
+            0,
+            "accepted types 9 containers 2 interfaces 0 components 0\n",
+        ),
+        (
+            "check sheet",
+            EMPTY,
+            "",
+            1,
+            "refused 13 EmptyRange at 0:3\n",
+        ),
+        (
+            "check sheet",
+            APART,
+            "",
+            1,
+            "refused 13 EmptyRange at 0:7\n",
+        ),
+        (
+            "check sheet",
+            HALF,
+            "",
+            1,
+            "refused 12 BadEncoding at 0:3\n",
+        ),
+        (
+            "check sheet",
+            TWICE,
+            "",
+            1,
+            "refused 14 BadEnumeration at 0:3\n",
+        ),
+        ("check sheet", CYCLE, "", 1, "refused 15 BaseCycle at 0:3\n"),
+        (
+            "check sheet",
+            NESTED,
+            "",
+            1,
+            "refused 4 Unsupported at 0:10 Entry\n",
         ),
         (
             "check sheet",
@@ -589,6 +701,247 @@ fn values_are_refused(rt: HostRuntime) -> Result<(), Fail> {
         let (got, written) = run(alloc, CALM, words.as_str(), of_texts(MORE, "", value))?;
         assert_eq!(rt; got, number, "{name} of {value}");
         assert_eq!(rt; written.as_slice(), report.as_bytes(), "{name} of {value}");
+    }
+    Ok(())
+}
+
+#[test]
+fn scalars_are_packed_and_read(rt: HostRuntime) -> Result<(), Fail> {
+    let alloc = rt.alloc();
+    let table = [
+        ("pack Sc/SM", "-5", 0, "85\nbits 8\n"),
+        ("pack Sc/OC", "-5", 0, "fa\nbits 8\n"),
+        ("pack Sc/TC", "-5", 0, "fb\nbits 8\n"),
+        ("unpack Sc/SM", "80", 0, "0\nbits 8\n"),
+        ("unpack Sc/OC", "FF", 0, "0\nbits 8\n"),
+        ("unpack Sc/SM", "85", 0, "-5\nbits 8\n"),
+        ("unpack Sc/OC", "fa", 0, "-5\nbits 8\n"),
+        ("unpack Sc/TC", "fb", 0, "-5\nbits 8\n"),
+        ("pack Sc/SM", "-127", 0, "ff\nbits 8\n"),
+        ("pack Sc/SM", "-128", 3, "fault OutOfRange at $\n"),
+        ("pack Sc/OC", "-127", 0, "80\nbits 8\n"),
+        ("pack Sc/OC", "-128", 3, "fault OutOfRange at $\n"),
+        ("pack Sc/TC", "-128", 0, "80\nbits 8\n"),
+        ("pack Sc/TC", "-129", 3, "fault OutOfRange at $\n"),
+        ("pack Sc/TC", "127", 0, "7f\nbits 8\n"),
+        ("pack Sc/TC", "128", 3, "fault OutOfRange at $\n"),
+        ("unpack Sc/LE", "3412", 0, "4660\nbits 16\n"),
+        ("pack Sc/LE", "4660", 0, "3412\nbits 16\n"),
+        ("unpack Sc/PB", "1234", 0, "1234\nbits 16\n"),
+        ("unpack Sc/PB", "12A4", 3, "fault BadDigit at $\n"),
+        ("unpack Sc/PB", "12", 3, "fault Short at $\n"),
+        ("pack Sc/PB", "9999", 0, "9999\nbits 16\n"),
+        ("pack Sc/PB", "10000", 3, "fault OutOfRange at $\n"),
+        ("pack Sc/PB", "-1", 3, "fault OutOfRange at $\n"),
+        ("unpack Sc/BO", "02", 0, "true\nbits 8\n"),
+        ("unpack Sc/BO", "00", 0, "false\nbits 8\n"),
+        ("pack Sc/BO", "true", 0, "01\nbits 8\n"),
+        ("pack Sc/BO", "false", 0, "00\nbits 8\n"),
+        ("pack Sc/BO", "1", 3, "fault WrongShape at $\n"),
+        ("pack Sc/BO", "\"true\"", 3, "fault WrongShape at $\n"),
+        (
+            "unpack Sc/U64",
+            "FFFFFFFFFFFFFFFF",
+            0,
+            "18446744073709551615\nbits 64\n",
+        ),
+    ];
+    for (command, input, number, report) in table {
+        let words = format!(in alloc; "{command} input sheet")?;
+        let (got, written) = run(alloc, CALM, words.as_str(), of_texts(SC, "", input))?;
+        assert_eq!(rt; got, number, "{command} of {input}");
+        assert_eq!(rt;
+            written.as_slice(),
+            report.as_bytes(),
+            "{command} of {input}"
+        );
+    }
+    Ok(())
+}
+
+#[test]
+fn defaults_of_encodings_are_taken(rt: HostRuntime) -> Result<(), Fail> {
+    let alloc = rt.alloc();
+    let table = [
+        ("pack Pl/I", "-1", 0, "ffffffffffffffff\nbits 64\n"),
+        (
+            "unpack Pl/I",
+            "8000000000000000",
+            0,
+            "-9223372036854775808\nbits 64\n",
+        ),
+        (
+            "pack Pl/I",
+            "9223372036854775808",
+            3,
+            "fault OutOfRange at $\n",
+        ),
+        ("pack Pl/B", "true", 0, "01\nbits 8\n"),
+        ("unpack Pl/B", "80", 0, "true\nbits 8\n"),
+        ("pack Pl/D", "45", 0, "0405\nbits 16\n"),
+        ("unpack Pl/D", "0909", 0, "99\nbits 16\n"),
+        ("unpack Pl/D", "090A", 3, "fault BadDigit at $\n"),
+        ("unpack Pl/D", "1909", 3, "fault BadDigit at $\n"),
+        ("pack Pl/D", "100", 3, "fault OutOfRange at $\n"),
+        ("pack Pl/N", "true", 0, "00\nbits 8\n"),
+        ("pack Pl/N", "false", 0, "01\nbits 8\n"),
+        ("unpack Pl/N", "05", 0, "false\nbits 8\n"),
+    ];
+    for (command, input, number, report) in table {
+        let words = format!(in alloc; "{command} input sheet")?;
+        let (got, written) = run(alloc, CALM, words.as_str(), of_texts(PLAIN, "", input))?;
+        assert_eq!(rt; got, number, "{command} of {input}");
+        assert_eq!(rt;
+            written.as_slice(),
+            report.as_bytes(),
+            "{command} of {input}"
+        );
+    }
+    Ok(())
+}
+
+#[test]
+fn sub_ranges_and_labels_are_packed_and_read(rt: HostRuntime) -> Result<(), Fail> {
+    let alloc = rt.alloc();
+    let table = [
+        ("pack Mi/Small", "10", 0, "0a\nbits 8\n"),
+        ("pack Mi/Small", "9", 3, "fault OutOfRange at $\n"),
+        ("unpack Mi/Small", "14", 0, "20\nbits 8\n"),
+        ("unpack Mi/Small", "15", 3, "fault OutOfRange at $\n"),
+        ("pack Mi/Tiny", "12", 3, "fault OutOfRange at $\n"),
+        ("pack Mi/Tiny", "13", 0, "0d\nbits 8\n"),
+        ("pack Mi/Tiny", "15", 0, "0f\nbits 8\n"),
+        ("pack Mi/Tiny", "16", 3, "fault OutOfRange at $\n"),
+        ("unpack Mi/Tiny", "0C", 3, "fault OutOfRange at $\n"),
+        ("unpack Mi/Tiny", "0D", 0, "13\nbits 8\n"),
+        ("unpack Mi/Tiny", "0F", 0, "15\nbits 8\n"),
+        ("unpack Mi/Tiny", "10", 3, "fault OutOfRange at $\n"),
+        ("pack Mi/Wide", "20", 0, "14\nbits 8\n"),
+        ("pack Mi/Wide", "21", 3, "fault OutOfRange at $\n"),
+        ("unpack Mi/Flags", "C0", 0, "\"UNSEG\"\nbits 2\n"),
+        ("unpack Mi/Flags", "3F", 0, "\"CONT\"\nbits 2\n"),
+        ("pack Mi/Flags", "\"LAST\"", 0, "80\nbits 2\n"),
+        ("pack Mi/Flags", "\"last\"", 3, "fault NoLabel at $\n"),
+        ("pack Mi/Flags", "2", 3, "fault WrongShape at $\n"),
+        ("unpack Mi/Gap", "80", 0, "\"B\"\nbits 2\n"),
+        ("unpack Mi/Gap", "40", 3, "fault NoLabel at $\n"),
+        ("unpack Mi/Gap", " ", 3, "fault Short at $\n"),
+        ("pack Mi/Bit", "true", 0, "80\nbits 1\n"),
+    ];
+    for (command, input, number, report) in table {
+        let words = format!(in alloc; "{command} input sheet")?;
+        let (got, written) = run(alloc, CALM, words.as_str(), of_texts(MIX, "", input))?;
+        assert_eq!(rt; got, number, "{command} of {input}");
+        assert_eq!(rt;
+            written.as_slice(),
+            report.as_bytes(),
+            "{command} of {input}"
+        );
+    }
+    Ok(())
+}
+
+#[test]
+fn containers_of_scalars_are_packed_and_read(rt: HostRuntime) -> Result<(), Fail> {
+    let alloc = rt.alloc();
+    let table = [
+        (
+            "pack",
+            "{\"$type\":\"Mi/Mix\",\"g\":\"B\",\"n\":14,\"t\":true}",
+            0,
+            "0ea0\nbits 11\n",
+        ),
+        (
+            "unpack",
+            "0EA0",
+            0,
+            "{\"$type\":\"Mi/Mix\",\"g\":\"B\",\"n\":14,\"t\":true}\nbits 11\n",
+        ),
+        (
+            "unpack",
+            "0F1F",
+            0,
+            "{\"$type\":\"Mi/Mix\",\"g\":\"A\",\"n\":15,\"t\":false}\nbits 11\n",
+        ),
+        ("unpack", "0E60", 3, "fault NoLabel at $.g\n"),
+        ("unpack", "10A0", 3, "fault OutOfRange at $.n\n"),
+        ("unpack", "0CA0", 3, "fault OutOfRange at $.n\n"),
+        ("unpack", "1060", 3, "fault OutOfRange at $.n\n"),
+        ("unpack", "0E", 3, "fault Short at $.g\n"),
+        ("unpack", "0EA000", 3, "fault Trailing at $\n"),
+        (
+            "pack",
+            "{\"g\":\"A\",\"n\":13,\"t\":false}",
+            0,
+            "0d00\nbits 11\n",
+        ),
+        (
+            "pack",
+            "{\"g\":\"C\",\"n\":14,\"t\":true}",
+            3,
+            "fault NoLabel at $.g\n",
+        ),
+        (
+            "pack",
+            "{\"g\":\"B\",\"n\":16,\"t\":true}",
+            3,
+            "fault OutOfRange at $.n\n",
+        ),
+        (
+            "pack",
+            "{\"g\":\"C\",\"n\":16,\"t\":true}",
+            3,
+            "fault OutOfRange at $.n\n",
+        ),
+        (
+            "pack",
+            "{\"g\":2,\"n\":14,\"t\":true}",
+            3,
+            "fault WrongShape at $.g\n",
+        ),
+        (
+            "pack",
+            "{\"g\":\"B\",\"n\":\"14\",\"t\":true}",
+            3,
+            "fault WrongShape at $.n\n",
+        ),
+        (
+            "pack",
+            "{\"g\":\"C\",\"n\":16,\"t\":1}",
+            3,
+            "fault WrongShape at $.t\n",
+        ),
+        (
+            "pack",
+            "{\"g\":\"B\",\"n\":14}",
+            3,
+            "fault WrongShape at $\n",
+        ),
+        ("pack", "\"B\"", 3, "fault WrongShape at $\n"),
+        (
+            "pack",
+            "{\"$type\":\"Mi/Other\",\"n\":13}",
+            3,
+            "fault NotDerived at $<Mi/Other>\n",
+        ),
+        (
+            "pack",
+            "{\"$type\":\"Mi/Other\",\"n\":99}",
+            3,
+            "fault NotDerived at $<Mi/Other>\n",
+        ),
+        (
+            "pack",
+            "{\"$type\":\"Mi/Gap\",\"n\":13}",
+            3,
+            "fault WrongShape at $\n",
+        ),
+    ];
+    for (verb, input, number, report) in table {
+        let words = format!(in alloc; "{verb} Mi/Mix input sheet")?;
+        let (got, written) = run(alloc, CALM, words.as_str(), of_texts(MIX, "", input))?;
+        assert_eq!(rt; got, number, "{verb} of {input}");
+        assert_eq!(rt; written.as_slice(), report.as_bytes(), "{verb} of {input}");
     }
     Ok(())
 }

@@ -11,6 +11,7 @@ ghost use Rattle.eds_cmd.specs.Reports.{read_fault_line as line_of_read_fault};
 
 use crate::command::{Command, command_of};
 use crate::halt::Halt;
+use crate::law::answer_is_one;
 use crate::limits::SHEETS;
 use crate::perform::perform;
 use crate::report::read_fault_line;
@@ -130,6 +131,7 @@ pub fn eds<S: Shelf, K: Sink>(alloc: Global, words: &Words, shelf: &mut S, sink:
         let status = Status::Limit(What::Files, SHEETS as u64);
         return finish(sink, status, TOO_MANY_SHEETS);
     }
+    answer_is_one();
     match concluded(alloc, &command, shelf) {
         Ok(Outcome { status, report }) => finish(sink, status, report.as_str()),
         Err(_) => Status::Memory,

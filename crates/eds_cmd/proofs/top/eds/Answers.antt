@@ -1,7 +1,7 @@
-use Rattle.std.proofs.Common.{◌≡◌, ◌≢◌, ◌∙◌, sym, subst, refl, inl, ⊎_elim, Some, None}
+use Rattle.std.proofs.Common.{◌≡◌, ◌≢◌, ◌∙◌, sym, ap, subst, refl, inl, ⊎_elim, Some, None}
 use Rattle.eds_cmd.specs.declared.status.Status.{Status}
 use Rattle.eds_cmd.specs.declared.status.Status.TheVariants as statuses
-use Rattle.eds_cmd.specs.Command.{command_of, words_of}
+use Rattle.eds_cmd.specs.Command.{CommandWords, command_of, words_of}
 use Rattle.eds_cmd.specs.Outcome.{IsFault}
 use Rattle.eds_cmd.specs.declared.status.What.TheVariants as what
 use Rattle.eds_cmd.specs.Limits.{sheet_count}
@@ -59,6 +59,6 @@ returns-in-Ok-clause-complete g c = λ files words told is valid reads_calm writ
     let same : words_of c.in-Some.command ≡ words = cc some in
     let kept = c.finish-in-Ok.ensures.kept (λ e. writes_calm (c.finish-in-Ok.ensures.cause c.in-Ok.ensures.written e)) in
     ⊎_elim
-    (λ answer. inl (kept ∙ valid_done files (words_of c.in-Some.command) c.in-Ok.field-0.status c.in-Ok.field-0.report (rw same valid) answer))
+    (λ answer. inl (kept ∙ valid_done c.answer_is_one.ensures.one c.args.words.now files (words_of c.in-Some.command) c.in-Ok.field-0.status c.in-Ok.field-0.report (is ∙ ap (λ (w : CommandWords). Some w) (sym same)) (rw same valid) answer))
     (λ unread. absurd (reads_calm unread.name unread.risen))
     (c.in-Ok.ensures.told files told)
