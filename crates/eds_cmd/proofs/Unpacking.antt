@@ -1,6 +1,7 @@
 -- What unpacking a frame comes to, where its first bits spell a value.
 use Rattle.std.proofs.Common.{◌≡◌, ℕ, ◌+◌, ◌≤◌, ◌<◌, List, [], length, take, drop, refl, sym, ◌∙◌, ap, arith, inl, inr}
 use Rattle.std.proofs.lemmas.List.{take-append-drop, length-take-le, length-drop}
+use Rattle.eds_base.specs.declared.fault.Fault.{Fault}
 use Rattle.eds_base.specs.declared.fault.Reason.TheVariants.{Trailing}
 use Rattle.eds_bits.specs.Bits.{Bits}
 use Rattle.eds_types.specs.Plain.{Plain}
@@ -31,13 +32,16 @@ unpacked_by type value size bits report within few spelled is = inl (record {
 })
 
 -- 8 bits or more follow
-pub trailing_by : (type : TypeIn) (value : Plain) (size : ℕ) (bits : Bits) (stop : Stop) → size + 8 ≤ length bits
-    → Spells type.table type.id value (take size bits) → stop ≡ frame_fault type.table Trailing [] → UnpacksBits type bits (status_of stop.cause) stop.report
-trailing_by type value size bits stop many spelled is = inr (inl (record {
-  value = value;
-  front = take size bits;
-  rest = drop size bits;
-  begins = begins type value size bits spelled;
-  many = omega (arith, length-drop size bits);
-  stop = record { status_is = ap (λ (s : Stop). status_of s.cause) is; report_is = ap (λ (s : Stop). s.report) is };
-}))
+pub trailing_by : (type : TypeIn) (value : Plain) (size : ℕ) (bits : Bits) (fault : Fault) (stop : Stop) → size + 8 ≤ length bits
+    → Spells type.table type.id value (take size bits) → fault.reason ≡ Trailing → fault.path ≡ []
+    → stop ≡ frame_fault type.table fault.reason fault.path → UnpacksBits type bits (status_of stop.cause) stop.report
+trailing_by type value size bits fault stop many spelled reason path is =
+    let at_root = rw (reason, path) at is in
+    inr (inl (record {
+      value = value;
+      front = take size bits;
+      rest = drop size bits;
+      begins = begins type value size bits spelled;
+      many = omega (arith, length-drop size bits);
+      stop = record { status_is = ap (λ (s : Stop). status_of s.cause) at_root; report_is = ap (λ (s : Stop). s.report) at_root };
+    }))

@@ -1,6 +1,6 @@
 //! From the text of a frame to the report on its value.
 
-ghost use Rattle.std.specs.Prelude.{◌≡◌, ◌≤◌, IfErr, IfOk, string_bytes, length, take};
+ghost use Rattle.std.specs.Prelude.{◌≡◌, ◌≤◌, [], IfErr, IfOk, string_bytes, length, take};
 ghost use Rattle.eds_base.specs.Answering.{Answers};
 ghost use Rattle.eds_bits.specs.Bits.{Bits, bits_of};
 ghost use Rattle.eds_cmd.specs.Halts.{EndsAs, StopSays};
@@ -24,6 +24,9 @@ use eds_unpack::unpack;
 use eds_value::to_json;
 use std::alloc::Global;
 
+/// The most bits that may follow a value: they fill its last octet.
+const FILLING_BITS: u32 = 7;
+
 #[tactic(auto, unfolding(crate::specs::Unpack::frame_for))]
 fn frame_for(alloc: Global, text: &[u8]) -> Result<Vec<u8>, Fail<Stop>>
     ensures answer { Answers (λ v. v.items) result (frame_in text.now) }
@@ -39,6 +42,17 @@ fn frame_for(alloc: Global, text: &[u8]) -> Result<Vec<u8>, Fail<Stop>>
         }
         Err(Fail::Memory) => Err(Fail::Memory),
         Err(Fail::Named(_)) => Err(Fail::Named(bad_hex(alloc)?)),
+    }
+}
+
+// The fault of a frame that is longer than its value.
+fn trailing() -> Fault
+    ensures reason { result.reason ≡ Reason.Trailing }
+    ensures path { result.path ≡ [] }
+{
+    Fault {
+        reason: Reason::Trailing,
+        path: Path::root(),
     }
 }
 
@@ -68,6 +82,7 @@ fn value_text(alloc: Global, target: &Target<'_>, value: &Value) -> Result<Strin
     let octets = to_json(alloc, target.table, target.id, value)?;
     match String::from_utf8(octets.into_vec()) {
         Ok(text) => Ok(text),
+        // All JSON is UTF-8, so that it never comes to this.
         Err(_) => Err(Memory),
     }
 }
@@ -80,12 +95,8 @@ fn unpacked_frame(alloc: Global, target: &Target<'_>, frame: &[u8]) -> Result<St
 {
     let (value, size) = value_for(alloc, target, frame)?;
     let left = 8 * frame.len() as u32 - size;
-    if left >= 8 {
-        let fault = Fault {
-            reason: Reason::Trailing,
-            path: Path::root(),
-        };
-        return Err(Fail::Named(frame_fault(alloc, target.table, fault)?));
+    if left > FILLING_BITS {
+        return Err(Fail::Named(frame_fault(alloc, target.table, trailing())?));
     }
     let text = value_text(alloc, target, &value)?;
     Ok(bits_report(alloc, text.as_str(), size)?)
