@@ -82,8 +82,7 @@ fn value_text(alloc: Global, target: &Target<'_>, value: &Value) -> Result<Strin
     let octets = to_json(alloc, target.table, target.id, value)?;
     match String::from_utf8(octets.into_vec()) {
         Ok(text) => Ok(text),
-        // All JSON is UTF-8, so that it never comes to this.
-        Err(_) => Err(Memory),
+        Err(_) => unreachable!(),
     }
 }
 
