@@ -5,3 +5,4 @@ pub mod Phases
 pub mod TypePhases
 pub mod CompiledLaws
 pub mod Limits
+pub mod SoundSheets

@@ -4,6 +4,7 @@ ghost use Rattle.std.specs.Prelude.{◌≡◌, ◌↔◌, [], Err, Some, IsOk, o
 ghost use Rattle.eds_base.specs.declared.refusal.Refusal.{Refusal};
 ghost use Rattle.eds_base.specs.Refusals.{least};
 ghost use Rattle.eds_sheet.specs.Compiled.{all_breaks, compiled};
+ghost use Rattle.eds_sheet.specs.Laws.{SheetsAreSound};
 
 use crate::Files;
 
@@ -12,4 +13,10 @@ use crate::Files;
 pub fn refused_for_the_first_break(files: &Files, word: Option<&str>)
     ensures refused { (r : Refusal) → (compiled files.now (option_map (λ w. w.now) word.entry) ≡ Err r) ↔ (least (all_breaks files.now (option_map (λ w. w.now) word.entry)) ≡ Some r) }
     ensures accepted { IsOk (compiled files.now (option_map (λ w. w.now) word.entry)) ↔ (all_breaks files.now (option_map (λ w. w.now) word.entry) ≡ []) }
+{}
+
+/// The table of a sheet that is accepted keeps the rules on types, has scalar types and flat containers alone, and holds the
+/// type that the TYPE word names, where there is such a word.
+pub fn sheets_are_sound()
+    ensures { SheetsAreSound }
 {}

@@ -1,0 +1,51 @@
+-- An accepted sheet is sound.
+use Rattle.std.proofs.Common.{◌≡◌, ℕ, List, Option, Result, Ok, Err, refl, subst}
+use Rattle.eds_base.specs.declared.refusal.Refusal.{Refusal}
+use Rattle.eds_base.specs.Answering.{◌>>=◌}
+use Rattle.eds_tree.specs.declared.tree.Node.{Node}
+use Rattle.eds_tree.specs.ShapeCheck.{shape_verdict}
+use Rattle.eds_names.specs.LookUp.{Names, names_in}
+use Rattle.eds_names.proofs.Differing.{differ}
+use Rattle.eds_types.specs.Rules.{KeepsRules}
+use Rattle.eds_types.specs.FlatTables.{IsFlatTable}
+use Rattle.eds_read_types.specs.declared.table.Typed.{Typed}
+use Rattle.eds_read_types.specs.TableRead.{table_read}
+use Rattle.eds_read_types.proofs.TableFacts.{table_unbroken, table_word}
+use Rattle.eds_read_types.proofs.TableRules.{table_keeps, table_flat}
+use Rattle.eds_sheet.specs.declared.sheet.Sheet.{Sheet}
+use Rattle.eds_sheet.specs.Files.{trees_in}
+use Rattle.eds_sheet.specs.Pending.{pending_verdict}
+use Rattle.eds_sheet.specs.Compiled.{sheet_of, compiled_trees, compiled}
+use Rattle.eds_sheet.specs.Laws.{IsSound, SheetsAreSound}
+use Rattle.eds_sheet.proofs.Limits.{few_types}
+
+-- where two steps give an answer, the first gives one too, and the second gives it from that
+answered : {A B : Type 0} (a : Result A Refusal) (f : A → Result B Refusal) (b : B) → (a >>= f) ≡ Ok b → (x : A) × (a ≡ Ok x) × (f x ≡ Ok b)
+answered (Ok x) f b h = (x, refl, h)
+answered (Err r) f b h = absurd cc
+
+typed-sound : (trees : List (List Node)) (word : Option (List ℕ)) (names : Names) (typed : Typed) → shape_verdict trees ≡ Ok tt → names_in trees ≡ Ok names → table_read trees names word ≡ Ok typed → IsSound word (sheet_of names typed)
+typed-sound trees word names typed shaped named read =
+    let unbroken = table_unbroken trees names word typed read in
+    let known = table_word trees names word typed read in
+    let apart = differ trees names named in
+    let few = few_types trees names shaped named in
+    record {
+      rules = subst (λ (t : Typed). KeepsRules t.table) unbroken.1 (table_keeps trees names word apart few unbroken.0);
+      flat = subst (λ (t : Typed). IsFlatTable t.table) unbroken.1 (table_flat trees names word apart few unbroken.0);
+      named = known.0;
+      asked = known.1;
+    }
+
+trees-sound : (trees : List (List Node)) (word : Option (List ℕ)) (sheet : Sheet) → compiled_trees trees word ≡ Ok sheet → IsSound word sheet
+trees-sound trees word sheet h =
+    let shaped = answered (shape_verdict trees) _ sheet h in
+    let built = answered (pending_verdict trees) _ sheet shaped.2 in
+    let named = answered (names_in trees) _ sheet built.2 in
+    let typed = answered (table_read trees named.0 word) _ sheet named.2 in
+    let is : sheet_of named.0 typed.0 ≡ sheet = cc in
+    subst (IsSound word) is (typed-sound trees word named.0 typed.0 shaped.1 named.1 typed.1)
+
+pub sheets-sound : SheetsAreSound
+unfolding compiled
+sheets-sound files word sheet h = let read = answered (trees_in files) _ sheet h in trees-sound read.0 word sheet read.2
