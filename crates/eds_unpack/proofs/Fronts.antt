@@ -16,8 +16,8 @@ use Rattle.eds_types.specs.Rows.{Table}
 use Rattle.eds_types.specs.Rules.{KeepsRules}
 use Rattle.eds_types.specs.Spelling.{Spells}
 use Rattle.eds_types.proofs.ExactReading.{done, failed, err_is, ok_err, same_ok}
-use Rattle.eds_unpack.specs.Answers.{where_of, IsOfReading, IsMemory, IsValue, StopsAt, IsFault, IfNamed, IfFault}
-use Rattle.eds_unpack.specs.Readers.{Stops, Gives, StopWithin, FaultWithin, sized}
+use Rattle.eds_unpack.specs.Answers.{where_of, IsMemory, IsValue, StopsAt, IsFault, IfNamed, IfFault}
+use Rattle.eds_unpack.specs.Readers.{Stops, Gives, sized}
 use Rattle.eds_unpack.proofs.FlatContainers.{flat_clear}
 
 pub readable : (t : Table) (id : ℕ) → KeepsRules t → IsFlatTable t → id < length t → IsReadable t id
@@ -110,11 +110,3 @@ module _ (law : ReadingIsExact) (t : Table) (id : ℕ) (is : IsReadable t id) (b
   pub only_fault : (r : Result (Value × ℕ) (Fail Fault)) → IsAnswer r → (g : Where) → FailsAt t id b g → IsFault g r
   only_fault (Ok x) h g f = let z = is_sized (plain x.0) x.1 h in absurd (ok_err (read_type t id b) (plain x.0, z.rest) g z.read (fault_is g f))
   only_fault (Err stop) h g f = stops_at stop g h (fault_is g f)
-
-named_reason : (n : ℕ) (stop : Fail Fault) → StopWithin n stop → IfNamed (λ g. IsOfReading g.0) stop
-named_reason n (Named fault) h = h.0
-named_reason n Memory h = tt
-
-pub of_reading : (n : ℕ) (r : Result (Value × ℕ) (Fail Fault)) → FaultWithin n r → IfFault (λ g. IsOfReading g.0) r
-of_reading n (Ok x) h = tt
-of_reading n (Err stop) h = named_reason n stop h

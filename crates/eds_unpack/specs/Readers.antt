@@ -1,5 +1,5 @@
 -- What the parts of the reader give, where memory may run out.
-use Rattle.std.specs.Prelude.{◌≡◌, ℕ, ◌-◌, ◌≤◌, [], ◌∷◌, length, Result, Ok, Err}
+use Rattle.std.specs.Prelude.{◌≡◌, ℕ, ◌-◌, List, length, Result, Ok, Err}
 use Rattle.eds_base.specs.declared.fail.Fail.{Fail}
 use Rattle.eds_base.specs.declared.fail.Fail.TheVariants.{Named, Memory}
 use Rattle.eds_base.specs.declared.fault.Fault.{Fault}
@@ -20,23 +20,20 @@ abbrev pub Gives : {X Y : Type 0} → (X → Y) → Result X (Fail Fault) → Re
 Gives view (Ok x) read = read ≡ Ok (view x)
 Gives view (Err e) read = Stops e read
 
--- a fault for this reason, at the place that is read
-abbrev pub fault_here : Reason → Fail Fault
-fault_here reason = Named (record { reason = reason; path = [] })
+-- what stopped a function, with the path of the fault that it named
+abbrev pub stop_at : List Step → Fail Reason → Fail Fault
+stop_at path (Named reason) = Named (record { reason = reason; path = path })
+stop_at path Memory = Memory
 
--- what stopped reading inside a step, seen from outside it
-abbrev pub stop_inside : Step → Fail Fault → Fail Fault
-stop_inside step (Named fault) = Named (record { reason = fault.reason; path = step ∷ fault.path })
-stop_inside step Memory = Memory
+-- what a function returned, with the path of its fault
+abbrev pub with_path : {X : Type 0} → List Step → Result X (Fail Reason) → Result X (Fail Fault)
+with_path path (Ok x) = Ok x
+with_path path (Err stop) = Err (stop_at path stop)
 
--- the fault has a reason of reading, at most n steps away
-abbrev pub StopWithin : ℕ → Fail Fault → Type 0
-StopWithin n (Named fault) = IsOfReading fault.reason × (length fault.path ≤ n)
-StopWithin n Memory = Unit {0}
-
-abbrev pub FaultWithin : {X : Type 0} → ℕ → Result X (Fail Fault) → Type 0
-FaultWithin n (Ok x) = Unit {0}
-FaultWithin n (Err e) = StopWithin n e
+-- what stops reading: a reason of reading, or want of memory
+abbrev pub StopsReading : Fail Reason → Type 0
+StopsReading (Named reason) = IsOfReading reason
+StopsReading Memory = Unit {0}
 
 -- the value that is read, with its size in place of the bits that are left
 abbrev pub sized : Bits → Read Plain → Result (Plain × ℕ) Where

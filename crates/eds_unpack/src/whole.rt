@@ -9,10 +9,11 @@ ghost use Rattle.eds_types.specs.FlatTables.{IsFlatTable};
 ghost use Rattle.eds_types.specs.Plain.{Plain, plain};
 ghost use Rattle.eds_types.specs.Spelling.{Spells};
 ghost use Rattle.eds_unpack.specs.Answers.{IsOfReading, IsValue, IsFault, IfFault};
-ghost use Rattle.eds_unpack.specs.Readers.{Gives, FaultWithin, sized};
+ghost use Rattle.eds_unpack.specs.Readers.{Gives, sized};
 
+use crate::fault::stop_at;
 use crate::read::read_value;
-use eds_base::{Fail, Fault, TypeId};
+use eds_base::{Fail, Fault, Path, TypeId};
 use eds_bits::{BitReader, BitView};
 use eds_overlap::law::reading_is_exact;
 use eds_types::{TypeTable, Value};
@@ -32,16 +33,21 @@ fn read_front(
     requires flat { IsFlatTable table.now }
     requires most { length (view_bits view) ≤ 524288 }
     ensures gives { Gives (λ x. (plain x.0, x.1)) result (sized (view_bits view.entry) (read_type table.now id.0 (view_bits view.entry))) }
-    ensures near { FaultWithin 32 result }
+    ensures reason { IfFault (λ g. IsOfReading g.0) result }
 {
     table.keeps_rules();
     reading_is_exact();
     let mut reader = BitReader::new(view);
     let all = reader.left();
-    let value = read_value(alloc, table, NESTING, id, &mut reader)?;
-    let left = reader.left();
-    let bits = (all - left) as u32;
-    Ok((value, bits))
+    let mut path = Path::root();
+    match read_value(alloc, table, NESTING, id, &mut path, &mut reader) {
+        Ok(value) => {
+            let left = reader.left();
+            let bits = (all - left) as u32;
+            Ok((value, bits))
+        }
+        Err(stop) => Err(stop_at(path, stop)),
+    }
 }
 
 /// The value of a type that the bits of a view begin with, and how many bits it takes: it is exactly the one that they

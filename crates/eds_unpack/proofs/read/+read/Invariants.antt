@@ -1,4 +1,4 @@
-use Rattle.std.proofs.Common.{◌≡◌, ◌+◌, ◌*◌, ◌≤◌, length, map}
+use Rattle.std.proofs.Common.{◌≡◌, ◌+◌, ◌*◌, ◌≤◌, [], length, map}
 use Rattle.std.specs.List.{AllByRecursion}
 use Rattle.eds_bits.specs.Reader.{bits_left}
 use Rattle.eds_types.specs.FlatTables.{IsScalarEntry}
@@ -26,6 +26,7 @@ abbrev pub invariant-read_entries-loop-rest : goal.invariant-read_entries-loop-r
 invariant-read_entries-loop-rest l = record {
   read : read_entries (read_within l.depth l.table) l.id.0 l.place l.rest (map plain l.values.items, bits_left l.reader) ≡ read_entries (read_within l.depth l.table) l.id.0 0 l.entries (map plain l.fn.values.items, bits_left l.fn.reader);
   entries : AllByRecursion (IsScalarEntry l.table) l.rest;
+  root : l.path ≡ [];
   many : l.place + length l.rest ≤ 32767;
 }
 
