@@ -15,9 +15,9 @@ use Rattle.eds_sheet.specs.declared.sheet.Sheet.{Sheet}
 use Rattle.eds_sheet.specs.Compiled.{compiled}
 use Rattle.eds_sheet.specs.Laws.{IsSound, SheetsAreSound}
 use Rattle.eds_types.specs.Failing.{FailsAt, Where}
-use Rattle.eds_types.specs.Spelling.{Canon, Spells}
 use Rattle.eds_types.specs.Packing.{PackFailsAt, Where as PackWhere, most_bits}
 use Rattle.eds_types.specs.Plain.{Plain}
+use Rattle.eds_types.specs.Spelling.{Canon, Spells}
 use Rattle.eds_unpack.proofs.Fronts.{readable}
 use Rattle.eds_value.specs.declared.fail.ValueFail.{ValueFail}
 use Rattle.eds_value.specs.Json.{value_in}

@@ -5,12 +5,12 @@ ghost use Rattle.std.specs.List.{Contains};
 ghost use Rattle.eds_base.specs.Answering.{Answers};
 ghost use Rattle.eds_io.specs.Counts.{HasRisen};
 ghost use Rattle.eds_io.specs.Files.{Files};
+ghost use Rattle.eds_types.specs.FlatTables.{IsFlatTable};
 ghost use Rattle.eds_sheet.specs.Compiled.{compiled};
 ghost use Rattle.eds_cmd.specs.Answer.{AnswersFew, DoesBy, IsReached, IsReachedSheet, Works, accepted, input_for as input_of, or_refused, sheet_file as sheet_of_name, sheet_files as sheets_of_names, whole_file as whole, within_report as within_limit};
 ghost use Rattle.eds_cmd.specs.Command.{ReadsFile, job_words, words_of};
 ghost use Rattle.eds_cmd.specs.Halts.{Comes, ConcludesAs, EndsAs, OnUnread};
 ghost use Rattle.eds_cmd.specs.Target.{IsKnown, type_in};
-ghost use Rattle.eds_types.specs.FlatTables.{IsFlatTable};
 
 use crate::command::{Command, Job, Verb, input_most};
 use crate::halt::Halt;

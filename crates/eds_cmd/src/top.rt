@@ -131,6 +131,7 @@ pub fn eds<S: Shelf, K: Sink>(alloc: Global, words: &Words, shelf: &mut S, sink:
         let status = Status::Limit(What::Files, SHEETS as u64);
         return finish(sink, status, TOO_MANY_SHEETS);
     }
+    // No other answer stands beside that of a valid command.
     answer_is_one();
     match concluded(alloc, &command, shelf) {
         Ok(Outcome { status, report }) => finish(sink, status, report.as_str()),
