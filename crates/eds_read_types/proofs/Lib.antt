@@ -9,7 +9,7 @@ mod BaseSteps
 mod NumberSteps
 mod TableLeast
 mod RowSteps
-mod TableFacts
+pub mod TableFacts
 pub mod FlatRules
 pub mod ChainFacts
 pub mod NumberFacts
