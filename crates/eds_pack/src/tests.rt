@@ -249,7 +249,8 @@ fn census(rt: &impl Abort, alloc: Global, table: &TypeTable, id: TypeId) -> Resu
     for value in values.iter() {
         packs_as_spelled(rt, alloc, table, id, value)?;
     }
-    for number in -300..300i128 {
+    for count in 0..600u32 {
+        let number = i128::from(count).wrapping_sub(300);
         let packs = conforms(table, id, &Value::Num(number));
         assert_eq!(rt;
             packs,
@@ -293,8 +294,8 @@ fn numbers_of_sixteen_bits_pack_into_their_patterns(rt: HostRuntime) -> Result<(
     let table = flat_table(alloc)?;
     for (id, step) in [(PACKED, 10), (LITTLE, 65)] {
         assert!(rt; id.0 < table.len());
-        for count in 0..1000i128 {
-            let value = Value::Num(count.wrapping_mul(step));
+        for count in 0..1000u32 {
+            let value = Value::Num(i128::from(count).wrapping_mul(step));
             packs_as_spelled(&rt, alloc, &table, id, &value)?;
         }
     }
