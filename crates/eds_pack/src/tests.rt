@@ -1,7 +1,12 @@
+ghost use Rattle.std.specs.Prelude.{◌<◌, length};
+ghost use Rattle.eds_types.specs.FlatTables.{IsFlatTable};
+
 use crate::{PackFail, conforms, pack, pack_into, packed_bits};
 use eds_base::{Memory, Step, Text, TypeId};
-use eds_types::{PackReason, Value, flat_table};
+use eds_types::slow::{Slow, Spelling, bits_of};
+use eds_types::{PackReason, TypeTable, Value, flat_table};
 use std::alloc::Global;
+use std::process::Abort;
 use std::test::Fail;
 
 const SIGNED: TypeId = TypeId(0);
@@ -12,7 +17,13 @@ const TWOS: TypeId = TypeId(2);
 
 const PACKED: TypeId = TypeId(3);
 
+const PACKED_DIGIT: TypeId = TypeId(4);
+
 const DIGIT: TypeId = TypeId(5);
+
+const NIBBLE: TypeId = TypeId(7);
+
+const TWELVE: TypeId = TypeId(8);
 
 const LITTLE: TypeId = TypeId(9);
 
@@ -29,6 +40,10 @@ const MODE: TypeId = TypeId(14);
 const WORD: TypeId = TypeId(15);
 
 const STATE: TypeId = TypeId(16);
+
+const STATUS: TypeId = TypeId(17);
+
+const NAMED: TypeId = TypeId(18);
 
 /// A value in short.
 #[derive(Clone, Copy)]
@@ -183,6 +198,106 @@ fn wants_room_for_each_octet(rt: HostRuntime) -> Result<(), Fail> {
             assert_eq!(rt; bits, 12);
         }
         Err(_) => assert!(rt; false),
+    }
+    Ok(())
+}
+
+// ---- against the plain program
+
+// The bits of the packed value spell it, and zeros fill the last octet.
+fn packs_as_spelled(
+    rt: &impl Abort,
+    alloc: Global,
+    table: &TypeTable,
+    id: TypeId,
+    value: &Value,
+) -> Result<(), Fail>
+    requires known { id.0 < length table.now }
+    requires flat { IsFlatTable table.now }
+{
+    let Ok((octets, size)) = pack(alloc, table, id, value) else {
+        return Err("a value does not pack".into());
+    };
+    assert_eq!(rt; packed_bits(table, id, value).ok(), Some(size), "{id:?}");
+    assert_eq!(rt; octets.len(), size.div_ceil(8) as usize, "{id:?}");
+    let bits = bits_of(alloc, octets.as_slice())?;
+    let spelling = bits.get(..size as usize).unwrap_or(&[]);
+    let rest = bits.get(size as usize..).unwrap_or(&[]);
+    let slow = Slow::of_table(alloc, table, Spelling::Canonical);
+    assert!(rt; slow.spells(id, value, spelling)?, "{id:?} {spelling:?}");
+    assert!(rt; !rest.contains(&true), "{id:?} {spelling:?}");
+    Ok(())
+}
+
+fn has_number(values: &[Value], number: i128) -> bool {
+    for value in values {
+        if let Value::Num(n) = value {
+            if *n == number {
+                return true;
+            }
+        }
+    }
+    false
+}
+
+// How many values the type has. Each packs into its spelling, and of other small numbers none packs.
+fn census(rt: &impl Abort, alloc: Global, table: &TypeTable, id: TypeId) -> Result<usize, Fail>
+    requires known { id.0 < length table.now }
+    requires flat { IsFlatTable table.now }
+{
+    let values = Slow::of_table(alloc, table, Spelling::Canonical).values(id)?;
+    for value in values.iter() {
+        packs_as_spelled(rt, alloc, table, id, value)?;
+    }
+    for count in 0..600u32 {
+        let number = i128::from(count).wrapping_sub(300);
+        let packs = conforms(table, id, &Value::Num(number));
+        assert_eq!(rt;
+            packs,
+            has_number(values.as_slice(), number),
+            "{id:?} {number}"
+        );
+    }
+    Ok(values.len())
+}
+
+#[test]
+fn values_pack_into_their_spellings(rt: HostRuntime) -> Result<(), Fail> {
+    let alloc = rt.alloc();
+    let table = flat_table(alloc)?;
+    for (id, values) in [
+        // zero has two patterns in the first two encodings
+        (SIGNED, 255),
+        (ONES, 255),
+        (TWOS, 256),
+        (PACKED_DIGIT, 10),
+        (DIGIT, 10),
+        (NIBBLE, 16),
+        (TWELVE, 4096),
+        (LEVEL, 7),
+        (BIT, 2),
+        (TRUTH, 2),
+        (MODE, 4),
+        (STATE, 4 * 255),
+        (STATUS, 7 * 2 * 4),
+        (NAMED, 256),
+    ] {
+        assert!(rt; id.0 < table.len());
+        assert_eq!(rt; census(&rt, alloc, &table, id)?, values, "{id:?}");
+    }
+    Ok(())
+}
+
+#[test]
+fn numbers_of_sixteen_bits_pack_into_their_patterns(rt: HostRuntime) -> Result<(), Fail> {
+    let alloc = rt.alloc();
+    let table = flat_table(alloc)?;
+    for (id, step) in [(PACKED, 10), (LITTLE, 65)] {
+        assert!(rt; id.0 < table.len());
+        for count in 0..1000u32 {
+            let value = Value::Num(i128::from(count).wrapping_mul(step));
+            packs_as_spelled(&rt, alloc, &table, id, &value)?;
+        }
     }
     Ok(())
 }

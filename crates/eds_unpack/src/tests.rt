@@ -3,16 +3,24 @@ ghost use Rattle.eds_types.specs.FlatTables.{IsFlatTable};
 use crate::unpack;
 use eds_base::{Fail, Fault, Memory, Reason, Step, TypeId};
 use eds_bits::BitView;
+use eds_types::slow::{Slow, Spelling, bits_of, pattern};
 use eds_types::{TypeTable, Value, flat_table};
 use std::alloc::Global;
+use std::process::Abort;
 
 const SIGNED: u32 = 0;
 
 const INVERTED: u32 = 1;
 
+const TWOS: u32 = 2;
+
 const PACKED: u32 = 3;
 
+const PACKED_DIGIT: u32 = 4;
+
 const DIGIT: u32 = 5;
+
+const NIBBLE: u32 = 7;
 
 const LITTLE: u32 = 9;
 
@@ -28,7 +36,28 @@ const MODE: u32 = 14;
 
 const STATUS: u32 = 17;
 
-/// What the octets begin with; want of memory where the type isn't there.
+const NAMED: u32 = 18;
+
+/// What the octets begin with behind some bits; want of memory where the type or so many bits aren't there.
+fn read_behind(
+    alloc: Global,
+    table: &TypeTable,
+    id: u32,
+    octets: &[u8],
+    bits: u64,
+) -> Result<(Value, u32), Fail<Fault>>
+    requires { IsFlatTable table.now }
+{
+    if table.len() <= id || octets.len() > 65_536 {
+        return Err(Fail::Memory);
+    }
+    if bits > 8 * octets.len() as u64 {
+        return Err(Fail::Memory);
+    }
+    unpack(alloc, table, TypeId(id), BitView::new(octets).after(bits))
+}
+
+/// What the octets begin with.
 fn read(
     alloc: Global,
     table: &TypeTable,
@@ -37,10 +66,7 @@ fn read(
 ) -> Result<(Value, u32), Fail<Fault>>
     requires { IsFlatTable table.now }
 {
-    if table.len() <= id || octets.len() > 65_536 {
-        return Err(Fail::Memory);
-    }
-    unpack(alloc, table, TypeId(id), BitView::new(octets))
+    read_behind(alloc, table, id, octets, 0)
 }
 
 /// The number of a value, 0 or 1 for a truth value.
@@ -147,6 +173,134 @@ fn a_container_has_a_value_for_each_entry(rt: HostRuntime) -> Result<(), Memory>
             }
         }
         _ => assert!(rt; false),
+    }
+    Ok(())
+}
+
+// ---- against the plain program
+
+// Whether the bits spell a value of the list.
+fn is_spelled(slow: &Slow, id: u32, values: &[Value], bits: &[bool]) -> Result<bool, Memory> {
+    for value in values {
+        if slow.spells(TypeId(id), value, bits)? {
+            return Ok(true);
+        }
+    }
+    Ok(false)
+}
+
+// For each string of so many bits, how many of them at its front spell a value, from those of the strings that are a bit
+// shorter.
+fn longer_fronts(
+    alloc: Global,
+    slow: &Slow,
+    id: u32,
+    values: &[Value],
+    size: u32,
+    shorter: &[Option<u32>],
+) -> Result<Vec<Option<u32>>, Memory> {
+    let mut fronts = Vec::new(alloc);
+    for number in 0..1u64 << size.min(16) {
+        let bits = pattern(alloc, size as usize, number)?;
+        let mut front = None;
+        if let Some(before) = shorter.get(number as usize / 2) {
+            front = *before;
+        }
+        if front.is_none() && is_spelled(slow, id, values, bits.as_slice())? {
+            front = Some(size);
+        }
+        fronts.push(front)?;
+    }
+    Ok(fronts)
+}
+
+// Reads so many last bits of two octets, of which the front spells a value, or none does.
+fn is_read_as_spelled(
+    rt: &impl Abort,
+    alloc: Global,
+    table: &TypeTable,
+    id: u32,
+    octets: [u8; 2],
+    size: u32,
+    front: Option<u32>,
+) -> Result<(), Memory>
+    requires { IsFlatTable table.now }
+{
+    let others = 16u64.wrapping_sub(u64::from(size));
+    match read_behind(alloc, table, id, &octets, others) {
+        Ok((value, taken)) => {
+            assert_eq!(rt; Some(taken), front, "{id} {octets:?} {size}");
+            let bits = bits_of(alloc, &octets)?;
+            let from = others as usize;
+            let bits = bits.get(from..from.wrapping_add(taken as usize));
+            let slow = Slow::of_table(alloc, table, Spelling::Any);
+            let spells = slow.spells(TypeId(id), &value, bits.unwrap_or(&[]))?;
+            assert!(rt; spells, "{id} {octets:?} {size}");
+            Ok(())
+        }
+        Err(Fail::Named(_)) => {
+            assert_eq!(rt; front, None, "{id} {octets:?} {size}");
+            Ok(())
+        }
+        Err(Fail::Memory) => Err(Memory),
+    }
+}
+
+// How many strings of at most ten bits begin with a value of the type. Each is read as that value, and no other is read.
+fn census(rt: &impl Abort, alloc: Global, table: &TypeTable, id: u32) -> Result<u32, Memory>
+    requires { IsFlatTable table.now }
+{
+    let slow = Slow::of_table(alloc, table, Spelling::Any);
+    let values = slow.values(TypeId(id))?;
+    let mut fronts = Vec::new(alloc);
+    let mut count = 0u32;
+    for size in 0..11u32 {
+        fronts = longer_fronts(alloc, &slow, id, values.as_slice(), size, fronts.as_slice())?;
+        for (number, front) in fronts.iter().enumerate() {
+            let octets = u16::try_from(number).unwrap_or(u16::MAX).to_be_bytes();
+            is_read_as_spelled(rt, alloc, table, id, octets, size, *front)?;
+            if front.is_some() {
+                count = count.wrapping_add(1);
+            }
+        }
+    }
+    Ok(count)
+}
+
+#[test]
+fn fronts_of_eight_bits_are_read_as_they_spell(rt: HostRuntime) -> Result<(), Memory> {
+    let alloc = rt.alloc();
+    let table = flat_table(alloc)?;
+    for (id, strings) in [
+        // at most two bits follow
+        (SIGNED, 256 * 7),
+        (INVERTED, 256 * 7),
+        (TWOS, 256 * 7),
+        (DIGIT, 10 * 7),
+        (TRUTH, 256 * 7),
+        (NAMED, 256 * 7),
+    ] {
+        assert_eq!(rt; census(&rt, alloc, &table, id)?, strings, "{id}");
+    }
+    Ok(())
+}
+
+#[test]
+fn other_fronts_are_read_as_they_spell(rt: HostRuntime) -> Result<(), Memory> {
+    let alloc = rt.alloc();
+    let table = flat_table(alloc)?;
+    for (id, strings) in [
+        // four bits and at most six behind them: of a digit, of any number, of a range, and of labels
+        (PACKED_DIGIT, 10 * 127),
+        (NIBBLE, 16 * 127),
+        (LEVEL, 7 * 127),
+        (MODE, 4 * 127),
+        // both patterns of one bit, and at most nine behind it
+        (BIT, 2 * 1023),
+        // a level, a bit and a mode, and at most one bit behind them
+        (STATUS, 7 * 2 * 4 * 3),
+    ] {
+        assert_eq!(rt; census(&rt, alloc, &table, id)?, strings, "{id}");
     }
     Ok(())
 }
