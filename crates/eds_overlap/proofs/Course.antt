@@ -13,14 +13,14 @@ use Rattle.eds_bits.specs.Bits.{Bits, octets_for}
 use Rattle.eds_bits.specs.Style.{any}
 use Rattle.eds_types.proofs.ChainLaws.{chain_end, child_is, child_of, chain_length, under_in}
 use Rattle.eds_types.proofs.ExactReading.{same_ok, ok_err, Is}
-use Rattle.eds_types.proofs.PartReading.{PartGood, part_exact}
+use Rattle.eds_types.proofs.PartReading.{PartGood, entry_exact}
 use Rattle.eds_types.proofs.ReadingTests.{holds_from, holds_in, found_is, none_is}
-use Rattle.eds_types.specs.Failing.{Station, condition, entry, choice, end, later, own, course, Where, behind, path_steps, length_step, StationPasses, StationFails, PartFails}
-use Rattle.eds_types.specs.Fields.{IsUnder, IsCandidate}
+use Rattle.eds_types.specs.Failing.{Station, condition, entry, choice, end, later, own, course, Where, behind, path_steps, length_path, StationPasses, StationFails, EntryPasses, EntryFails}
+use Rattle.eds_types.specs.Fields.{IsAtOrUnder, IsCandidate}
 use Rattle.eds_types.specs.Plain.{Plain}
-use Rattle.eds_types.specs.Reading.{Read, Ends, ◌>>=◌, inside, read_part, read_parts, check_all, holds, candidate_under, stay, nowhere, under, next_of, size_fits, finish, read_own, trailers_up, read_chain, go_on, read_under, read_to_end}
+use Rattle.eds_types.specs.Reading.{Read, Ends, ◌>>=◌, read_entry, read_parts, check_all, holds, candidate_under, stay, nowhere, under, next_of, size_fits, finish, read_own, trailers_up, read_chain, go_on, read_under, read_to_end}
 use Rattle.eds_types.specs.Rows.{Table, chain, is_concrete, constraints_of, Placed, placed_entries, placed_trailers, id_of}
-use Rattle.eds_types.specs.Spelling.{State, started, PartPasses}
+use Rattle.eds_types.specs.Spelling.{Progress, started, PartPasses}
 use Rattle.eds_types.specs.Tables.{IsTable}
 
 pub bind_assoc : {A B C : Type 0} (r : Result A Where) (f : A → Result B Where) (g : B → Result C Where) → ((r >>= f) >>= g) ≡ (r >>= λ x. f x >>= g)
@@ -35,11 +35,11 @@ pub same_tail : (a : List ℕ) (ys zs : List ℕ) → a ++ ys ≡ a ++ zs → ys
 same_tail [] ys zs e = e
 same_tail (c ∷ a) ys zs e = let q : a ++ ys ≡ a ++ zs = cc in same_tail a ys zs q
 
-module _ (t : Table) (Each : ℕ → Plain → Bits → Type 0) (Fails : ℕ → Bits → Where → Type 0) where
+module _ (t : Table) (SpellsInner : ℕ → Plain → Bits → Type 0) (FailsInner : ℕ → Bits → Where → Type 0) where
   -- how going through stations of x ends
-  abbrev pub Runs : ℕ → List Station → List Station → State → Bits → Ends → Type 0
-  Runs x all [] s b r = r ≡ Ok (x, s, b)
-  Runs x all (p ∷ ps) s b r = ((g : Where) × StationFails t Each Fails x all s p b g × (r ≡ Err g)) ⊎ ((m : State) × (c : Bits) × (d : Bits) × (b ≡ c ++ d) × StationPasses t Each x s p m c × Runs x all ps m d r)
+  abbrev pub Runs : ℕ → List Station → Progress → Bits → Ends → Type 0
+  Runs x [] s b r = r ≡ Ok (x, s, b)
+  Runs x (p ∷ ps) s b r = ((g : Where) × StationFails t SpellsInner FailsInner x s p b g × (r ≡ Err g)) ⊎ ((m : Progress) × (c : Bits) × (d : Bits) × (b ≡ c ++ d) × StationPasses t SpellsInner x s p m c × Runs x ps m d r)
 
   abbrev pub tail : ℕ → List Station
   tail x = map entry (flat_map (placed_trailers t) (reverse (chain t x))) ++ end ∷ []
@@ -49,50 +49,50 @@ module _ (t : Table) (Each : ℕ → Plain → Bits → Type 0) (Fails : ℕ →
 
   module _ (read : ℕ → Bits → Read Plain) where
     abbrev pub Good : Placed → Type 0
-    Good p = PartGood t read Each Fails p.part
+    Good p = PartGood t read SpellsInner FailsInner p.part
 
-    pub parts_from : (x : ℕ) (all more : List Station) (ps : List Placed) (s : State) (b : Bits) (k : State × Bits → Ends) → AllByRecursion Good ps
-        → ((v : State × Bits) → read_parts read ps s b ≡ Ok v → Runs x all more v.0 v.1 (k v)) → Runs x all (map entry ps ++ more) s b (read_parts read ps s b >>= k)
+    pub parts_from : (x : ℕ) (more : List Station) (ps : List Placed) (s : Progress) (b : Bits) (k : Progress × Bits → Ends) → AllByRecursion Good ps
+        → ((v : Progress × Bits) → read_parts t read ps s b ≡ Ok v → Runs x more v.0 v.1 (k v)) → Runs x (map entry ps ++ more) s b (read_parts t read ps s b >>= k)
     unfolding read_parts
-    parts_from x all more [] s b k good h = h (s, b) refl
-    parts_from x all more (p ∷ ps) s b k good h = go (read_part read s p p.part b) ((part_exact t read Each Fails s p p.part good.0).from b) h (λ m d. parts_from x all more ps m d k good.1)
+    parts_from x more [] s b k good h = h (s, b) refl
+    parts_from x more (p ∷ ps) s b k good h = go (read_entry t read s p b) ((entry_exact t read SpellsInner FailsInner s p good.0).from b) h (λ m d. parts_from x more ps m d k good.1)
       where
-        go : (r : Read State) → Is (PartPasses any t Each s p p.part) (PartFails t Each Fails s p.part) b r → ((v : State × Bits) → (inside (step.Part (id_of p.container) p.place) r >>= λ v. read_parts read ps v.0 v.1) ≡ Ok v → Runs x all more v.0 v.1 (k v))
-            → ((m : State) (d : Bits) → ((v : State × Bits) → read_parts read ps m d ≡ Ok v → Runs x all more v.0 v.1 (k v)) → Runs x all (map entry ps ++ more) m d (read_parts read ps m d >>= k))
-            → Runs x all (map entry (p ∷ ps) ++ more) s b ((inside (step.Part (id_of p.container) p.place) r >>= λ v. read_parts read ps v.0 v.1) >>= k)
+        go : (r : Read Progress) → Is (EntryPasses t SpellsInner s p) (EntryFails t SpellsInner FailsInner s p) b r → ((v : Progress × Bits) → (r >>= λ v. read_parts t read ps v.0 v.1) ≡ Ok v → Runs x more v.0 v.1 (k v))
+            → ((m : Progress) (d : Bits) → ((v : Progress × Bits) → read_parts t read ps m d ≡ Ok v → Runs x more v.0 v.1 (k v)) → Runs x (map entry ps ++ more) m d (read_parts t read ps m d >>= k))
+            → Runs x (map entry (p ∷ ps) ++ more) s b ((r >>= λ v. read_parts t read ps v.0 v.1) >>= k)
         go (Ok v) i h ih = inr (v.0, i.front, v.1, i.is, i.has, ih v.0 v.1 h)
-        go (Err g) i h ih = inl (behind (step.Part (id_of p.container) p.place) g, (g, i, refl), refl)
+        go (Err g) i h ih = inl (g, i, refl)
 
-    conditions_from : (x y : ℕ) (all more : List Station) (cs : List Condition) (s : State) (b : Bits) (r : Ends) → (check_all t cs s.fields ≡ Ok tt → Runs x all more s b r) → Runs x all (map (condition y) cs ++ more) s b (check_all t cs s.fields >>= λ u. r)
+    conditions_from : (x y : ℕ) (more : List Station) (cs : List Condition) (s : Progress) (b : Bits) (r : Ends) → (check_all t cs s.fields ≡ Ok tt → Runs x more s b r) → Runs x (map (condition y) cs ++ more) s b (check_all t cs s.fields >>= λ u. r)
     unfolding check_all
-    conditions_from x y all more [] s b r h = h refl
-    conditions_from x y all more (c ∷ cs) s b r h = go (holds t s.fields c) refl h (conditions_from x y all more cs s b r)
+    conditions_from x y more [] s b r h = h refl
+    conditions_from x y more (c ∷ cs) s b r h = go (holds t s.fields c) refl h (conditions_from x y more cs s b r)
       where
-        go : (q : Bool) → holds t s.fields c ≡ q → (cond q (check_all t cs s.fields) (Err (Constraint, path_steps c.path)) ≡ Ok tt → Runs x all more s b r)
-            → ((check_all t cs s.fields ≡ Ok tt → Runs x all more s b r) → Runs x all (map (condition y) cs ++ more) s b (check_all t cs s.fields >>= λ u. r))
-            → Runs x all (map (condition y) (c ∷ cs) ++ more) s b (cond q (check_all t cs s.fields) (Err (Constraint, path_steps c.path)) >>= λ u. r)
+        go : (q : Bool) → holds t s.fields c ≡ q → (cond q (check_all t cs s.fields) (Err (Constraint, path_steps c.path)) ≡ Ok tt → Runs x more s b r)
+            → ((check_all t cs s.fields ≡ Ok tt → Runs x more s b r) → Runs x (map (condition y) cs ++ more) s b (check_all t cs s.fields >>= λ u. r))
+            → Runs x (map (condition y) (c ∷ cs) ++ more) s b (cond q (check_all t cs s.fields) (Err (Constraint, path_steps c.path)) >>= λ u. r)
         go true e h ih = inr (s, [], b, refl, (refl, refl, holds_from t s.fields c e), ih h)
         go false e h ih = inl ((Constraint, path_steps c.path), ((λ h. both_ways (holds t s.fields c) e (holds_in t s.fields c h)), refl), refl)
 
-    own_from : (x y : ℕ) (all more : List Station) (s : State) (b : Bits) (k : State × Bits → Ends) → AllByRecursion Good (placed_entries t y)
-        → ((v : State × Bits) → read_own t read y s b ≡ Ok v → Runs x all more v.0 v.1 (k v)) → Runs x all (own t y ++ more) s b (read_own t read y s b >>= k)
-    own_from x y all more s b k good h =
+    own_from : (x y : ℕ) (more : List Station) (s : Progress) (b : Bits) (k : Progress × Bits → Ends) → AllByRecursion Good (placed_entries t y)
+        → ((v : Progress × Bits) → read_own t read y s b ≡ Ok v → Runs x more v.0 v.1 (k v)) → Runs x (own t y ++ more) s b (read_own t read y s b >>= k)
+    own_from x y more s b k good h =
         let checks = check_all t (constraints_of t y) s.fields in
-        let parts = read_parts read (placed_entries t y) s b in
-        subst (λ l. Runs x all l s b ((checks >>= λ u. parts) >>= k)) (sym (append_assoc (map (condition y) (constraints_of t y)) (map entry (placed_entries t y)) more))
-        (subst (Runs x all (map (condition y) (constraints_of t y) ++ (map entry (placed_entries t y) ++ more)) s b) (sym (bind_assoc checks (λ u. parts) k))
-        (conditions_from x y all (map entry (placed_entries t y) ++ more) (constraints_of t y) s b (parts >>= k)
-        (λ e. parts_from x all more (placed_entries t y) s b k good (λ v ev. h v (ap (λ z. z >>= λ u. parts) e ∙ ev)))))
+        let parts = read_parts t read (placed_entries t y) s b in
+        subst (λ l. Runs x l s b ((checks >>= λ u. parts) >>= k)) (sym (append_assoc (map (condition y) (constraints_of t y)) (map entry (placed_entries t y)) more))
+        (subst (Runs x (map (condition y) (constraints_of t y) ++ (map entry (placed_entries t y) ++ more)) s b) (sym (bind_assoc checks (λ u. parts) k))
+        (conditions_from x y (map entry (placed_entries t y) ++ more) (constraints_of t y) s b (parts >>= k)
+        (λ e. parts_from x more (placed_entries t y) s b k good (λ v ev. h v (ap (λ z. z >>= λ u. parts) e ∙ ev)))))
 
-    chain_from : (x : ℕ) (all more : List Station) (ys : List ℕ) (s : State) (b : Bits) (k : State × Bits → Ends) → AllByRecursion (λ y. AllByRecursion Good (placed_entries t y)) ys
-        → ((v : State × Bits) → read_chain t read ys s b ≡ Ok v → Runs x all more v.0 v.1 (k v)) → Runs x all (flat_map (own t) ys ++ more) s b (read_chain t read ys s b >>= k)
+    chain_from : (x : ℕ) (more : List Station) (ys : List ℕ) (s : Progress) (b : Bits) (k : Progress × Bits → Ends) → AllByRecursion (λ y. AllByRecursion Good (placed_entries t y)) ys
+        → ((v : Progress × Bits) → read_chain t read ys s b ≡ Ok v → Runs x more v.0 v.1 (k v)) → Runs x (flat_map (own t) ys ++ more) s b (read_chain t read ys s b >>= k)
     unfolding read_chain
-    chain_from x all more [] s b k good h = h (s, b) refl
-    chain_from x all more (y ∷ ys) s b k good h =
-        subst (λ l. Runs x all l s b ((read_own t read y s b >>= λ v. read_chain t read ys v.0 v.1) >>= k)) (sym (append_assoc (own t y) (flat_map (own t) ys) more))
-        (subst (Runs x all (own t y ++ (flat_map (own t) ys ++ more)) s b) (sym (bind_assoc (read_own t read y s b) (λ v. read_chain t read ys v.0 v.1) k))
-        (own_from x y all (flat_map (own t) ys ++ more) s b (λ v. read_chain t read ys v.0 v.1 >>= k) good.0
-        (λ v e. chain_from x all more ys v.0 v.1 k good.1 (λ w ew. h w (ap (λ z. z >>= λ v. read_chain t read ys v.0 v.1) e ∙ ew)))))
+    chain_from x more [] s b k good h = h (s, b) refl
+    chain_from x more (y ∷ ys) s b k good h =
+        subst (λ l. Runs x l s b ((read_own t read y s b >>= λ v. read_chain t read ys v.0 v.1) >>= k)) (sym (append_assoc (own t y) (flat_map (own t) ys) more))
+        (subst (Runs x (own t y ++ (flat_map (own t) ys ++ more)) s b) (sym (bind_assoc (read_own t read y s b) (λ v. read_chain t read ys v.0 v.1) k))
+        (own_from x y (flat_map (own t) ys ++ more) s b (λ v. read_chain t read ys v.0 v.1 >>= k) good.0
+        (λ v e. chain_from x more ys v.0 v.1 k good.1 (λ w ew. h w (ap (λ z. z >>= λ v. read_chain t read ys v.0 v.1) e ∙ ew)))))
 
     pub fits_is : (o : Option ℤ) (b : Bits) → size_fits o b ≡ true → IfSome o (λ n. n ≡ pos (octets_for (length b)))
     fits_is None b e = tt
@@ -102,29 +102,29 @@ module _ (t : Table) (Each : ℕ → Plain → Bits → Type 0) (Fails : ℕ →
     is_fit None b h = refl
     is_fit (Some n) b h = (Decides-int_eq n (pos (octets_for (length b)))).1 h
 
-    tail_from : (x : ℕ) (all : List Station) (s : State) (b : Bits) → AllByRecursion Good (trailers_up t read x) → Runs x all (tail x) s b (read_parts read (trailers_up t read x) s b >>= finish x (length_step all))
-    tail_from x all s b good = parts_from x all (end ∷ []) (trailers_up t read x) s b (finish x (length_step all)) good (λ v e. go v (size_fits (v.0).octets (v.0).before) refl)
+    tail_from : (x : ℕ) (s : Progress) (b : Bits) → AllByRecursion Good (trailers_up t read x) → Runs x (tail x) s b (read_parts t read (trailers_up t read x) s b >>= finish x (length_path t x))
+    tail_from x s b good = parts_from x (end ∷ []) (trailers_up t read x) s b (finish x (length_path t x)) good (λ v e. go v (size_fits (v.0).octets (v.0).before) refl)
       where
-        go : (v : State × Bits) (q : Bool) → size_fits (v.0).octets (v.0).before ≡ q → Runs x all (end ∷ []) v.0 v.1 (cond q (Ok (x, v.0, v.1)) (Err (LengthDiffers, length_step all)))
+        go : (v : Progress × Bits) (q : Bool) → size_fits (v.0).octets (v.0).before ≡ q → Runs x (end ∷ []) v.0 v.1 (cond q (Ok (x, v.0, v.1)) (Err (LengthDiffers, length_path t x)))
         go v true e = inr (v.0, [], v.1, refl, (refl, refl, fits_is (v.0).octets (v.0).before e), refl)
-        go v false e = inl ((LengthDiffers, length_step all), ((λ h. both_ways (size_fits (v.0).octets (v.0).before) e (is_fit (v.0).octets (v.0).before h)), refl), refl)
+        go v false e = inl ((LengthDiffers, length_path t x), ((λ h. both_ways (size_fits (v.0).octets (v.0).before) e (is_fit (v.0).octets (v.0).before h)), refl), refl)
 
     -- the parts of all containers above a container under the top are good
     pub record Family (top : ℕ) : Type 0 where
-      pub entries : (k : ℕ) → IsUnder t top k → AllByRecursion (λ y. AllByRecursion Good (placed_entries t y)) (chain t k)
-      pub trailers : (k : ℕ) → IsUnder t top k → AllByRecursion Good (trailers_up t read k)
+      pub entries : (k : ℕ) → IsAtOrUnder t top k → AllByRecursion (λ y. AllByRecursion Good (placed_entries t y)) (chain t k)
+      pub trailers : (k : ℕ) → IsAtOrUnder t top k → AllByRecursion Good (trailers_up t read k)
 
     module _ (is : IsTable t) (top : ℕ) (family : Family top) where
-      pub record Below (y : ℕ) (s : State) (b : Bits) (r : Ends) : Type 0 where
+      pub record Below (y : ℕ) (s : Progress) (b : Bits) (r : Ends) : Type 0 where
         pub x : ℕ
         pub zs : List ℕ
         pub chain_is : chain t x ≡ chain t y ++ zs
-        pub runs : Runs x (course t top x) (choice y ∷ (later t zs ++ tail x)) s b r
+        pub runs : Runs x (choice y ∷ (later t zs ++ tail x)) s b r
 
-      pub under_top : (y : ℕ) (ws : List ℕ) → chain t y ≡ chain t top ++ ws → IsUnder t top y
+      pub under_top : (y : ℕ) (ws : List ℕ) → chain t y ≡ chain t top ++ ws → IsAtOrUnder t top y
       under_top y ws e = under_in t is top y ws e
 
-      pub last_good : (z : ℕ) → IsUnder t top z → AllByRecursion Good (placed_entries t z)
+      pub last_good : (z : ℕ) → IsAtOrUnder t top z → AllByRecursion Good (placed_entries t z)
       last_good z u =
           let e = chain_end t is z in
           let all = subst (AllByRecursion (λ y. AllByRecursion Good (placed_entries t y))) e.1 (family.entries z u) in (back e.0 all)
@@ -133,8 +133,8 @@ module _ (t : Table) (Each : ℕ → Plain → Bits → Type 0) (Fails : ℕ →
           back [] h = h.0
           back (x ∷ front) h = back front h.1
 
-      goes_below : (then : ℕ → State → Bits → Ends) (y z l : ℕ) (zs ws : List ℕ) (s : State) (b : Bits) → chain t y ≡ chain t top ++ ws → chain t l ≡ chain t y ++ z ∷ zs → IsCandidate t y l s.fields → ((m : State) (d : Bits) → Below z m d (then z m d)) → Below y s b (read_parts read (placed_entries t z) s b >>= λ v. then z v.0 v.1)
-      goes_below then y z l zs ws s b e el c ih = go (read_parts read (placed_entries t z) s b) refl
+      goes_below : (then : ℕ → Progress → Bits → Ends) (y z l : ℕ) (zs ws : List ℕ) (s : Progress) (b : Bits) → chain t y ≡ chain t top ++ ws → chain t l ≡ chain t y ++ z ∷ zs → IsCandidate t y l s.fields → ((m : Progress) (d : Bits) → Below z m d (then z m d)) → Below y s b (read_parts t read (placed_entries t z) s b >>= λ v. then z v.0 v.1)
+      goes_below then y z l zs ws s b e el c ih = go (read_parts t read (placed_entries t z) s b) refl
         where
           chain_z : chain t z ≡ chain t y ++ z ∷ []
           chain_z = (child_is t is y z l zs el).0
@@ -142,10 +142,10 @@ module _ (t : Table) (Each : ℕ → Plain → Bits → Type 0) (Fails : ℕ →
           good : AllByRecursion Good (placed_entries t z)
           good = last_good z (under_top z (ws ++ z ∷ []) (chain_z ∙ ap (λ c. c ++ z ∷ []) e ∙ append_assoc (chain t top) ws (z ∷ [])))
 
-          under_z : IsUnder t z l
+          under_z : IsAtOrUnder t z l
           under_z = under_in t is z l zs (el ∙ sym (append_assoc (chain t y) (z ∷ []) zs) ∙ ap (λ c. c ++ zs) (sym chain_z))
 
-          made : (x : ℕ) (more : List ℕ) → chain t x ≡ chain t z ++ more → Runs x (course t top x) (map entry (placed_entries t z) ++ (choice z ∷ (later t more ++ tail x))) s b (read_parts read (placed_entries t z) s b >>= λ v. then z v.0 v.1) → Below y s b (read_parts read (placed_entries t z) s b >>= λ v. then z v.0 v.1)
+          made : (x : ℕ) (more : List ℕ) → chain t x ≡ chain t z ++ more → Runs x (map entry (placed_entries t z) ++ (choice z ∷ (later t more ++ tail x))) s b (read_parts t read (placed_entries t z) s b >>= λ v. then z v.0 v.1) → Below y s b (read_parts t read (placed_entries t z) s b >>= λ v. then z v.0 v.1)
           made x more ex runs =
               let ex' : chain t x ≡ chain t y ++ z ∷ more = ex ∙ ap (λ c. c ++ more) chain_z ∙ append_assoc (chain t y) (z ∷ []) more in
               record {
@@ -158,23 +158,23 @@ module _ (t : Table) (Each : ℕ → Plain → Bits → Type 0) (Fails : ℕ →
                   b,
                   refl,
                   (refl, refl, inl (record { candidate = l; is = c; child = z; towards = (more, ex'); under = under_z })),
-                  subst (λ q. Runs x (course t top x) q s b (read_parts read (placed_entries t z) s b >>= λ v. then z v.0 v.1)) (sym (later_is z more (tail x))) runs,
+                  subst (λ q. Runs x q s b (read_parts t read (placed_entries t z) s b >>= λ v. then z v.0 v.1)) (sym (later_is z more (tail x))) runs,
                 );
               }
 
-          go : (r : Read State) → read_parts read (placed_entries t z) s b ≡ r → Below y s b (read_parts read (placed_entries t z) s b >>= λ v. then z v.0 v.1)
+          go : (r : Read Progress) → read_parts t read (placed_entries t z) s b ≡ r → Below y s b (read_parts t read (placed_entries t z) s b >>= λ v. then z v.0 v.1)
           go (Ok v) q =
               let below = ih v.0 v.1 in
-              made below.x below.zs below.chain_is (parts_from below.x (course t top below.x) (choice z ∷ (later t below.zs ++ tail below.x)) (placed_entries t z) s b (λ v. then z v.0 v.1) good
-              (λ w ew. subst (λ (u : State × Bits). Runs below.x (course t top below.x) (choice z ∷ (later t below.zs ++ tail below.x)) u.0 u.1 (then z u.0 u.1)) (same_ok (read_parts read (placed_entries t z) s b) v w q ew) below.runs))
-          go (Err g) q = made z [] (sym (append-nil (chain t z))) (parts_from z (course t top z) (choice z ∷ (later t [] ++ tail z)) (placed_entries t z) s b (λ v. then z v.0 v.1) good (λ w ew. absurd (ok_err (read_parts read (placed_entries t z) s b) w g ew q)))
+              made below.x below.zs below.chain_is (parts_from below.x (choice z ∷ (later t below.zs ++ tail below.x)) (placed_entries t z) s b (λ v. then z v.0 v.1) good
+              (λ w ew. subst (λ (u : Progress × Bits). Runs below.x (choice z ∷ (later t below.zs ++ tail below.x)) u.0 u.1 (then z u.0 u.1)) (same_ok (read_parts t read (placed_entries t z) s b) v w q ew) below.runs))
+          go (Err g) q = made z [] (sym (append-nil (chain t z))) (parts_from z (choice z ∷ (later t [] ++ tail z)) (placed_entries t z) s b (λ v. then z v.0 v.1) good (λ w ew. absurd (ok_err (read_parts t read (placed_entries t z) s b) w g ew q)))
 
-      stays : (y : ℕ) (ws : List ℕ) (s : State) (b : Bits) (then : ℕ → State → Bits → Ends) → chain t y ≡ chain t top ++ ws → candidate_under t y s.fields ≡ None → (q : Bool) → is_concrete t y ≡ q → Below y s b (go_on t read top then y s b (cond q stay nowhere))
+      stays : (y : ℕ) (ws : List ℕ) (s : Progress) (b : Bits) (then : ℕ → Progress → Bits → Ends) → chain t y ≡ chain t top ++ ws → candidate_under t y s.fields ≡ None → (q : Bool) → is_concrete t y ≡ q → Below y s b (go_on t read top then y s b (cond q stay nowhere))
       stays y ws s b then e none true c = record {
         x = y;
         zs = [];
         chain_is = sym (append-nil (chain t y));
-        runs = inr (s, [], b, refl, (refl, refl, inr (refl, c, λ l ne u h. none_is t y s.fields none l ne h)), tail_from y (course t top y) s b (family.trailers y (under_top y ws e)));
+        runs = inr (s, [], b, refl, (refl, refl, inr (refl, c, λ l ne u h. none_is t y s.fields none l ne h)), tail_from y s b (family.trailers y (under_top y ws e)));
       }
       stays y ws s b then e none false c = record {
         x = y;
@@ -183,12 +183,12 @@ module _ (t : Table) (Each : ℕ → Plain → Bits → Type 0) (Fails : ℕ →
         runs = inl ((NoDerived, step.Choice (id_of y) ∷ []), (refl, c, (λ l h. elim (cases_eq l y) [ inl q ↦ both_ways (is_concrete t l) (ap (is_concrete t) q ∙ c) h.concrete | inr ne ↦ none_is t y s.fields none l ne h ]), refl), refl);
       }
 
-      under_from : (n y : ℕ) (ws : List ℕ) (s : State) (b : Bits) → chain t y ≡ chain t top ++ ws → 16 < length (chain t y) + n → Below y s b (read_under t read top n y s b)
+      under_from : (n y : ℕ) (ws : List ℕ) (s : Progress) (b : Bits) → chain t y ≡ chain t top ++ ws → 16 < length (chain t y) + n → Below y s b (read_under t read top n y s b)
       unfolding read_under
       under_from zero y ws s b e lt = absurd (omega (arith, chain_length 16 t y))
       under_from (suc n) y ws s b e lt = go (candidate_under t y s.fields) refl (λ z wz m d ez lz. under_from n z wz m d ez lz)
         where
-          go : (o : Option ℕ) → candidate_under t y s.fields ≡ o → ((z : ℕ) (wz : List ℕ) (m : State) (d : Bits) → chain t z ≡ chain t top ++ wz → 16 < length (chain t z) + n → Below z m d (read_under t read top n z m d)) → Below y s b (go_on t read top (read_under t read top n) y s b (next_of t y o))
+          go : (o : Option ℕ) → candidate_under t y s.fields ≡ o → ((z : ℕ) (wz : List ℕ) (m : Progress) (d : Bits) → chain t z ≡ chain t top ++ wz → 16 < length (chain t z) + n → Below z m d (read_under t read top n z m d)) → Below y s b (go_on t read top (read_under t read top n) y s b (next_of t y o))
           go None found ih = stays y ws s b (read_under t read top n) e found (is_concrete t y) refl
           go (Some l) found ih =
               let h = found_is t y s.fields l found in
@@ -201,8 +201,8 @@ module _ (t : Table) (Each : ℕ → Plain → Bits → Type 0) (Fails : ℕ →
 
       pub record Run (b : Bits) (r : Ends) : Type 0 where
         pub x : ℕ
-        pub under : IsUnder t top x
-        pub runs : Runs x (course t top x) (course t top x) started b r
+        pub under : IsAtOrUnder t top x
+        pub runs : Runs x (course t top x) started b r
 
       pub course_is : (x : ℕ) (zs : List ℕ) → chain t x ≡ chain t top ++ zs → flat_map (own t) (chain t top) ++ (choice top ∷ (later t zs ++ tail x)) ≡ course t top x
       course_is x zs e = ap (λ q. flat_map (own t) (chain t top) ++ (choice top ∷ (later t q ++ tail x))) (sym (ap (drop (length (chain t top))) e ∙ drop-append_seam (chain t top) zs))
@@ -213,7 +213,7 @@ module _ (t : Table) (Each : ℕ → Plain → Bits → Type 0) (Fails : ℕ →
           nil : chain t top ≡ chain t top ++ []
           nil = sym (append-nil (chain t top))
 
-          then : State × Bits → Ends
+          then : Progress × Bits → Ends
           then v = read_under t read top 16 top v.0 v.1
 
           deep : 16 < length (chain t top) + 16
@@ -222,12 +222,12 @@ module _ (t : Table) (Each : ℕ → Plain → Bits → Type 0) (Fails : ℕ →
           good : AllByRecursion (λ y. AllByRecursion Good (placed_entries t y)) (chain t top)
           good = family.entries top (under_top top [] nil)
 
-          made : (x : ℕ) (zs : List ℕ) → chain t x ≡ chain t top ++ zs → Runs x (course t top x) (flat_map (own t) (chain t top) ++ (choice top ∷ (later t zs ++ tail x))) started b (read_chain t read (chain t top) started b >>= then) → Run b (read_to_end t read top b)
-          made x zs e runs = record { x = x; under = under_top x zs e; runs = subst (λ q. Runs x (course t top x) q started b (read_to_end t read top b)) (course_is x zs e) runs }
+          made : (x : ℕ) (zs : List ℕ) → chain t x ≡ chain t top ++ zs → Runs x (flat_map (own t) (chain t top) ++ (choice top ∷ (later t zs ++ tail x))) started b (read_chain t read (chain t top) started b >>= then) → Run b (read_to_end t read top b)
+          made x zs e runs = record { x = x; under = under_top x zs e; runs = subst (λ q. Runs x q started b (read_to_end t read top b)) (course_is x zs e) runs }
 
-          go : (r : Read State) → read_chain t read (chain t top) started b ≡ r → Run b (read_to_end t read top b)
+          go : (r : Read Progress) → read_chain t read (chain t top) started b ≡ r → Run b (read_to_end t read top b)
           go (Ok v) q =
               let below = under_from 16 top [] v.0 v.1 nil deep in
-              made below.x below.zs below.chain_is (chain_from below.x (course t top below.x) (choice top ∷ (later t below.zs ++ tail below.x)) (chain t top) started b then good
-              (λ w ew. subst (λ (u : State × Bits). Runs below.x (course t top below.x) (choice top ∷ (later t below.zs ++ tail below.x)) u.0 u.1 (then u)) (same_ok (read_chain t read (chain t top) started b) v w q ew) below.runs))
-          go (Err g) q = made top [] nil (chain_from top (course t top top) (choice top ∷ (later t [] ++ tail top)) (chain t top) started b then good (λ w ew. absurd (ok_err (read_chain t read (chain t top) started b) w g ew q)))
+              made below.x below.zs below.chain_is (chain_from below.x (choice top ∷ (later t below.zs ++ tail below.x)) (chain t top) started b then good
+              (λ w ew. subst (λ (u : Progress × Bits). Runs below.x (choice top ∷ (later t below.zs ++ tail below.x)) u.0 u.1 (then u)) (same_ok (read_chain t read (chain t top) started b) v w q ew) below.runs))
+          go (Err g) q = made top [] nil (chain_from top (choice top ∷ (later t [] ++ tail top)) (chain t top) started b then good (λ w ew. absurd (ok_err (read_chain t read (chain t top) started b) w g ew q)))

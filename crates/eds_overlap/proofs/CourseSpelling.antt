@@ -12,14 +12,14 @@ use Rattle.eds_types.proofs.ChainLaws.{same_chain, under_is, child_is, longer}
 use Rattle.eds_types.proofs.FieldKeys.{Holds-more, Holds-before, NotAbove, FieldNotAbove, PartNotAbove, later_trailers}
 use Rattle.eds_types.proofs.Grown.{grown}
 use Rattle.eds_types.specs.Failing.{Station, condition, entry, choice, end, later, own, course, GoesOn, NoneUnder, Where, Passes}
-use Rattle.eds_types.specs.Fields.{Field, values_of, Holds, IsUnder, IsCandidate, StartsAbove, constraints_along}
+use Rattle.eds_types.specs.Fields.{Field, values_of, Holds, IsAtOrUnder, IsCandidate, StartsInEntries, constraints_along}
 use Rattle.eds_types.specs.Plain.{Plain}
 use Rattle.eds_types.specs.Rows.{Table, chain, is_concrete, constraints_of, Placed, placed_entries, placed_trailers, sequence}
-use Rattle.eds_types.specs.Spelling.{State, started, PartsPass, SizeFits, ContainerSpells}
+use Rattle.eds_types.specs.Spelling.{Progress, started, PartsPass, SizeFits, ContainerSpells}
 use Rattle.eds_types.specs.Tables.{IsTable}
 use Rattle.eds_types.proofs.AllOf.{All-weaker, All-both, All-front, All-back, All-apply}
 
-module _ (t : Table) (Each : ℕ → Plain → Bits → Type 0) where
+module _ (t : Table) (SpellsInner : ℕ → Plain → Bits → Type 0) where
   anywhere : (ps : List Placed) → AllByRecursion (λ (p : Placed). Unit {0}) ps
   anywhere [] = tt
   anywhere (p ∷ ps) = (tt, anywhere ps)
@@ -64,95 +64,95 @@ module _ (t : Table) (Each : ℕ → Plain → Bits → Type 0) where
       ∙ ap (λ w. w ++ parts (later t zs)) (parts-append (map entry (placed_entries t z)) (choice z ∷ []) ∙ ap (λ w. w ++ []) (parts-entries (placed_entries t z)) ∙ append-nil (placed_entries t z))
       ∙ ap (λ w. placed_entries t z ++ w) (parts-later zs)
 
-  parts-rest : (Fails : ℕ → Bits → Where → Type 0) (x y : ℕ) (zs : List ℕ) → parts (choice y ∷ (later t zs ++ tail t Each Fails x)) ≡ flat_map (placed_entries t) zs ++ flat_map (placed_trailers t) (reverse (chain t x))
+  parts-rest : (FailsInner : ℕ → Bits → Where → Type 0) (x y : ℕ) (zs : List ℕ) → parts (choice y ∷ (later t zs ++ tail t SpellsInner FailsInner x)) ≡ flat_map (placed_entries t) zs ++ flat_map (placed_trailers t) (reverse (chain t x))
   unfolding parts
-  parts-rest Fails x y zs =
-      parts-append (later t zs) (tail t Each Fails x) ∙ ap (λ w. w ++ parts (tail t Each Fails x)) (parts-later zs)
+  parts-rest FailsInner x y zs =
+      parts-append (later t zs) (tail t SpellsInner FailsInner x) ∙ ap (λ w. w ++ parts (tail t SpellsInner FailsInner x)) (parts-later zs)
       ∙ ap (λ w. flat_map (placed_entries t) zs ++ w) (parts-append (map entry (flat_map (placed_trailers t) (reverse (chain t x)))) (end ∷ []) ∙ append-nil (parts (map entry (flat_map (placed_trailers t) (reverse (chain t x))))) ∙ parts-entries (flat_map (placed_trailers t) (reverse (chain t x))))
 
   -- what is passed holds the parts
-  gather : (x : ℕ) (ss : List Station) (s u : State) (b : Bits) → Passes t Each x s ss u b → PartsPass any t Each s (parts ss) u b
+  gather : (x : ℕ) (ss : List Station) (s u : Progress) (b : Bits) → Passes t SpellsInner x s ss u b → PartsPass any t SpellsInner s (parts ss) u b
   unfolding parts
   gather x [] s u b h = h
   gather x (condition y c ∷ ss) s u b h = skip h.3 (h.4).0 (h.4).1 (gather x ss h.0 u h.2 h.5)
     where
-      skip : b ≡ h.1 ++ h.2 → h.0 ≡ s → h.1 ≡ [] → PartsPass any t Each h.0 (parts ss) u h.2 → PartsPass any t Each s (parts ss) u b
-      skip e es ec k = subst (λ z. PartsPass any t Each s (parts ss) u z) (sym (e ∙ ap (λ z. z ++ h.2) ec)) (subst (λ z. PartsPass any t Each z (parts ss) u h.2) es k)
-  gather x (entry p ∷ ss) s u b h = (h.0, h.1, h.2, h.3, h.4, gather x ss h.0 u h.2 h.5)
+      skip : b ≡ h.1 ++ h.2 → h.0 ≡ s → h.1 ≡ [] → PartsPass any t SpellsInner h.0 (parts ss) u h.2 → PartsPass any t SpellsInner s (parts ss) u b
+      skip e es ec k = subst (λ z. PartsPass any t SpellsInner s (parts ss) u z) (sym (e ∙ ap (λ z. z ++ h.2) ec)) (subst (λ z. PartsPass any t SpellsInner z (parts ss) u h.2) es k)
+  gather x (entry p ∷ ss) s u b h = (h.0, h.1, h.2, h.3, (h.4).0, gather x ss h.0 u h.2 h.5)
   gather x (choice y ∷ ss) s u b h = skip h.3 (h.4).0 (h.4).1 (gather x ss h.0 u h.2 h.5)
     where
-      skip : b ≡ h.1 ++ h.2 → h.0 ≡ s → h.1 ≡ [] → PartsPass any t Each h.0 (parts ss) u h.2 → PartsPass any t Each s (parts ss) u b
-      skip e es ec k = subst (λ z. PartsPass any t Each s (parts ss) u z) (sym (e ∙ ap (λ z. z ++ h.2) ec)) (subst (λ z. PartsPass any t Each z (parts ss) u h.2) es k)
+      skip : b ≡ h.1 ++ h.2 → h.0 ≡ s → h.1 ≡ [] → PartsPass any t SpellsInner h.0 (parts ss) u h.2 → PartsPass any t SpellsInner s (parts ss) u b
+      skip e es ec k = subst (λ z. PartsPass any t SpellsInner s (parts ss) u z) (sym (e ∙ ap (λ z. z ++ h.2) ec)) (subst (λ z. PartsPass any t SpellsInner z (parts ss) u h.2) es k)
   gather x (end ∷ ss) s u b h = skip h.3 (h.4).0 (h.4).1 (gather x ss h.0 u h.2 h.5)
     where
-      skip : b ≡ h.1 ++ h.2 → h.0 ≡ s → h.1 ≡ [] → PartsPass any t Each h.0 (parts ss) u h.2 → PartsPass any t Each s (parts ss) u b
-      skip e es ec k = subst (λ z. PartsPass any t Each s (parts ss) u z) (sym (e ∙ ap (λ z. z ++ h.2) ec)) (subst (λ z. PartsPass any t Each z (parts ss) u h.2) es k)
+      skip : b ≡ h.1 ++ h.2 → h.0 ≡ s → h.1 ≡ [] → PartsPass any t SpellsInner h.0 (parts ss) u h.2 → PartsPass any t SpellsInner s (parts ss) u b
+      skip e es ec k = subst (λ z. PartsPass any t SpellsInner s (parts ss) u z) (sym (e ∙ ap (λ z. z ++ h.2) ec)) (subst (λ z. PartsPass any t SpellsInner z (parts ss) u h.2) es k)
 
   -- ---- from what is passed to the spelling
 
-  holds_on : (x : ℕ) (ss : List Station) (s u : State) (b : Bits) (c : Condition) → Passes t Each x s ss u b → Holds t s.fields c → Holds t u.fields c
+  holds_on : (x : ℕ) (ss : List Station) (s u : Progress) (b : Bits) (c : Condition) → Passes t SpellsInner x s ss u b → Holds t s.fields c → Holds t u.fields c
   holds_on x ss s u b c h k =
-      let g = grown any t Each (λ y i. Unit {0}) (parts ss) s u b (anywhere (parts ss)) (gather x ss s u b h) in
+      let g = grown any t SpellsInner (λ y i. Unit {0}) (parts ss) s u b (anywhere (parts ss)) (gather x ss s u b h) in
       subst (λ fs. Holds t fs c) (sym g.1) (Holds-more t s.fields g.0 c k)
 
-  conditions_hold : (x y : ℕ) (more : List Station) (cs : List Condition) (s u : State) (b : Bits) → Passes t Each x s (map (condition y) cs ++ more) u b → AllByRecursion (Holds t u.fields) cs × Passes t Each x s more u b
+  conditions_hold : (x y : ℕ) (more : List Station) (cs : List Condition) (s u : Progress) (b : Bits) → Passes t SpellsInner x s (map (condition y) cs ++ more) u b → AllByRecursion (Holds t u.fields) cs × Passes t SpellsInner x s more u b
   conditions_hold x y more [] s u b h = (tt, h)
   conditions_hold x y more (c ∷ cs) s u b h =
       let rest = conditions_hold x y more cs h.0 u h.2 h.5 in
-      let now = holds_on x (map (condition y) cs ++ more) h.0 u h.2 c h.5 (subst (λ (z : State). Holds t z.fields c) (sym (h.4).0) (h.4).2) in
-      ((now, rest.0), subst (λ z. Passes t Each x s more u z) (sym (h.3 ∙ ap (λ z. z ++ h.2) (h.4).1)) (subst (λ z. Passes t Each x z more u h.2) (h.4).0 rest.1))
+      let now = holds_on x (map (condition y) cs ++ more) h.0 u h.2 c h.5 (subst (λ (z : Progress). Holds t z.fields c) (sym (h.4).0) (h.4).2) in
+      ((now, rest.0), subst (λ z. Passes t SpellsInner x s more u z) (sym (h.3 ∙ ap (λ z. z ++ h.2) (h.4).1)) (subst (λ z. Passes t SpellsInner x z more u h.2) (h.4).0 rest.1))
 
-  past_entries : (x : ℕ) (more : List Station) (ps : List Placed) (s u : State) (b : Bits) → Passes t Each x s (map entry ps ++ more) u b → (m : State) × (d : Bits) × Passes t Each x m more u d
+  past_entries : (x : ℕ) (more : List Station) (ps : List Placed) (s u : Progress) (b : Bits) → Passes t SpellsInner x s (map entry ps ++ more) u b → (m : Progress) × (d : Bits) × Passes t SpellsInner x m more u d
   past_entries x more [] s u b h = (s, b, h)
   past_entries x more (p ∷ ps) s u b h = past_entries x more ps h.0 u h.2 h.5
 
-  chain_holds : (x : ℕ) (more : List Station) (ys : List ℕ) (s u : State) (b : Bits) → Passes t Each x s (flat_map (own t) ys ++ more) u b → AllByRecursion (Holds t u.fields) (flat_map (constraints_of t) ys) × ((m : State) × (d : Bits) × Passes t Each x m more u d)
+  chain_holds : (x : ℕ) (more : List Station) (ys : List ℕ) (s u : Progress) (b : Bits) → Passes t SpellsInner x s (flat_map (own t) ys ++ more) u b → AllByRecursion (Holds t u.fields) (flat_map (constraints_of t) ys) × ((m : Progress) × (d : Bits) × Passes t SpellsInner x m more u d)
   chain_holds x more [] s u b h = (tt, (s, b, h))
   chain_holds x more (y ∷ ys) s u b h =
       let rest = flat_map (own t) ys ++ more in
-      let h' = subst (λ l. Passes t Each x s l u b) (append_assoc (own t y) (flat_map (own t) ys) more ∙ append_assoc (map (condition y) (constraints_of t y)) (map entry (placed_entries t y)) rest) h in
+      let h' = subst (λ l. Passes t SpellsInner x s l u b) (append_assoc (own t y) (flat_map (own t) ys) more ∙ append_assoc (map (condition y) (constraints_of t y)) (map entry (placed_entries t y)) rest) h in
       let one = conditions_hold x y (map entry (placed_entries t y) ++ rest) (constraints_of t y) s u b h' in
       let two = past_entries x rest (placed_entries t y) s u b one.1 in
       let three = chain_holds x more ys two.0 u two.1 two.2 in
       (All-both (Holds t u.fields) (constraints_of t y) (flat_map (constraints_of t) ys) one.0 three.0, three.1)
 
-  module _ (is : IsTable t) (Fails : ℕ → Bits → Where → Type 0) where
+  module _ (is : IsTable t) (FailsInner : ℕ → Bits → Where → Type 0) where
     -- the constraints of a type hold where it has a candidate below
     child_holds : (x z l : ℕ) (more : List ℕ) (fs : List Field) → chain t l ≡ chain t x ++ z ∷ more → IsCandidate t x l fs → AllByRecursion (Holds t fs) (constraints_of t z)
     child_holds x z l more fs e h =
         let base = (child_is t is x z l more e).1 in
-        let P : Condition → Type 0 = λ c. StartsAbove t x c.path → Holds t fs c in
+        let P : Condition → Type 0 = λ c. StartsInEntries t x c.path → Holds t fs c in
         let all : AllByRecursion P (flat_map (constraints_of t) (chain t x) ++ (constraints_of t z ++ flat_map (constraints_of t) more)) = subst (AllByRecursion P) (ap (flat_map (constraints_of t)) e ∙ flat_map-append (constraints_of t) (chain t x) (z ∷ more)) h.holds in
         let back = All-back P (flat_map (constraints_of t) (chain t x)) (constraints_of t z ++ flat_map (constraints_of t) more) all in
-        All-apply (λ (c : Condition). StartsAbove t x c.path) (Holds t fs) (constraints_of t z) (All-front P (constraints_of t z) (flat_map (constraints_of t) more) back) (is.conditions z x base)
+        All-apply (λ (c : Condition). StartsInEntries t x c.path) (Holds t fs) (constraints_of t z) (All-front P (constraints_of t z) (flat_map (constraints_of t) more) back) (is.conditions z x base)
 
     -- a candidate in the end was one at the choice
     candidate_before : (x l : ℕ) (fs gs : List Field) → AllByRecursion (FieldNotAbove t x) gs → IsCandidate t x l (fs ++ gs) → IsCandidate t x l fs
-    candidate_before x l fs gs a h = record { concrete = h.concrete; under = h.under; holds = All-weaker (λ (c : Condition). StartsAbove t x c.path → Holds t (fs ++ gs) c) (λ (c : Condition). StartsAbove t x c.path → Holds t fs c) (λ c k s. Holds-before t x fs gs c a s (k s)) (constraints_along t l) h.holds }
+    candidate_before x l fs gs a h = record { concrete = h.concrete; under = h.under; holds = All-weaker (λ (c : Condition). StartsInEntries t x c.path → Holds t (fs ++ gs) c) (λ (c : Condition). StartsInEntries t x c.path → Holds t fs c) (λ c k s. Holds-before t x fs gs c a s (k s)) (constraints_along t l) h.holds }
 
-    pub record Rest (x : ℕ) (zs : List ℕ) (u : State) : Type 0 where
+    pub record Rest (x : ℕ) (zs : List ℕ) (u : Progress) : Type 0 where
       pub constraints : AllByRecursion (Holds t u.fields) (flat_map (constraints_of t) zs)
       pub concrete : IsTrue (is_concrete t x)
-      pub none : (l : ℕ) → l ≢ x → IsUnder t x l → IsCandidate t x l u.fields → ⊥
+      pub none : (l : ℕ) → l ≢ x → IsAtOrUnder t x l → IsCandidate t x l u.fields → ⊥
       pub fits : SizeFits u
 
-    end_fits : (x : ℕ) (ps : List Placed) (s u : State) (b : Bits) → Passes t Each x s (map entry ps ++ end ∷ []) u b → SizeFits u
+    end_fits : (x : ℕ) (ps : List Placed) (s u : Progress) (b : Bits) → Passes t SpellsInner x s (map entry ps ++ end ∷ []) u b → SizeFits u
     end_fits x [] s u b h = subst (SizeFits) (sym ((h.5).0 ∙ (h.4).0)) (h.4).2
     end_fits x (p ∷ ps) s u b h = end_fits x ps h.0 u h.2 h.5
 
-    rest_is : (x y : ℕ) (zs : List ℕ) (s u : State) (b : Bits) → chain t x ≡ chain t y ++ zs → Passes t Each x s (choice y ∷ (later t zs ++ tail t Each Fails x)) u b → Rest x zs u
+    rest_is : (x y : ℕ) (zs : List ℕ) (s u : Progress) (b : Bits) → chain t x ≡ chain t y ++ zs → Passes t SpellsInner x s (choice y ∷ (later t zs ++ tail t SpellsInner FailsInner x)) u b → Rest x zs u
     unfolding parts
     rest_is x y [] s u b e h = go ((h.4).2)
       where
         fields_end : (gs : List Field) × (u.fields ≡ (h.0).fields ++ gs) × AllByRecursion (FieldNotAbove t x) gs
-        fields_end = grown any t Each (NotAbove t x) (parts (tail t Each Fails x)) h.0 u h.2 (subst (AllByRecursion (PartNotAbove t x)) (sym (parts-rest Fails x x [])) (later_trailers t is x (reverse (chain t x)))) (gather x (tail t Each Fails x) h.0 u h.2 h.5)
+        fields_end = grown any t SpellsInner (NotAbove t x) (parts (tail t SpellsInner FailsInner x)) h.0 u h.2 (subst (AllByRecursion (PartNotAbove t x)) (sym (parts-rest FailsInner x x [])) (later_trailers t is x (reverse (chain t x)))) (gather x (tail t SpellsInner FailsInner x) h.0 u h.2 h.5)
 
         go : (GoesOn t y x s ⊎ ((y ≡ x) × IsTrue (is_concrete t x) × NoneUnder t x s)) → Rest x [] u
         go (inl g) = absurd (longer t is y x g.child g.towards.0 g.towards.1 (same_chain t is x y (e ∙ append-nil (chain t y))))
         go (inr g) = record {
           constraints = tt;
           concrete = g.1;
-          none = λ l ne un k. g.2 l ne un (subst (λ (z : State). IsCandidate t x l z.fields) (h.4).0 (candidate_before x l (h.0).fields fields_end.0 fields_end.2 (subst (IsCandidate t x l) fields_end.1 k)));
+          none = λ l ne un k. g.2 l ne un (subst (λ (z : Progress). IsCandidate t x l z.fields) (h.4).0 (candidate_before x l (h.0).fields fields_end.0 fields_end.2 (subst (IsCandidate t x l) fields_end.1 k)));
           fits = end_fits x (flat_map (placed_trailers t) (reverse (chain t x))) h.0 u h.2 h.5;
         }
     rest_is x y (z ∷ zs) s u b e h = go ((h.4).2) (λ m d p. rest_is x z zs m u d chain_x p)
@@ -163,40 +163,40 @@ module _ (t : Table) (Each : ℕ → Plain → Bits → Type 0) where
         chain_x : chain t x ≡ chain t z ++ zs
         chain_x = e ∙ sym (append_assoc (chain t y) (z ∷ []) zs) ∙ ap (λ c. c ++ zs) (sym chain_z)
 
-        go : (GoesOn t y x s ⊎ ((y ≡ x) × IsTrue (is_concrete t x) × NoneUnder t x s)) → ((m : State) (d : Bits) → Passes t Each x m (choice z ∷ (later t zs ++ tail t Each Fails x)) u d → Rest x zs u) → Rest x (z ∷ zs) u
+        go : (GoesOn t y x s ⊎ ((y ≡ x) × IsTrue (is_concrete t x) × NoneUnder t x s)) → ((m : Progress) (d : Bits) → Passes t SpellsInner x m (choice z ∷ (later t zs ++ tail t SpellsInner FailsInner x)) u d → Rest x zs u) → Rest x (z ∷ zs) u
         go (inr g) ih = absurd (longer t is y x z zs e (sym g.0))
         go (inl g) ih =
             let tails : g.child ∷ g.towards.0 ≡ z ∷ zs = same_tail (chain t y) (g.child ∷ g.towards.0) (z ∷ zs) (sym g.towards.1 ∙ e) in
             let z_is : g.child ≡ z = cc in
-            let w = subst (λ w. IsUnder t w g.candidate) z_is g.under in
+            let w = subst (λ w. IsAtOrUnder t w g.candidate) z_is g.under in
             let el : chain t g.candidate ≡ chain t y ++ z ∷ w.after = (under_is t is z g.candidate w.before w.after w.is).1 ∙ ap (λ c. c ++ w.after) chain_z ∙ append_assoc (chain t y) (z ∷ []) w.after in
             let now = child_holds y z g.candidate w.after s.fields el g.is in
-            let now' : AllByRecursion (Holds t (h.0).fields) (constraints_of t z) = subst (λ (q : State). AllByRecursion (Holds t q.fields) (constraints_of t z)) (sym (h.4).0) now in
-            let at_end = All-weaker (Holds t (h.0).fields) (Holds t u.fields) (λ c k. holds_on x (later t (z ∷ zs) ++ tail t Each Fails x) h.0 u h.2 c h.5 k) (constraints_of t z) now' in
-            let p = subst (λ l. Passes t Each x h.0 l u h.2) (append_assoc (map entry (placed_entries t z) ++ choice z ∷ []) (later t zs) (tail t Each Fails x) ∙ append_assoc (map entry (placed_entries t z)) (choice z ∷ []) (later t zs ++ tail t Each Fails x)) h.5 in
-            let q = past_entries x (choice z ∷ (later t zs ++ tail t Each Fails x)) (placed_entries t z) h.0 u h.2 p in
+            let now' : AllByRecursion (Holds t (h.0).fields) (constraints_of t z) = subst (λ (q : Progress). AllByRecursion (Holds t q.fields) (constraints_of t z)) (sym (h.4).0) now in
+            let at_end = All-weaker (Holds t (h.0).fields) (Holds t u.fields) (λ c k. holds_on x (later t (z ∷ zs) ++ tail t SpellsInner FailsInner x) h.0 u h.2 c h.5 k) (constraints_of t z) now' in
+            let p = subst (λ l. Passes t SpellsInner x h.0 l u h.2) (append_assoc (map entry (placed_entries t z) ++ choice z ∷ []) (later t zs) (tail t SpellsInner FailsInner x) ∙ append_assoc (map entry (placed_entries t z)) (choice z ∷ []) (later t zs ++ tail t SpellsInner FailsInner x)) h.5 in
+            let q = past_entries x (choice z ∷ (later t zs ++ tail t SpellsInner FailsInner x)) (placed_entries t z) h.0 u h.2 p in
             let r = ih q.0 q.1 q.2 in
             record { constraints = All-both (Holds t u.fields) (constraints_of t z) (flat_map (constraints_of t) zs) at_end r.constraints; concrete = r.concrete; none = r.none; fits = r.fits }
 
-    pub spelling_of : (top x : ℕ) (u : State) (b : Bits) → IsUnder t top x → Passes t Each x started (course t top x) u b → ContainerSpells any t Each top x (values_of u.fields) b
+    pub spelling_of : (top x : ℕ) (u : Progress) (b : Bits) → IsAtOrUnder t top x → Passes t SpellsInner x started (course t top x) u b → ContainerSpells any t SpellsInner top x (values_of u.fields) b
     spelling_of top x u b un h =
         let up = (under_is t is top x un.before un.after un.is).1 in
         let zs = un.after in
-        let c_is : course t top x ≡ flat_map (own t) (chain t top) ++ (choice top ∷ (later t zs ++ tail t Each Fails x)) = ap (λ q. flat_map (own t) (chain t top) ++ (choice top ∷ (later t q ++ tail t Each Fails x))) (ap (drop (length (chain t top))) up ∙ drop-append_seam (chain t top) zs) in
-        let h' = subst (λ l. Passes t Each x started l u b) c_is h in
-        let ups = chain_holds x (choice top ∷ (later t zs ++ tail t Each Fails x)) (chain t top) started u b h' in
+        let c_is : course t top x ≡ flat_map (own t) (chain t top) ++ (choice top ∷ (later t zs ++ tail t SpellsInner FailsInner x)) = ap (λ q. flat_map (own t) (chain t top) ++ (choice top ∷ (later t q ++ tail t SpellsInner FailsInner x))) (ap (drop (length (chain t top))) up ∙ drop-append_seam (chain t top) zs) in
+        let h' = subst (λ l. Passes t SpellsInner x started l u b) c_is h in
+        let ups = chain_holds x (choice top ∷ (later t zs ++ tail t SpellsInner FailsInner x)) (chain t top) started u b h' in
         let rest = rest_is x top zs (ups.1).0 u (ups.1).1 up (ups.1).2 in
-        let seq : parts (flat_map (own t) (chain t top) ++ (choice top ∷ (later t zs ++ tail t Each Fails x))) ≡ sequence t x =
-        parts-append (flat_map (own t) (chain t top)) (choice top ∷ (later t zs ++ tail t Each Fails x))
-        ∙ ap (λ z. z ++ parts (choice top ∷ (later t zs ++ tail t Each Fails x))) (parts-own (chain t top))
-        ∙ ap (λ z. flat_map (placed_entries t) (chain t top) ++ z) (parts-rest Fails x top zs)
+        let seq : parts (flat_map (own t) (chain t top) ++ (choice top ∷ (later t zs ++ tail t SpellsInner FailsInner x))) ≡ sequence t x =
+        parts-append (flat_map (own t) (chain t top)) (choice top ∷ (later t zs ++ tail t SpellsInner FailsInner x))
+        ∙ ap (λ z. z ++ parts (choice top ∷ (later t zs ++ tail t SpellsInner FailsInner x))) (parts-own (chain t top))
+        ∙ ap (λ z. flat_map (placed_entries t) (chain t top) ++ z) (parts-rest FailsInner x top zs)
         ∙ sym (append_assoc (flat_map (placed_entries t) (chain t top)) (flat_map (placed_entries t) zs) (flat_map (placed_trailers t) (reverse (chain t x))))
         ∙ ap (λ z. z ++ flat_map (placed_trailers t) (reverse (chain t x))) (sym (flat_map-append (placed_entries t) (chain t top) zs) ∙ ap (flat_map (placed_entries t)) (sym up)) in
         record {
           concrete = rest.concrete;
           under = un;
           end = u;
-          parts = subst (λ ps. PartsPass any t Each started ps u b) seq (gather x (flat_map (own t) (chain t top) ++ (choice top ∷ (later t zs ++ tail t Each Fails x))) started u b h');
+          parts = subst (λ ps. PartsPass any t SpellsInner started ps u b) seq (gather x (flat_map (own t) (chain t top) ++ (choice top ∷ (later t zs ++ tail t SpellsInner FailsInner x))) started u b h');
           values = refl;
           size = rest.fits;
           constraints = subst (AllByRecursion (Holds t u.fields)) (sym (ap (flat_map (constraints_of t)) up ∙ flat_map-append (constraints_of t) (chain t top) zs)) (All-both (Holds t u.fields) (flat_map (constraints_of t) (chain t top)) (flat_map (constraints_of t) zs) ups.0 rest.constraints);

@@ -14,8 +14,9 @@ use Rattle.eds_types.specs.declared.row.TypeRow.{TypeRow}
 use Rattle.eds_types.specs.declared.row.Kind.TheVariants as kind
 use Rattle.eds_types.specs.declared.row.Part.TheVariants as part
 use Rattle.eds_bits.specs.declared.forms.CheckKind.TheVariants.{Crc16Ccitt}
-use Rattle.eds_types.specs.Fields.{StartsAbove, constraints_along}
-use Rattle.eds_types.specs.Overlap.{IsSolution, IsConstrained, IsClear}
+use Rattle.eds_types.specs.Fields.{StartsInEntries, constraints_along}
+use Rattle.eds_types.specs.Overlap.{IsSolution, IsConstrained, Overlapping, Reaches, IsClear}
+use Rattle.eds_types.specs.Sizes.{open_in, open_of}
 use Rattle.eds_types.specs.Tables.{IsTable}
 use Rattle.eds_types.proofs.ChainLaws.{child_is}
 use Rattle.eds_types.proofs.LeastBound.{there}
@@ -30,7 +31,7 @@ use Rattle.eds_overlap.proofs.Concrete.{each_number, below, below_is, index_belo
 
 -- ---- kinds
 
-any_domain : (n : ℕ) (some : nat_le 1 n ≡ true) (few : nat_le n 64 ≡ true) → KindKeeps (any_number n some few)
+pub any_domain : (n : ℕ) (some : nat_le 1 n ≡ true) (few : nat_le n 64 ≡ true) → KindKeeps (any_number n some few)
 any_domain n some few = record {
   some = (pos 0, inl (omega (arith, ints), omega (arith, ints, pow_pos n)));
   of_form = λ m w. whole m w;
@@ -276,25 +277,25 @@ keep y = each_number (λ y. AllByRecursion Keep (own_parts example y)) example r
               (
                 tt,
                 (
-                  (solid_at 0 (omega arith) refl, (solid_at 1 (omega arith) refl, (solid_at 1 (omega arith) refl, (solid_at 2 (omega arith) refl, (solid_at 5 (omega arith) refl, (solid_at 3 (omega arith) refl, (length_keeps, tt))))))),
+                  ((solid_at 0 (omega arith) refl, tt), ((solid_at 1 (omega arith) refl, tt), ((solid_at 1 (omega arith) refl, tt), ((solid_at 2 (omega arith) refl, tt), ((solid_at 5 (omega arith) refl, tt), ((solid_at 3 (omega arith) refl, tt), (length_keeps, tt))))))),
                   (
-                    (solid_at 4 (omega arith) refl, tt),
+                    ((solid_at 4 (omega arith) refl, tt), tt),
                     (
                       tt,
                       (
                         tt,
                         (
-                          (solid_at 9 (omega arith) refl, (((row 4, refl, holds_check), refl), tt)),
+                          ((solid_at 9 (omega arith) refl, tt), (((row 4, refl, holds_check), refl), tt)),
                           (
-                            (solid_at 8 (omega arith) refl, (solid_at 8 (omega arith) refl, tt)),
+                            ((solid_at 8 (omega arith) refl, tt), ((solid_at 8 (omega arith) refl, tt), tt)),
                             (
-                              (solid_at 8 (omega arith) refl, (solid_at 8 (omega arith) refl, tt)),
+                              ((solid_at 8 (omega arith) refl, tt), ((solid_at 8 (omega arith) refl, tt), tt)),
                               (
                                 tt,
                                 (
-                                  (solid_at 8 (omega arith) refl, ((solid_at 13 (omega arith) refl, counted), tt)),
+                                  ((solid_at 8 (omega arith) refl, tt), ((solid_at 13 (omega arith) refl, refl, counted), tt)),
                                   (
-                                    (solid_at 8 (omega arith) refl, tt),
+                                    ((solid_at 8 (omega arith) refl, tt), tt),
                                     (
                                       tt,
                                       (
@@ -507,7 +508,7 @@ nothing_common n (inl h) (inl k) = let a = h.1 in let b = k.0 in omega (arith, i
 nothing_common n (inl h) (inr k) = k
 nothing_common n (inr h) k = h
 
-starts : StartsAbove example 15 key
+starts : StartsInEntries example 15 key
 unfolding chain_within
 starts = (record { before = []; after = []; is = refl }, omega arith)
 
@@ -527,8 +528,8 @@ asked_too : IsConstrained (constraints_along example 17 ++ constraints_along exa
 unfolding chain_within
 asked_too = inl refl
 
-pub clear : (id : ℕ) → IsClear example id
-clear id x k l o = go (cases_Bool (o.one == 16 && o.other == 17))
+apart : (id x k l : ℕ) → Overlapping example (Reaches example id) x k l → ⊥
+apart id x k l o = go (cases_Bool (o.one == 16 && o.other == 17))
   where
     is : IsTable example
     is = table_of example keeps_rules
@@ -548,10 +549,10 @@ clear id x k l o = go (cases_Bool (o.one == 16 && o.other == 17))
     base_15 : (a : ℕ) → base_of example a ≡ Some 15 → base_of example a ≡ Some x → 15 ≡ x
     base_15 a e h = let q : ◌≡◌ {A = Option ℕ} (Some 15) (Some x) = sym e ∙ h in cc
 
-    met : (y a b : ℕ) → y ≡ x → a ≡ k → b ≡ l → StartsAbove example y key → IsConstrained (constraints_along example a ++ constraints_along example b) key → (n : ℤ) × IsSolution example (constraints_along example a ++ constraints_along example b) key n
+    met : (y a b : ℕ) → y ≡ x → a ≡ k → b ≡ l → StartsInEntries example y key → IsConstrained (constraints_along example a ++ constraints_along example b) key → (n : ℤ) × IsSolution example (constraints_along example a ++ constraints_along example b) key n
     met y a b ey ea eb s c =
         let c' = subst (λ z. IsConstrained (constraints_along example z ++ constraints_along example l) key) ea (subst (λ z. IsConstrained (constraints_along example a ++ constraints_along example z) key) eb c) in
-        let m = o.common key (subst (λ z. StartsAbove example z key) ey s) c' in
+        let m = o.common key (subst (λ z. StartsInEntries example z key) ey s) c' in
         (m.0, subst (λ z. IsSolution example (constraints_along example z ++ constraints_along example b) key m.0) (sym ea) (subst (λ z. IsSolution example (constraints_along example k ++ constraints_along example z) key m.0) (sym eb) m.1))
 
     go : ((o.one == 16 && o.other == 17) ≡ true) ⊎ ((o.one == 16 && o.other == 17) ≡ false) → ⊥
@@ -570,3 +571,12 @@ clear id x k l o = go (cases_Bool (o.one == 16 && o.other == 17))
         let el = same_16 l (there example l o.second) (subst (Has (chain example l)) b under_second) in
         let m = met 15 17 16 (base_15 17 refl (subst (λ z. base_of example z ≡ Some x) a first)) (sym ek) (sym el) starts asked_too in
         high_low m.0 m.1
+
+closed : (id : ℕ) → open_of example id ≡ None
+closed id = each_number (λ y. open_of example y ≡ None) example rows (λ k e. ap open_in e) id
+  where
+    rows : AllFrom (λ y r. open_of example y ≡ None) 0 example
+    rows = (refl, (refl, (refl, (refl, (refl, (refl, (refl, (refl, (refl, (refl, (refl, (refl, (refl, (refl, (refl, (refl, (refl, (refl, tt))))))))))))))))))
+
+pub clear : (id : ℕ) → IsClear example id
+clear id = record { not_open = closed id; apart = apart id }

@@ -9,3 +9,4 @@ pub mod Concrete
 pub mod ExampleRules
 pub mod ExampleReading
 pub mod ExampleFrames
+pub mod TailExample

@@ -24,7 +24,7 @@ use Rattle.eds_overlap.proofs.ReadingLaws.{exact}
 use Rattle.eds_overlap.specs.Laws.{IsReadable, read_type, IsRead, ReadingIsExact, OneOutcome, OneReading, FaultsStay, OneSize, HasCanonical, OneCanonical, SameValue, LeastIsLeast, PackingIsDecided, PackedIsRead, ReadIsPacked}
 
 all_of : (t : Table) (id : ℕ) → IsReadable t id → Exact (read_within 32 t id) (SpellsWithin 32 any t id) (FailsWithin 32 t id)
-all_of t id h = exact t (table_of t h.rules) 32 id (record { rank = (table_of t h.rules).nested id; there = h.there; clear = h.clear })
+all_of t id h = exact t (table_of t h.rules) (facts_of t h.rules) 32 id (record { rank = (table_of t h.rules).nested id; there = h.there; clear = h.clear })
 
 there : (t : Table) (id : ℕ) (b : Bits) (r : Read Plain) → Is (SpellsWithin 32 any t id) (FailsWithin 32 t id) b r → IsRead t id b r
 there t id b (Ok x) h = (h.front, h.is, h.has)

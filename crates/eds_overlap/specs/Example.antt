@@ -44,13 +44,13 @@ span low high = record { low = pos low; high = pos high }
 abbrev pub any_number : (n : ℕ) → nat_le 1 n ≡ true → nat_le n 64 ≡ true → Kind
 any_number n some few = kind.Int (unsigned_form n some few) (span 0 (2 ^ n - 1) ∷ [])
 
-abbrev scalar : List ℕ → Kind → TypeRow
+abbrev pub scalar : List ℕ → Kind → TypeRow
 scalar name k = record { name = name; base = None; kind = k }
 
-abbrev container : List ℕ → Option TypeId → Bool → List Constraint → List Part → List Part → TypeRow
+abbrev pub container : List ℕ → Option TypeId → Bool → List Constraint → List Part → List Part → TypeRow
 container name base hidden constraints entries trailers = record { name = name; base = base; kind = kind.Con (record { hidden = hidden; constraints = constraints; entries = entries; trailers = trailers }) }
 
-abbrev entry : List ℕ → ℕ → Part
+abbrev pub entry : List ℕ → ℕ → Part
 entry name id = part.Plain name (id_of id)
 
 -- the entry at this place of the container has one of these numbers

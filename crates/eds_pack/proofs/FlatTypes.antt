@@ -9,7 +9,7 @@ use Rattle.eds_types.specs.declared.row.Container.{Container}
 use Rattle.eds_types.specs.declared.row.Part.{Part}
 use Rattle.eds_types.specs.declared.row.Part.TheVariants as part
 use Rattle.eds_types.specs.FlatTables.{IsScalarEntry, IsFlat, IsFlatKind, IsFlatTable}
-use Rattle.eds_types.specs.Fields.{has_value, IsUnder, constraints_along}
+use Rattle.eds_types.specs.Fields.{has_value, IsAtOrUnder, constraints_along}
 use Rattle.eds_types.specs.Packing.{valued}
 use Rattle.eds_types.specs.Rows.{Table, base_of, container_by, container_in, container_of, entries_in, entries_of, trailers_of, constraints_of, concrete_in, is_concrete, chain, placed_from, placed_entries, placed_trailers, sequence}
 use Rattle.eds_types.specs.Rules.{KeepsRules}
@@ -38,11 +38,11 @@ module _ (t : Table) (rules : KeepsRules t) (k : ℕ) (c : Container) (here : co
   pub chain_is : chain t k ≡ k ∷ []
   chain_is = chain_step t (table_of t rules) k None flat.root
 
-  pub under_self : IsUnder t k k
+  pub under_self : IsAtOrUnder t k k
   under_self = record { before = []; after = []; is = chain_is }
 
   -- only the container itself is in its chain
-  pub under_is : (x : ℕ) → IsUnder t x k → x ≡ k
+  pub under_is : (x : ℕ) → IsAtOrUnder t x k → x ≡ k
   under_is x h = go h.before (sym chain_is ∙ h.is)
     where
       go : (b : List ℕ) → k ∷ [] ≡ b ++ x ∷ h.after → x ≡ k

@@ -14,7 +14,7 @@ use Rattle.eds_types.specs.declared.row.Kind.TheVariants as kind
 use Rattle.eds_types.specs.declared.row.Container.{Container}
 use Rattle.eds_types.specs.Failing.{Station, condition, entry, choice, end, later, own, chain_under, course}
 use Rattle.eds_types.specs.FlatTables.{IsScalarEntry, IsFlat, IsFlatKind, IsFlatTable}
-use Rattle.eds_types.specs.Fields.{Field, paired, IsUnder, IsCandidate}
+use Rattle.eds_types.specs.Fields.{Field, paired, IsAtOrUnder, IsCandidate}
 use Rattle.eds_types.specs.Packing.{Where, here, valued, HasFields, FirstFails, NoSizeFits, ContainerPackFails, KindPackFails, PackFailsWithin, PackFailsAt, most_bits}
 use Rattle.eds_types.specs.Plain.{Plain, fields, list_of, plains_of}
 use Rattle.eds_types.specs.Rows.{Table, id_of, base_of, chain, container_of, container_in, container_by as kind_container, entries_of, concrete_in, placed_entries, placed_trailers, placed_from, sequence}
@@ -69,7 +69,7 @@ module _ (t : Table) (rules : KeepsRules t) (flat : IsFlatTable t) (m : ℕ) whe
     run_for vs b l s = subst (λ ps. Run t rules m started ps vs b) (sym (sequence_is t rules k c there is_flat)) (entries_run t rules m (entries_of t k) vs b k 0 started scalars l s)
 
     -- no other container is under it
-    alone : (fs : List Field) (l : ℕ) → l ≢ k → IsUnder t k l → IsCandidate t k l fs → ⊥
+    alone : (fs : List Field) (l : ℕ) → l ≢ k → IsAtOrUnder t k l → IsCandidate t k l fs → ⊥
     alone fs l ne u h = let d = concrete_by (container_of t l) h.concrete in ne (sym (under_is t rules l d.0 d.1 (flat_of t flat l d.0 d.1) k u))
 
     -- the bits of its entries are a canonical spelling

@@ -16,7 +16,7 @@ use Rattle.eds_types.specs.Packing.{Where, here, StationFails, FirstFails, KindP
 use Rattle.eds_types.specs.Plain.{Plain}
 use Rattle.eds_types.specs.Rows.{Table, id_of, Placed, placed_from}
 use Rattle.eds_types.specs.Rules.{KeepsRules, IsScalarKind}
-use Rattle.eds_types.specs.Spelling.{State, took, PartsPass, SpellsWithin}
+use Rattle.eds_types.specs.Spelling.{Progress, with_value, PartsPass, SpellsWithin}
 use Rattle.eds_types.proofs.AllOf.{All-weaker, All-both}
 use Rattle.eds_types.proofs.FieldKeys.{IsOther}
 use Rattle.eds_types.proofs.ListCounts.{found_there}
@@ -107,8 +107,8 @@ module _ (t : Table) (rules : KeepsRules t) where
 
     -- ---- a run over the entries
 
-    pub record Run (s : State) (ps : List Placed) (vs : List Plain) (b : Bits) : Type 0 where
-      pub end : State
+    pub record Run (s : Progress) (ps : List Placed) (vs : List Plain) (b : Bits) : Type 0 where
+      pub end : Progress
       pub passes : PartsPass canonical t C s ps end b
       pub values : values_of end.fields ≡ values_of s.fields ++ vs
       pub octets : end.octets ≡ s.octets
@@ -121,17 +121,17 @@ module _ (t : Table) (rules : KeepsRules t) where
     values_more [] f = refl
     values_more (x ∷ l) f = ap (λ vs. x.2 ∷ vs) (values_more l f)
 
-    pub entries_run : (ps : List Part) (vs : List Plain) (b : Bits) (y i : ℕ) (s : State) → AllByRecursion (IsScalarEntry t) ps → length vs ≡ length ps → EntriesSpell t ps vs b → Run s (placed_from y i ps) vs b
+    pub entries_run : (ps : List Part) (vs : List Plain) (b : Bits) (y i : ℕ) (s : Progress) → AllByRecursion (IsScalarEntry t) ps → length vs ≡ length ps → EntriesSpell t ps vs b → Run s (placed_from y i ps) vs b
     entries_run [] [] b y i s h l e = record { end = s; passes = (refl, e); values = sym (append-nil (values_of s.fields)); octets = refl }
     entries_run [] (v ∷ vs) b y i s h l e = absurd (omega arith)
     entries_run (p ∷ ps) [] b y i s h l e = absurd e
     entries_run (part.Plain name id ∷ ps) (v ∷ vs) b y i s h l e =
         let p : Placed = record { container = y; place = i; part = part.Plain name id } in
-        let rest = entries_run ps vs e.1 y (i + 1) (took s p v e.0) h.1 (omega arith) e.4 in
+        let rest = entries_run ps vs e.1 y (i + 1) (with_value s p v e.0) h.1 (omega arith) e.4 in
         let here_spelled = spelled_within id.0 (h.0).0 v e.0 (h.0).1 (h.0).2 (subst (λ o. RowSpells o v e.0) (h.0).1 e.3) in
         record {
           end = rest.end;
-          passes = (took s p v e.0, e.0, e.1, e.2, (v, here_spelled, refl), rest.passes);
+          passes = (with_value s p v e.0, e.0, e.1, e.2, (v, here_spelled, refl), rest.passes);
           values = rest.values ∙ ap (λ l. l ++ vs) (values_more s.fields (y, i, v)) ∙ append_assoc (values_of s.fields) (v ∷ []) vs;
           octets = rest.octets;
         }

@@ -18,7 +18,7 @@ use Rattle.eds_types.specs.Fields.{Field, value_at, values_of, listed, Holds, Is
 use Rattle.eds_types.specs.Plain.{Plain, num, items, list_of}
 use Rattle.eds_types.specs.Rows.{Table, Placed, sequence}
 use Rattle.eds_types.specs.Rules.{IsInt, IsIntBy, HoldsCheck, KindKeeps}
-use Rattle.eds_types.specs.Spelling.{State, started, passed, took, told, count_in, ItemsSpell, PartPasses, PartsPass, KindSpells, SpellsWithin}
+use Rattle.eds_types.specs.Spelling.{Progress, started, with_bits, with_value, with_octets, count_in, ItemsSpell, PartPasses, PartsPass, KindSpells, SpellsWithin}
 use Rattle.eds_types.proofs.CanonicalPatterns.{zeros_false, length-zeros, zeros_zero, bool_exists, text_exists, text_fits}
 use Rattle.eds_types.proofs.CheckBounds.{check_number}
 use Rattle.eds_types.proofs.ScalarReading.{size_of}
@@ -58,7 +58,7 @@ check_spelt t (suc n) x k before h f = let c = by_kind (f.0).kind f.2 in (c.0, (
     by_kind (kind.Enum form listing) f = absurd f
     by_kind (kind.Bool form) f = absurd f
     by_kind (kind.Str form) f = absurd f
-    by_kind (kind.Bin m) f = absurd f
+    by_kind (kind.Bin m free) f = absurd f
     by_kind (kind.Arr item m) f = absurd f
     by_kind (kind.Con con) f = absurd f
 
@@ -76,46 +76,46 @@ module _ (t : Table) (n : ℕ) (g : (id : ℕ) (v : Plain) (b : Bits) → Spells
   C = SpellsWithin n canonical t
 
   -- a canonical run beside a run
-  record Beside (z : State) (p : Placed) (q : Part) (u : State) : Type 0 where
-    w : State
+  record Beside (z : Progress) (p : Placed) (q : Part) (u : Progress) : Type 0 where
+    w : Progress
     c : Bits
     passes : PartPasses canonical t C z p q w c
     fields : u.fields ≡ w.fields
     octets : u.octets ≡ w.octets
 
-  part_canon : (s z : State) (p : Placed) (q : Part) (u : State) (b : Bits) → CheckFits t q → s.fields ≡ z.fields → s.octets ≡ z.octets → PartPasses any t A s p q u b → Beside z p q u
-  part_canon s z p (part.Plain name id) u b f e o h = let x = g id.0 h.0 b h.1 in record { w = took z p h.0 x.0; c = x.0; passes = (h.0, x.1, refl); fields = ap (λ (y : State). y.fields) h.2 ∙ ap (λ l. l ++ (p.container, p.place, h.0) ∷ []) e; octets = ap (λ (y : State). y.octets) h.2 ∙ o }
-  part_canon s z p (part.Fixed name id v) u b f e o h = let x = g id.0 _ b h.0 in record { w = passed z x.0; c = x.0; passes = (x.1, refl); fields = ap (λ (y : State). y.fields) h.1 ∙ e; octets = ap (λ (y : State). y.octets) h.1 ∙ o }
-  part_canon s z p (part.Pad m) u b f e o h = record { w = passed z (replicate m false); c = replicate m false; passes = (length-zeros m, zeros_zero (replicate m false) (zeros_false m), refl); fields = ap (λ (y : State). y.fields) h.2 ∙ e; octets = ap (λ (y : State). y.octets) h.2 ∙ o }
-  part_canon s z p (part.List name id y i) u b f e o h = let x = items_canon (A id.0) (C id.0) (g id.0) (list_of h.0) b h.2 in record { w = took z p (items h.0) x.0; c = x.0; passes = (h.0, h.1 ∙ ap (λ l. count_in (value_at l y.0 i)) e, x.1, refl); fields = ap (λ (y : State). y.fields) h.3 ∙ ap (λ l. l ++ (p.container, p.place, items h.0) ∷ []) e; octets = ap (λ (y : State). y.octets) h.3 ∙ o }
-  part_canon s z p (part.Length name id c0 c1) u b f e o h = let x = g id.0 _ b h.1 in record { w = told z (c0 +ℤ (c1 *ℤ h.0)) x.0; c = x.0; passes = (h.0, x.1, refl); fields = ap (λ (y : State). y.fields) h.2 ∙ e; octets = ap (λ (y : State). y.octets) h.2 }
-  part_canon s z p (part.Check name id k) u b f e o h = let x = check_spelt t n id.0 k z.before (some_level t n any id.0 (num (pos (check_of k s.before))) b h.0) f in record { w = passed z x.0; c = x.0; passes = (x.1, refl); fields = ap (λ (y : State). y.fields) h.1 ∙ e; octets = ap (λ (y : State). y.octets) h.1 ∙ o }
+  part_canon : (s z : Progress) (p : Placed) (q : Part) (u : Progress) (b : Bits) → CheckFits t q → s.fields ≡ z.fields → s.octets ≡ z.octets → PartPasses any t A s p q u b → Beside z p q u
+  part_canon s z p (part.Plain name id) u b f e o h = let x = g id.0 h.0 b h.1 in record { w = with_value z p h.0 x.0; c = x.0; passes = (h.0, x.1, refl); fields = ap (λ (y : Progress). y.fields) h.2 ∙ ap (λ l. l ++ (p.container, p.place, h.0) ∷ []) e; octets = ap (λ (y : Progress). y.octets) h.2 ∙ o }
+  part_canon s z p (part.Fixed name id v) u b f e o h = let x = g id.0 _ b h.0 in record { w = with_bits z x.0; c = x.0; passes = (x.1, refl); fields = ap (λ (y : Progress). y.fields) h.1 ∙ e; octets = ap (λ (y : Progress). y.octets) h.1 ∙ o }
+  part_canon s z p (part.Pad m) u b f e o h = record { w = with_bits z (replicate m false); c = replicate m false; passes = (length-zeros m, zeros_zero (replicate m false) (zeros_false m), refl); fields = ap (λ (y : Progress). y.fields) h.2 ∙ e; octets = ap (λ (y : Progress). y.octets) h.2 ∙ o }
+  part_canon s z p (part.List name id y i) u b f e o h = let x = items_canon (A id.0) (C id.0) (g id.0) (list_of h.0) b h.2 in record { w = with_value z p (items h.0) x.0; c = x.0; passes = (h.0, h.1 ∙ ap (λ l. count_in (value_at l y.0 i)) e, x.1, refl); fields = ap (λ (y : Progress). y.fields) h.3 ∙ ap (λ l. l ++ (p.container, p.place, items h.0) ∷ []) e; octets = ap (λ (y : Progress). y.octets) h.3 ∙ o }
+  part_canon s z p (part.Length name id c0 c1) u b f e o h = let x = g id.0 _ b h.1 in record { w = with_octets z (c0 +ℤ (c1 *ℤ h.0)) x.0; c = x.0; passes = (h.0, x.1, refl); fields = ap (λ (y : Progress). y.fields) h.2 ∙ e; octets = ap (λ (y : Progress). y.octets) h.2 }
+  part_canon s z p (part.Check name id k) u b f e o h = let x = check_spelt t n id.0 k z.before (some_level t n any id.0 (num (pos (check_of k s.before))) b h.0) f in record { w = with_bits z x.0; c = x.0; passes = (x.1, refl); fields = ap (λ (y : Progress). y.fields) h.1 ∙ e; octets = ap (λ (y : Progress). y.octets) h.1 ∙ o }
 
-  record BesideAll (z : State) (ps : List Placed) (u : State) : Type 0 where
-    w : State
+  record BesideAll (z : Progress) (ps : List Placed) (u : Progress) : Type 0 where
+    w : Progress
     c : Bits
     passes : PartsPass canonical t C z ps w c
     fields : u.fields ≡ w.fields
     octets : u.octets ≡ w.octets
 
-  parts_canon : (ps : List Placed) (s z u : State) (b : Bits) → AllByRecursion (λ (p : Placed). CheckFits t p.part) ps → s.fields ≡ z.fields → s.octets ≡ z.octets → PartsPass any t A s ps u b → BesideAll z ps u
-  parts_canon [] s z u b f e o h = record { w = z; c = []; passes = (refl, refl); fields = ap (λ (y : State). y.fields) h.0 ∙ e; octets = ap (λ (y : State). y.octets) h.0 ∙ o }
+  parts_canon : (ps : List Placed) (s z u : Progress) (b : Bits) → AllByRecursion (λ (p : Placed). CheckFits t p.part) ps → s.fields ≡ z.fields → s.octets ≡ z.octets → PartsPass any t A s ps u b → BesideAll z ps u
+  parts_canon [] s z u b f e o h = record { w = z; c = []; passes = (refl, refl); fields = ap (λ (y : Progress). y.fields) h.0 ∙ e; octets = ap (λ (y : Progress). y.octets) h.0 ∙ o }
   parts_canon (p ∷ ps) s z u b f e o h =
       let one = part_canon s z p p.part h.0 h.1 f.0 e o h.4 in
       let rest = parts_canon ps h.0 one.w u h.2 f.1 one.fields one.octets h.5 in
       record { w = rest.w; c = one.c ++ rest.c; passes = (one.w, one.c, rest.c, refl, one.passes, rest.passes); fields = rest.fields; octets = rest.octets }
 
 -- the bits that have been passed
-part_before : (t : Table) (E : ℕ → Plain → Bits → Type 0) (s : State) (p : Placed) (q : Part) (u : State) (b : Bits) → PartPasses any t E s p q u b → u.before ≡ s.before ++ b
-part_before t E s p (part.Plain name id) u b h = ap (λ (y : State). y.before) h.2
-part_before t E s p (part.Fixed name id v) u b h = ap (λ (y : State). y.before) h.1
-part_before t E s p (part.Pad m) u b h = ap (λ (y : State). y.before) h.2
-part_before t E s p (part.List name id y i) u b h = ap (λ (y : State). y.before) h.3
-part_before t E s p (part.Length name id c0 c1) u b h = ap (λ (y : State). y.before) h.2
-part_before t E s p (part.Check name id k) u b h = ap (λ (y : State). y.before) h.1
+pub part_before : (t : Table) (E : ℕ → Plain → Bits → Type 0) (s : Progress) (p : Placed) (q : Part) (u : Progress) (b : Bits) → PartPasses any t E s p q u b → u.before ≡ s.before ++ b
+part_before t E s p (part.Plain name id) u b h = ap (λ (y : Progress). y.before) h.2
+part_before t E s p (part.Fixed name id v) u b h = ap (λ (y : Progress). y.before) h.1
+part_before t E s p (part.Pad m) u b h = ap (λ (y : Progress). y.before) h.2
+part_before t E s p (part.List name id y i) u b h = ap (λ (y : Progress). y.before) h.3
+part_before t E s p (part.Length name id c0 c1) u b h = ap (λ (y : Progress). y.before) h.2
+part_before t E s p (part.Check name id k) u b h = ap (λ (y : Progress). y.before) h.1
 
-pub parts_before : (t : Table) (E : ℕ → Plain → Bits → Type 0) (ps : List Placed) (s u : State) (b : Bits) → PartsPass any t E s ps u b → u.before ≡ s.before ++ b
-parts_before t E [] s u b h = ap (λ (y : State). y.before) h.0 ∙ sym (append-nil s.before) ∙ ap (λ l. s.before ++ l) (sym h.1)
+pub parts_before : (t : Table) (E : ℕ → Plain → Bits → Type 0) (ps : List Placed) (s u : Progress) (b : Bits) → PartsPass any t E s ps u b → u.before ≡ s.before ++ b
+parts_before t E [] s u b h = ap (λ (y : Progress). y.before) h.0 ∙ sym (append-nil s.before) ∙ ap (λ l. s.before ++ l) (sym h.1)
 parts_before t E (p ∷ ps) s u b h = parts_before t E ps h.0 u h.2 h.5 ∙ ap (λ l. l ++ h.2) (part_before t E s p p.part h.0 h.1 h.4) ∙ append_assoc s.before h.1 h.2 ∙ ap (λ l. s.before ++ l) (sym h.3)
 
 fits_too : (o q : Option ℤ) (b c : Bits) → o ≡ q → length b ≡ length c → IfSome o (λ n. n ≡ pos (octets_for (length b))) → IfSome q (λ n. n ≡ pos (octets_for (length c)))
@@ -130,7 +130,7 @@ module _ (t : Table) (can : Facts t) where
       let fit = text_fits form.length form.fixed form.ascii form.stop (size_of form) h.0 b h.2 in
       let x = text_exists form.length form.fixed form.ascii form.stop (size_of form) h.0 fit.0 fit.1 in
       (x.0, (h.0, h.1, x.1))
-  kind_canon n g id (kind.Bin m) v b st h = (b, h)
+  kind_canon n g id (kind.Bin m free) v b st h = (b, h)
   kind_canon n g id (kind.Arr item m) v b st h = let x = items_canon (SpellsWithin n any t item.0) (SpellsWithin n canonical t item.0) (g item.0) (list_of h.0) b h.3 in (x.0, (h.0, h.1, h.2, x.1))
   kind_canon n g id (kind.Con con) v b st h =
       let sp = h.3 in

@@ -21,13 +21,13 @@ use Rattle.eds_types.proofs.TableFacts.{Facts, ListsFit}
 use Rattle.eds_types.proofs.PackingRuns.{count_by, paired_on, paired_past, At, TypesDecided, Supplies, IsFine, part_decides, part_one, Built, build, run_fine}
 use Rattle.eds_types.proofs.SpellingSizes.{canon_spells, same_size, parts_any, parts_size, all_sized, fields_by}
 use Rattle.eds_types.proofs.ReadingTests.{cases_has, holds_from, holds_in, found_is, none_is}
-use Rattle.eds_types.specs.Failing.{Station, condition, entry, choice, end, later, own, course, length_step, path_steps}
-use Rattle.eds_types.specs.Fields.{Field, values_of, has_value, paired, type_by, Holds, IsUnder, constraints_along, IsCandidate}
+use Rattle.eds_types.specs.Failing.{Station, condition, entry, choice, end, later, own, course, length_path, path_steps}
+use Rattle.eds_types.specs.Fields.{Field, values_of, has_value, paired, type_by, Holds, IsAtOrUnder, constraints_along, IsCandidate}
 use Rattle.eds_types.specs.Packing.{Where, behind, here, valued, StationFails, FirstFails, HasFields, NoSizeFits, ContainerPackFails, PackFailsWithin}
 use Rattle.eds_types.specs.Plain.{Plain, items}
 use Rattle.eds_types.specs.Reading.{holds, candidate_under}
 use Rattle.eds_types.specs.Rows.{Table, chain, container_of, concrete_in, is_concrete, constraints_of, Placed, placed_entries, placed_trailers, sequence, id_of}
-use Rattle.eds_types.specs.Spelling.{State, started, PartPasses, PartsPass, SizeFits, ContainerSpells, SpellsWithin}
+use Rattle.eds_types.specs.Spelling.{Progress, started, PartPasses, PartsPass, SizeFits, ContainerSpells, SpellsWithin}
 use Rattle.eds_types.specs.Tables.{IsTable}
 use Rattle.eds_types.proofs.AllOf.{All-weaker, All-both, All-front, All-back, All-each}
 
@@ -41,9 +41,9 @@ is_none {A} o e h = let q : true ≡ false = sym h ∙ ap (λ (z : Option A). is
 
 -- ---- the first station that fails
 
-module _ (t : Table) (Fails : ℕ → Plain → Where → Type 0) (fs : List Field) (NoSize : Type 0) (all : List Station) (x : ℕ) where
+module _ (t : Table) (FailsInner : ℕ → Plain → Where → Type 0) (fs : List Field) (NoSize : Type 0) (x : ℕ) where
   abbrev Faulty : Station → Where → Type 0
-  Faulty s g = StationFails t Fails fs NoSize all x s g
+  Faulty s g = StationFails t FailsInner fs NoSize x s g
 
   abbrev IsSound : Station → Type 0
   IsSound s = (g : Where) → Faulty s g → ⊥
@@ -55,7 +55,7 @@ module _ (t : Table) (Fails : ℕ → Plain → Where → Type 0) (fs : List Fie
   OneFault s = (g k : Where) → Faulty s g → Faulty s k → g ≡ k
 
   abbrev First : List Station → Where → Type 0
-  First ss g = FirstFails t Fails fs NoSize all x ss g
+  First ss g = FirstFails t FailsInner fs NoSize x ss g
 
   first_judged : (ss : List Station) → AllByRecursion Judged ss → ((g : Where) × First ss g) ⊎ AllByRecursion IsSound ss
   first_judged [] h = inr tt
@@ -169,16 +169,16 @@ added (y ∷ l) x = let h = added l x in omega arith
 
 module _ (t : Table) (E : ℕ → Plain → Bits → Type 0) where
   -- a run gives a value to each part that has one
-  part_adds : (s : State) (p : Placed) (q : Part) (u : State) (b : Bits) → PartPasses canonical t E s p q u b → length (values_of u.fields) ≡ length (values_of s.fields) + cond (has_value q) 1 0
-  part_adds s p (part.Plain name id) u b h = ap (λ (x : State). length (values_of x.fields)) h.2 ∙ added s.fields (p.container, p.place, h.0)
-  part_adds s p (part.Fixed name id v) u b h = ap (λ (x : State). length (values_of x.fields)) h.1 ∙ omega arith
-  part_adds s p (part.Pad m) u b h = ap (λ (x : State). length (values_of x.fields)) h.2 ∙ omega arith
-  part_adds s p (part.List name id y i) u b h = ap (λ (x : State). length (values_of x.fields)) h.3 ∙ added s.fields (p.container, p.place, items h.0)
-  part_adds s p (part.Length name id c0 c1) u b h = ap (λ (x : State). length (values_of x.fields)) h.2 ∙ omega arith
-  part_adds s p (part.Check name id k) u b h = ap (λ (x : State). length (values_of x.fields)) h.1 ∙ omega arith
+  part_adds : (s : Progress) (p : Placed) (q : Part) (u : Progress) (b : Bits) → PartPasses canonical t E s p q u b → length (values_of u.fields) ≡ length (values_of s.fields) + cond (has_value q) 1 0
+  part_adds s p (part.Plain name id) u b h = ap (λ (x : Progress). length (values_of x.fields)) h.2 ∙ added s.fields (p.container, p.place, h.0)
+  part_adds s p (part.Fixed name id v) u b h = ap (λ (x : Progress). length (values_of x.fields)) h.1 ∙ omega arith
+  part_adds s p (part.Pad m) u b h = ap (λ (x : Progress). length (values_of x.fields)) h.2 ∙ omega arith
+  part_adds s p (part.List name id y i) u b h = ap (λ (x : Progress). length (values_of x.fields)) h.3 ∙ added s.fields (p.container, p.place, items h.0)
+  part_adds s p (part.Length name id c0 c1) u b h = ap (λ (x : Progress). length (values_of x.fields)) h.2 ∙ omega arith
+  part_adds s p (part.Check name id k) u b h = ap (λ (x : Progress). length (values_of x.fields)) h.1 ∙ omega arith
 
-  run_count : (ps : List Placed) (s u : State) (b : Bits) → PartsPass canonical t E s ps u b → length (values_of u.fields) ≡ length (values_of s.fields) + valued ps
-  run_count [] s u b h = ap (λ (x : State). length (values_of x.fields)) h.0 ∙ omega arith
+  run_count : (ps : List Placed) (s u : Progress) (b : Bits) → PartsPass canonical t E s ps u b → length (values_of u.fields) ≡ length (values_of s.fields) + valued ps
+  run_count [] s u b h = ap (λ (x : Progress). length (values_of x.fields)) h.0 ∙ omega arith
   run_count (p ∷ ps) s u b h = let one = part_adds s p p.part h.0 h.1 h.4 in let rest = run_count ps h.0 u h.2 h.5 in let c = count_by p ps (has_value p.part) refl in omega arith
 
 -- ---- containers
@@ -191,7 +191,7 @@ module _ (t : Table) (is : IsTable t) (can : Facts t) (n : ℕ) where
   F = PackFailsWithin n t
 
   -- two canonical runs that end with the same fields have one size
-  runs_size : (k : ℕ) (u w : State) (b c : Bits) → u.fields ≡ w.fields → PartsPass canonical t C started (sequence t k) u b → PartsPass canonical t C started (sequence t k) w c → length u.before ≡ length w.before
+  runs_size : (k : ℕ) (u w : Progress) (b c : Bits) → u.fields ≡ w.fields → PartsPass canonical t C started (sequence t k) u b → PartsPass canonical t C started (sequence t k) w c → length u.before ≡ length w.before
   runs_size k u w b c e h g =
       let Any = SpellsWithin n any t in
       let h' = parts_any t C Any (canon_spells t n) (sequence t k) started u b h in
@@ -225,13 +225,13 @@ module _ (t : Table) (is : IsTable t) (can : Facts t) (n : ℕ) where
     Spells b = ContainerSpells canonical t C id k f b
 
     abbrev Stops : Station → Where → Type 0
-    Stops s g = StationFails t F fs NoSize (course t k k) k s g
+    Stops s g = StationFails t F fs NoSize k s g
 
     abbrev Sound : Station → Type 0
     Sound s = (g : Where) → Stops s g → ⊥
 
     abbrev FirstStop : List Station → Where → Type 0
-    FirstStop ss g = FirstFails t F fs NoSize (course t k k) k ss g
+    FirstStop ss g = FirstFails t F fs NoSize k ss g
 
     -- ---- stations are decided
 
@@ -269,7 +269,7 @@ module _ (t : Table) (is : IsTable t) (can : Facts t) (n : ℕ) where
     built : HasFields t k f → AllByRecursion Sound (front t k) → (c : Choices C (sequence t k)) → Built t n fs started (sequence t k) (tell_all C (sequence t k) c None)
     built h s c = build t n fs (sequence t k) [] started f (at_start h) known.types (known.supplies fs) known.lists c (fine_parts s)
 
-    spells_from : HasFields t k f → IsUnder t id k → IsTrue (is_concrete t k) → AllByRecursion Sound (front t k) → (o : Option ℤ) (r : Built t n fs started (sequence t k) o) → SizeFits r.u → Spells r.b
+    spells_from : HasFields t k f → IsAtOrUnder t id k → IsTrue (is_concrete t k) → AllByRecursion Sound (front t k) → (o : Option ℤ) (r : Built t n fs started (sequence t k) o) → SizeFits r.u → Spells r.b
     spells_from h un con s o r size = record {
       concrete = con;
       under = un;
@@ -290,7 +290,7 @@ module _ (t : Table) (is : IsTable t) (can : Facts t) (n : ℕ) where
             go (inr e) = absurd (g (reason.Constraint, path_steps c.path) ((λ q. both_ways (holds t fs c) e (holds_in t fs c q)), refl))
 
     -- where all before the end is sound
-    at_end : HasFields t k f → IsUnder t id k → IsTrue (is_concrete t k) → AllByRecursion Sound (front t k) → ((b : Bits) × Spells b) ⊎ ((g : Where) × FirstStop (course t k k) g)
+    at_end : HasFields t k f → IsAtOrUnder t id k → IsTrue (is_concrete t k) → AllByRecursion Sound (front t k) → ((b : Bits) × Spells b) ⊎ ((g : Where) × FirstStop (course t k k) g)
     at_end h un con s = go (choices_decide C (octets_for (length (r.u).before)) (sequence t k) None known.choices (can.scaled k) (can.once k) known.numbers)
       where
         r : Built t n fs started (sequence t k) (tell_all C (sequence t k) known.choices None)
@@ -301,7 +301,7 @@ module _ (t : Table) (is : IsTable t) (can : Facts t) (n : ℕ) where
             let w = built h s q.0 in
             let size = told_fits (w.u).octets (tell_all C (sequence t k) q.0 None) (length (w.u).before) (length (r.u).before) w.octets (runs_size k w.u r.u w.b r.b (w.fields ∙ sym r.fields) w.passes r.passes) q.1 in
             inl (w.b, spells_from h un con s (tell_all C (sequence t k) q.0 None) w size)
-        go (inr q) = inr ((reason.LengthField, length_step (course t k k)), subst (λ ss. FirstStop ss (reason.LengthField, length_step (course t k k))) (sym (course_is t k)) (first_past t F fs NoSize (course t k k) k (front t k) (end ∷ []) (reason.LengthField, length_step (course t k k)) s (inl (no_size, refl))))
+        go (inr q) = inr ((reason.LengthField, length_path t k), subst (λ ss. FirstStop ss (reason.LengthField, length_path t k)) (sym (course_is t k)) (first_past t F fs NoSize k (front t k) (end ∷ []) (reason.LengthField, length_path t k) s (inl (no_size, refl))))
           where
             no_size : NoSize
             no_size u b p e sz = let c = run_chosen C t (sequence t k) started u b p in q c.0 (fits_told u.octets (tell_all C (sequence t k) c.0 None) (length u.before) (length (r.u).before) c.1 (runs_size k u r.u b r.b (e ∙ sym r.fields) p r.passes) sz)
@@ -328,20 +328,20 @@ module _ (t : Table) (is : IsTable t) (can : Facts t) (n : ℕ) where
         ((λ g w a b. a.1 ∙ sym b.1), tt)
 
     -- a concrete container under the type, with as many fields
-    right_decided : HasFields t k f → IsUnder t id k → IsTrue (is_concrete t k) → Decided Spells (FirstStop (course t k k))
+    right_decided : HasFields t k f → IsAtOrUnder t id k → IsTrue (is_concrete t k) → Decided Spells (FirstStop (course t k k))
     right_decided h un con = record {
-      either = go (first_judged t F fs NoSize (course t k k) k (front t k) front_judged);
-      apart = λ b g sp x. first_none t F fs NoSize (course t k k) k (front t k ++ end ∷ []) g (sound_of h b sp) (subst (λ ss. FirstStop ss g) (course_is t k) x);
-      one = λ g w x y. first_one t F fs NoSize (course t k k) k (front t k ++ end ∷ []) g w one_fault (subst (λ ss. FirstStop ss g) (course_is t k) x) (subst (λ ss. FirstStop ss w) (course_is t k) y);
+      either = go (first_judged t F fs NoSize k (front t k) front_judged);
+      apart = λ b g sp x. first_none t F fs NoSize k (front t k ++ end ∷ []) g (sound_of h b sp) (subst (λ ss. FirstStop ss g) (course_is t k) x);
+      one = λ g w x y. first_one t F fs NoSize k (front t k ++ end ∷ []) g w one_fault (subst (λ ss. FirstStop ss g) (course_is t k) x) (subst (λ ss. FirstStop ss w) (course_is t k) y);
     }
       where
         go : (((g : Where) × FirstStop (front t k) g) ⊎ AllByRecursion Sound (front t k)) → ((b : Bits) × Spells b) ⊎ ((g : Where) × FirstStop (course t k k) g)
-        go (inl q) = inr (q.0, subst (λ ss. FirstStop ss q.0) (sym (course_is t k)) (first_on t F fs NoSize (course t k k) k (front t k) (end ∷ []) q.0 q.1))
+        go (inl q) = inr (q.0, subst (λ ss. FirstStop ss q.0) (sym (course_is t k)) (first_on t F fs NoSize k (front t k) (end ∷ []) q.0 q.1))
         go (inr q) = at_end h un con q
 
   -- ---- any container
 
-  module _ (id k : ℕ) (f : List Plain) (known_of : IsUnder t id k → Known k) where
+  module _ (id k : ℕ) (f : List Plain) (known_of : IsAtOrUnder t id k → Known k) where
     abbrev Spelt : Bits → Type 0
     Spelt b = ContainerSpells canonical t C id k f b
 
@@ -369,7 +369,7 @@ module _ (t : Table) (is : IsTable t) (can : Facts t) (n : ℕ) where
     pub container_decided : Decided Spelt Faults
     container_decided = go fields_decide (cases_has (chain t k) id) (cases_Bool (is_concrete t k))
       where
-        go : (HasFields t k f ⊎ (HasFields t k f → ⊥)) → (IsUnder t id k ⊎ (IsUnder t id k → ⊥)) → ((is_concrete t k ≡ true) ⊎ (is_concrete t k ≡ false)) → Decided Spelt Faults
+        go : (HasFields t k f ⊎ (HasFields t k f → ⊥)) → (IsAtOrUnder t id k ⊎ (IsAtOrUnder t id k → ⊥)) → ((is_concrete t k ≡ true) ⊎ (is_concrete t k ≡ false)) → Decided Spelt Faults
         go (inr off) u c = refused Spelt Faults (here reason.WrongKind) (inl (off, refl)) (λ b sp. off (fields_of b sp)) is_wrong
           where
             is_wrong : (g : Where) → Faults g → g ≡ here reason.WrongKind

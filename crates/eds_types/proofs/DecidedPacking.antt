@@ -30,28 +30,28 @@ decided_as P Q F G d pq qp fg gf = record { either = go d.either; apart = λ b g
 
 -- ---- the kind of a value
 
-module _ (t : Table) (Each : ℕ → Plain → Bits → Type 0) (Fails : ℕ → Plain → Where → Type 0) (id : ℕ) (k : Kind) (v : Plain) (P : Bits → Type 0) where
-  pub of_kind : ((b : Bits) → P b → shape v ≡ kind_shape k) → ((g : Where) → OfKindFails t Each Fails id k v g → shape v ≡ kind_shape k) → Decided P (OfKindFails t Each Fails id k v) → Decided P (KindPackFails t Each Fails id k v)
+module _ (t : Table) (SpellsInner : ℕ → Plain → Bits → Type 0) (FailsInner : ℕ → Plain → Where → Type 0) (id : ℕ) (k : Kind) (v : Plain) (P : Bits → Type 0) where
+  pub of_kind : ((b : Bits) → P b → shape v ≡ kind_shape k) → ((g : Where) → OfKindFails t SpellsInner FailsInner id k v g → shape v ≡ kind_shape k) → Decided P (OfKindFails t SpellsInner FailsInner id k v) → Decided P (KindPackFails t SpellsInner FailsInner id k v)
   of_kind p f d = record { either = go d.either; apart = λ b g h e. cut b g h e; one = same }
     where
-      go : (((b : Bits) × P b) ⊎ ((g : Where) × OfKindFails t Each Fails id k v g)) → ((b : Bits) × P b) ⊎ ((g : Where) × KindPackFails t Each Fails id k v g)
+      go : (((b : Bits) × P b) ⊎ ((g : Where) × OfKindFails t SpellsInner FailsInner id k v g)) → ((b : Bits) × P b) ⊎ ((g : Where) × KindPackFails t SpellsInner FailsInner id k v g)
       go (inl h) = inl h
       go (inr h) = inr (h.0, inr h.1)
 
-      cut : (b : Bits) (g : Where) → P b → KindPackFails t Each Fails id k v g → ⊥
+      cut : (b : Bits) (g : Where) → P b → KindPackFails t SpellsInner FailsInner id k v g → ⊥
       cut b g h (inl e) = e.0 (p b h)
       cut b g h (inr e) = d.apart b g h e
 
-      same : (g h : Where) → KindPackFails t Each Fails id k v g → KindPackFails t Each Fails id k v h → g ≡ h
+      same : (g h : Where) → KindPackFails t SpellsInner FailsInner id k v g → KindPackFails t SpellsInner FailsInner id k v h → g ≡ h
       same g h (inl a) (inl c) = a.1 ∙ sym c.1
       same g h (inl a) (inr c) = absurd (a.0 (f h c))
       same g h (inr a) (inl c) = absurd (c.0 (f g a))
       same g h (inr a) (inr c) = d.one g h a c
 
-  pub of_other_kind : ((b : Bits) → P b → shape v ≡ kind_shape k) → ((g : Where) → OfKindFails t Each Fails id k v g → shape v ≡ kind_shape k) → (shape v ≡ kind_shape k → ⊥) → Decided P (KindPackFails t Each Fails id k v)
-  of_other_kind p f ne = refused P (KindPackFails t Each Fails id k v) (here reason.WrongKind) (inl (ne, refl)) (λ b h. ne (p b h)) is
+  pub of_other_kind : ((b : Bits) → P b → shape v ≡ kind_shape k) → ((g : Where) → OfKindFails t SpellsInner FailsInner id k v g → shape v ≡ kind_shape k) → (shape v ≡ kind_shape k → ⊥) → Decided P (KindPackFails t SpellsInner FailsInner id k v)
+  of_other_kind p f ne = refused P (KindPackFails t SpellsInner FailsInner id k v) (here reason.WrongKind) (inl (ne, refl)) (λ b h. ne (p b h)) is
     where
-      is : (g : Where) → KindPackFails t Each Fails id k v g → g ≡ here reason.WrongKind
+      is : (g : Where) → KindPackFails t SpellsInner FailsInner id k v g → g ≡ here reason.WrongKind
       is g (inl a) = a.1
       is g (inr a) = absurd (ne (f g a))
 

@@ -4,6 +4,7 @@ use Rattle.std.specs.Prelude.{nat_lt}
 use Rattle.std.proofs.lemmas.Bool.{ltb-true, ltb-false, lt-ltb, le-ltb}
 use Rattle.std.proofs.lemmas.List.{length-append, take-append-drop, length-take}
 use Rattle.std.proofs.Math.Seq.{drop-append_seam}
+use Rattle.eds_base.specs.declared.fault.Step.{Step}
 use Rattle.eds_base.specs.declared.fault.Step.TheVariants as step
 use Rattle.eds_base.specs.declared.fault.Reason.TheVariants.{Short}
 use Rattle.eds_bits.specs.Bits.{Bits}
@@ -153,45 +154,58 @@ advance_exact {A} {B} read P F f s = record { from = λ b. there b (read b) (s.f
         ∙ ap (λ c. done (f h.has.x c, y.1)) (front_is b h.front y.1 h.is) ∙ ap (λ z. done (z, y.1)) (sym h.has.is)
     back b (Err g) h = ap (advance f b) (s.to b (Err g) h)
 
+-- ---- what is read inside a step
+
+pub inside_exact : {A : Type 0} (st : Step) (read : Bits → Read A) (P : A → Bits → Type 0) (F : Bits → Where → Type 0) → Exact read P F → Exact (λ b. inside st (read b)) P (λ b g. (w : Where) × F b w × (g ≡ behind st w))
+inside_exact {A} st read P F s = record { from = λ b. there b (read b) (s.from b); to = back }
+  where
+    there : (b : Bits) (r : Read A) → Is P F b r → Is P (λ b g. (w : Where) × F b w × (g ≡ behind st w)) b (inside st r)
+    there b (Ok x) h = h
+    there b (Err g) h = (g, h, refl)
+
+    back : (b : Bits) (r : Read A) → Is P (λ b g. (w : Where) × F b w × (g ≡ behind st w)) b r → inside st (read b) ≡ r
+    back b (Ok x) h = ap (inside st) (s.to b (Ok x) h)
+    back b (Err g) h = ap (inside st) (s.to b (Err h.0) h.1) ∙ ap (failed (A × Bits)) (sym h.2)
+
 -- ---- items
 
-pub record Items (Each : Plain → Bits → Type 0) (n : ℕ) (vs : List Plain) (c : Bits) : Type 0 where
+pub record Items (SpellsInner : Plain → Bits → Type 0) (n : ℕ) (vs : List Plain) (c : Bits) : Type 0 where
   pub count : length vs ≡ n
-  pub spelled : ItemsSpell Each vs c
+  pub spelled : ItemsSpell SpellsInner vs c
 
 -- the items from the j-th on
-record ItemsFail (Each : Plain → Bits → Type 0) (Fails : Bits → Where → Type 0) (n j : ℕ) (b : Bits) (g : Where) : Type 0 where
+record ItemsFail (SpellsInner : Plain → Bits → Type 0) (FailsInner : Bits → Where → Type 0) (n j : ℕ) (b : Bits) (g : Where) : Type 0 where
   before : List Plain
   few : length before < n
   c : Bits
   d : Bits
   bits : b ≡ c ++ d
-  spelled : ItemsSpell Each before c
+  spelled : ItemsSpell SpellsInner before c
   why : Where
-  fails : Fails d why
+  fails : FailsInner d why
   is : g ≡ behind (step.Item (j + length before)) why
 
-module _ (read : Bits → Read Plain) (Each : Plain → Bits → Type 0) (Fails : Bits → Where → Type 0) (s : Exact read Each Fails) where
+module _ (read : Bits → Read Plain) (SpellsInner : Plain → Bits → Type 0) (FailsInner : Bits → Where → Type 0) (s : Exact read SpellsInner FailsInner) where
   then_by : Plain → Read (List Plain) → Read (List Plain)
   then_by v r = r >>= λ vs. Ok (v ∷ vs.0, vs.1)
 
-  put_first : (n j : ℕ) (b : Bits) (x : Plain × Bits) → Front (Each x.0) b x.1 → (r : Read (List Plain)) → Is (Items Each n) (ItemsFail Each Fails n (j + 1)) x.1 r → Is (Items Each (suc n)) (ItemsFail Each Fails (suc n) j) b (then_by x.0 r)
+  put_first : (n j : ℕ) (b : Bits) (x : Plain × Bits) → Front (SpellsInner x.0) b x.1 → (r : Read (List Plain)) → Is (Items SpellsInner n) (ItemsFail SpellsInner FailsInner n (j + 1)) x.1 r → Is (Items SpellsInner (suc n)) (ItemsFail SpellsInner FailsInner (suc n) j) b (then_by x.0 r)
   unfolding then_by
   put_first n j b x h (Ok vs) k = record { front = h.front ++ k.front; is = regroup b h.front x.1 k.front vs.1 h.is k.is; has = record { count = ap suc k.has.count; spelled = (h.front, k.front, refl, h.has, k.has.spelled) } }
   put_first n j b x h (Err g) k =
       let m : j + 1 + length k.before ≡ j + length (x.0 ∷ k.before) = omega arith in let small = k.few in
       record { before = x.0 ∷ k.before; few = omega arith; c = h.front ++ k.c; d = k.d; bits = regroup b h.front x.1 k.c k.d h.is k.bits; spelled = (h.front, k.c, refl, h.has, k.spelled); why = k.why; fails = k.fails; is = k.is ∙ ap (λ i. behind (step.Item i) k.why) m }
 
-  items_from : (n j : ℕ) (b : Bits) → Is (Items Each n) (ItemsFail Each Fails n j) b (read_items read n j b)
+  items_from : (n j : ℕ) (b : Bits) → Is (Items SpellsInner n) (ItemsFail SpellsInner FailsInner n j) b (read_items read n j b)
   unfolding read_items then_by
   items_from zero j b = record { front = []; is = refl; has = record { count = refl; spelled = refl } }
   items_from (suc n) j b = go (read b) (s.from b) (λ d. items_from n (j + 1) d)
     where
-      go : (r : Read Plain) → Is Each Fails b r → ((d : Bits) → Is (Items Each n) (ItemsFail Each Fails n (j + 1)) d (read_items read n (j + 1) d)) → Is (Items Each (suc n)) (ItemsFail Each Fails (suc n) j) b (inside (step.Item j) r >>= λ v. read_items read n (j + 1) v.1 >>= λ vs. Ok (v.0 ∷ vs.0, vs.1))
+      go : (r : Read Plain) → Is SpellsInner FailsInner b r → ((d : Bits) → Is (Items SpellsInner n) (ItemsFail SpellsInner FailsInner n (j + 1)) d (read_items read n (j + 1) d)) → Is (Items SpellsInner (suc n)) (ItemsFail SpellsInner FailsInner (suc n) j) b (inside (step.Item j) r >>= λ v. read_items read n (j + 1) v.1 >>= λ vs. Ok (v.0 ∷ vs.0, vs.1))
       go (Ok x) h ih = put_first n j b x h (read_items read n (j + 1) x.1) (ih x.1)
       go (Err g) h ih = let z : j ≡ j + 0 = omega arith in record { before = []; few = omega arith; c = []; d = b; bits = refl; spelled = refl; why = g; fails = h; is = ap (λ m. behind (step.Item m) g) z }
 
-  items_to : (vs : List Plain) (j : ℕ) (b rest : Bits) → ItemsSpell Each vs b → read_items read (length vs) j (b ++ rest) ≡ Ok (vs, rest)
+  items_to : (vs : List Plain) (j : ℕ) (b rest : Bits) → ItemsSpell SpellsInner vs b → read_items read (length vs) j (b ++ rest) ≡ Ok (vs, rest)
   unfolding read_items
   items_to [] j b rest h = rw h refl
   items_to (v ∷ vs) j b rest h =
@@ -200,14 +214,14 @@ module _ (read : Bits → Read Plain) (Each : Plain → Bits → Type 0) (Fails 
       let others = items_to vs (j + 1) h.1 rest h.4 in
       rw (one, others) refl
 
-  items_stop : (before : List Plain) (n j : ℕ) (b c d : Bits) (g : Where) → length before < n → b ≡ c ++ d → ItemsSpell Each before c → Fails d g → read_items read n j b ≡ Err (behind (step.Item (j + length before)) g)
+  items_stop : (before : List Plain) (n j : ℕ) (b c d : Bits) (g : Where) → length before < n → b ≡ c ++ d → ItemsSpell SpellsInner before c → FailsInner d g → read_items read n j b ≡ Err (behind (step.Item (j + length before)) g)
   unfolding read_items
   items_stop [] zero j b c d g lt e h k = absurd (omega arith)
   items_stop (v ∷ vs) zero j b c d g lt e h k = absurd (omega arith)
   items_stop [] (suc n) j b c d g lt e h k =
       let same : b ≡ d = e ∙ ap (λ x. x ++ d) h in
       let z : j ≡ j + 0 = omega arith in
-      rw (s.to b (Err g) (subst (λ x. Fails x g) (sym same) k)) (ap (λ m. failed (List Plain × Bits) (behind (step.Item m) g)) z)
+      rw (s.to b (Err g) (subst (λ x. FailsInner x g) (sym same) k)) (ap (λ m. failed (List Plain × Bits) (behind (step.Item m) g)) z)
   items_stop (v ∷ vs) (suc n) j b c d g lt e h k =
       let e' : b ≡ h.0 ++ (h.1 ++ d) = e ∙ ap (λ x. x ++ d) h.2 ∙ append_assoc h.0 h.1 d in
       let m : j + 1 + length vs ≡ j + length (v ∷ vs) = omega arith in
@@ -215,16 +229,16 @@ module _ (read : Bits → Read Plain) (Each : Plain → Bits → Type 0) (Fails 
       let rest = items_stop vs n (j + 1) (h.1 ++ d) h.1 d g (omega arith) refl h.4 k in
       rw (one, rest) (ap (λ i. failed (List Plain × Bits) (behind (step.Item i) g)) m)
 
-  pub items_exact : (n : ℕ) → Exact (read_items read n 0) (Items Each n) (ItemFails Each Fails n)
+  pub items_exact : (n : ℕ) → Exact (read_items read n 0) (Items SpellsInner n) (ItemFails SpellsInner FailsInner n)
   items_exact n = record { from = λ b. there b (read_items read n 0 b) (items_from n 0 b); to = back }
     where
-      there : (b : Bits) (r : Read (List Plain)) → Is (Items Each n) (ItemsFail Each Fails n 0) b r → Is (Items Each n) (ItemFails Each Fails n) b r
+      there : (b : Bits) (r : Read (List Plain)) → Is (Items SpellsInner n) (ItemsFail SpellsInner FailsInner n 0) b r → Is (Items SpellsInner n) (ItemFails SpellsInner FailsInner n) b r
       there b (Ok x) h = h
       there b (Err g) h =
           let z : 0 + length h.before ≡ length h.before = omega arith in
           record { before = h.before; few = h.few; c = h.c; d = h.d; bits = h.bits; spelled = h.spelled; why = h.why; fails = h.fails; is = h.is ∙ ap (λ k. behind (step.Item k) h.why) z }
 
-      back : (b : Bits) (r : Read (List Plain)) → Is (Items Each n) (ItemFails Each Fails n) b r → read_items read n 0 b ≡ r
+      back : (b : Bits) (r : Read (List Plain)) → Is (Items SpellsInner n) (ItemFails SpellsInner FailsInner n) b r → read_items read n 0 b ≡ r
       back b (Ok x) h = ap (λ m. read_items read m 0 b) (sym h.has.count) ∙ ap (read_items read (length x.0) 0) h.is ∙ items_to x.0 0 h.front x.1 h.has.spelled
       back b (Err g) h =
           let z : 0 + length h.before ≡ length h.before = omega arith in

@@ -9,7 +9,7 @@ use Rattle.eds_types.specs.declared.row.Part.{Part}
 use Rattle.eds_types.specs.declared.row.Constraint.{Constraint as Condition}
 use Rattle.eds_bits.specs.Lists.{Has}
 use Rattle.eds_types.proofs.ChainLaws.{under_is}
-use Rattle.eds_types.specs.Fields.{Field, value_at, fields_in, value_on, number_by, row_at, type_on, number_on, Holds, StartsAbove}
+use Rattle.eds_types.specs.Fields.{Field, value_at, fields_in, value_on, number_by, row_at, type_on, number_on, Holds, StartsInEntries}
 use Rattle.eds_types.specs.Plain.{Plain}
 use Rattle.eds_types.specs.Rows.{Table, chain, entries_of, trailers_of, Placed, placed_from, placed_entries, placed_trailers}
 use Rattle.eds_types.specs.Tables.{IsTable}
@@ -89,10 +89,10 @@ module _ (t : Table) where
   others x y i h k gs a = All-weaker (FieldNotAbove x) (IsOther y i) (λ f n e. n (subst (Has (chain t x)) (sym e.0) h) (rw (e.0, e.1) k)) gs a
 
   -- a constraint on an entry above held before
-  pub Holds-before : (x : ℕ) (fs gs : List Field) (c : Condition) → AllByRecursion (FieldNotAbove x) gs → StartsAbove t x c.path → Holds t (fs ++ gs) c → Holds t fs c
+  pub Holds-before : (x : ℕ) (fs gs : List Field) (c : Condition) → AllByRecursion (FieldNotAbove x) gs → StartsInEntries t x c.path → Holds t (fs ++ gs) c → Holds t fs c
   Holds-before x fs gs c a s h = record { number = h.number; is = go c.path s ∙ h.is; within = h.within }
     where
-      go : (path : List (TypeId × ℕ)) → StartsAbove t x path → number_on t fs path ≡ number_on t (fs ++ gs) path
+      go : (path : List (TypeId × ℕ)) → StartsInEntries t x path → number_on t fs path ≡ number_on t (fs ++ gs) path
       go [] s = absurd s
       go (p ∷ path) s = same_number fs (fs ++ gs) p path (sym (value_before fs gs (p.0).0 p.1 (others x (p.0).0 p.1 s.0 s.1 gs a)))
 

@@ -20,7 +20,7 @@ use Rattle.eds_types.specs.Domains.{InDomainOf, InDomainOfRow, InDomainOfType, I
 use Rattle.eds_types.specs.Fields.{Field, value_at, values_of, has_value, paired, fields_in, value_on, type_by, type_on, listed, labelled_by, row_at, number_by, number_on}
 use Rattle.eds_types.specs.Plain.{Plain, items, Plains}
 use Rattle.eds_types.specs.Rows.{Table, chain, entries_of, trailers_of, Placed, placed_from, placed_entries, placed_trailers, sequence}
-use Rattle.eds_types.specs.Spelling.{State, started, PartPasses, PartsPass, KindSpells, SpellsWithin}
+use Rattle.eds_types.specs.Spelling.{Progress, started, PartPasses, PartsPass, KindSpells, SpellsWithin}
 use Rattle.eds_types.proofs.AllOf.{All-both}
 
 module _ (t : Table) where
@@ -44,10 +44,10 @@ module _ (t : Table) where
     pub stands : Stands f.0 f.1 part
     pub fits : ValueFits n part f.2
 
-  abbrev pub Fits : ℕ → State → Type 0
+  abbrev pub Fits : ℕ → Progress → Type 0
   Fits n s = AllByRecursion (FieldFits n) s.fields
 
-  pub part_keeps : (n : ℕ) (s : State) (p : Placed) (q : Part) (u : State) (b : Bits) → Stands p.container p.place q → Fits n s → PartPasses any t (SpellsWithin n any t) s p q u b → Fits n u
+  pub part_keeps : (n : ℕ) (s : Progress) (p : Placed) (q : Part) (u : Progress) (b : Bits) → Stands p.container p.place q → Fits n s → PartPasses any t (SpellsWithin n any t) s p q u b → Fits n u
   part_keeps n s p (part.Plain name id) u b e h k = subst (Fits n) (sym k.2) (All-both (FieldFits n) s.fields ((p.container, p.place, k.0) ∷ []) h (record { part = part.Plain name id; stands = e; fits = (b, k.1) }, tt))
   part_keeps n s p (part.Fixed name id v) u b e h k = subst (Fits n) (sym k.1) h
   part_keeps n s p (part.Pad m) u b e h k = subst (Fits n) (sym k.2) h
@@ -56,7 +56,7 @@ module _ (t : Table) where
   part_keeps n s p (part.Check name id c) u b e h k = subst (Fits n) (sym k.1) h
 
   -- the values of what was passed, with their parts, are the fields
-  record Pairs (p : Placed) (ps : List Placed) (s u : State) : Type 0 where
+  record Pairs (p : Placed) (ps : List Placed) (s u : Progress) : Type 0 where
     new : List Field
     is : u.fields ≡ s.fields ++ new
     pairs : (gs : List Field) → paired ps (values_of gs) ≡ gs → paired (p ∷ ps) (values_of (new ++ gs)) ≡ new ++ gs
@@ -73,16 +73,16 @@ module _ (t : Table) where
   unfolding by_value
   kept p ps v e gs h = ap (by_value p ps v (values_of gs)) e ∙ ap (λ z. (p.container, p.place, v) ∷ z) h
 
-  part_pairs : (n : ℕ) (p : Placed) (ps : List Placed) (s u : State) (b : Bits) (q : Part) → p.part ≡ q → PartPasses any t (SpellsWithin n any t) s p q u b → Pairs p ps s u
-  part_pairs n p ps s u b (part.Plain name id) e k = record { new = (p.container, p.place, k.0) ∷ []; is = ap (λ (z : State). z.fields) k.2; pairs = λ gs h. kept p ps k.0 (ap has_value e) gs h }
-  part_pairs n p ps s u b (part.Fixed name id v) e k = record { new = []; is = ap (λ (z : State). z.fields) k.1 ∙ sym (append-nil s.fields); pairs = λ gs h. skipped p ps (ap has_value e) gs h }
-  part_pairs n p ps s u b (part.Pad m) e k = record { new = []; is = ap (λ (z : State). z.fields) k.2 ∙ sym (append-nil s.fields); pairs = λ gs h. skipped p ps (ap has_value e) gs h }
-  part_pairs n p ps s u b (part.List name id y i) e k = record { new = (p.container, p.place, items k.0) ∷ []; is = ap (λ (z : State). z.fields) k.3; pairs = λ gs h. kept p ps (items k.0) (ap has_value e) gs h }
-  part_pairs n p ps s u b (part.Length name id c0 c1) e k = record { new = []; is = ap (λ (z : State). z.fields) k.2 ∙ sym (append-nil s.fields); pairs = λ gs h. skipped p ps (ap has_value e) gs h }
-  part_pairs n p ps s u b (part.Check name id c) e k = record { new = []; is = ap (λ (z : State). z.fields) k.1 ∙ sym (append-nil s.fields); pairs = λ gs h. skipped p ps (ap has_value e) gs h }
+  part_pairs : (n : ℕ) (p : Placed) (ps : List Placed) (s u : Progress) (b : Bits) (q : Part) → p.part ≡ q → PartPasses any t (SpellsWithin n any t) s p q u b → Pairs p ps s u
+  part_pairs n p ps s u b (part.Plain name id) e k = record { new = (p.container, p.place, k.0) ∷ []; is = ap (λ (z : Progress). z.fields) k.2; pairs = λ gs h. kept p ps k.0 (ap has_value e) gs h }
+  part_pairs n p ps s u b (part.Fixed name id v) e k = record { new = []; is = ap (λ (z : Progress). z.fields) k.1 ∙ sym (append-nil s.fields); pairs = λ gs h. skipped p ps (ap has_value e) gs h }
+  part_pairs n p ps s u b (part.Pad m) e k = record { new = []; is = ap (λ (z : Progress). z.fields) k.2 ∙ sym (append-nil s.fields); pairs = λ gs h. skipped p ps (ap has_value e) gs h }
+  part_pairs n p ps s u b (part.List name id y i) e k = record { new = (p.container, p.place, items k.0) ∷ []; is = ap (λ (z : Progress). z.fields) k.3; pairs = λ gs h. kept p ps (items k.0) (ap has_value e) gs h }
+  part_pairs n p ps s u b (part.Length name id c0 c1) e k = record { new = []; is = ap (λ (z : Progress). z.fields) k.2 ∙ sym (append-nil s.fields); pairs = λ gs h. skipped p ps (ap has_value e) gs h }
+  part_pairs n p ps s u b (part.Check name id c) e k = record { new = []; is = ap (λ (z : Progress). z.fields) k.1 ∙ sym (append-nil s.fields); pairs = λ gs h. skipped p ps (ap has_value e) gs h }
 
-  pub parts_fit : (n : ℕ) (ps : List Placed) (s u : State) (b : Bits) → AllByRecursion IsPlaced ps → Fits n s → PartsPass any t (SpellsWithin n any t) s ps u b → Fits n u × ((gs : List Field) × (u.fields ≡ s.fields ++ gs) × (paired ps (values_of gs) ≡ gs))
-  parts_fit n [] s u b a h k = (subst (Fits n) (sym k.0) h, ([], ap (λ (z : State). z.fields) k.0 ∙ sym (append-nil s.fields), refl))
+  pub parts_fit : (n : ℕ) (ps : List Placed) (s u : Progress) (b : Bits) → AllByRecursion IsPlaced ps → Fits n s → PartsPass any t (SpellsWithin n any t) s ps u b → Fits n u × ((gs : List Field) × (u.fields ≡ s.fields ++ gs) × (paired ps (values_of gs) ≡ gs))
+  parts_fit n [] s u b a h k = (subst (Fits n) (sym k.0) h, ([], ap (λ (z : Progress). z.fields) k.0 ∙ sym (append-nil s.fields), refl))
   parts_fit n (p ∷ ps) s u b a h k =
       let one = part_pairs n p ps s k.0 k.1 p.part refl k.4 in
       let rest = parts_fit n ps k.0 u k.2 a.1 (part_keeps n s p p.part k.0 k.1 a.0 h k.4) k.5 in
@@ -138,7 +138,7 @@ module _ (t : Table) where
       let e1 = some_is (pos (cond h.0 1 0)) m (sym (ap (λ w. number_by (Some row) (Some w)) h.1) ∙ q) in
       elim (bit_number h.0) [ inl z ↦ inl (sym e1 ∙ z) | inr z ↦ inr (sym e1 ∙ z) ]
   scalar_domain n id v c m row (kind.Str form) e h q = let z : ◌≡◌ {A = Option ℤ} None (Some m) = sym (ap (λ w. number_by (Some row) (Some w)) h.1) ∙ q in absurd cc
-  scalar_domain n id v c m row (kind.Bin size) e h q = let z : ◌≡◌ {A = Option ℤ} None (Some m) = sym (ap (λ w. number_by (Some row) (Some w)) h.1) ∙ q in absurd cc
+  scalar_domain n id v c m row (kind.Bin size free) e h q = let z : ◌≡◌ {A = Option ℤ} None (Some m) = sym (ap (λ w. number_by (Some row) (Some w)) h.1) ∙ q in absurd cc
   scalar_domain n id v c m row (kind.Arr item size) e h q = let z : ◌≡◌ {A = Option ℤ} None (Some m) = sym (ap (λ w. number_by (Some row) (Some w)) h.1) ∙ q in absurd cc
   scalar_domain n id v c m row (kind.Con con) e h q = (h.0, sym (some_is (pos h.0) m (sym (ap (λ w. number_by (Some row) (Some w)) h.2) ∙ q)), (h.3).concrete, (h.3).under)
 
@@ -182,7 +182,7 @@ module _ (t : Table) where
   kind_inside n id v c (kind.Enum form listing) h = inl (ap (λ w. fields_in t (Some w)) h.2)
   kind_inside n id v c (kind.Bool form) h = inl (ap (λ w. fields_in t (Some w)) h.1)
   kind_inside n id v c (kind.Str form) h = inl (ap (λ w. fields_in t (Some w)) h.1)
-  kind_inside n id v c (kind.Bin size) h = inl (ap (λ w. fields_in t (Some w)) h.1)
+  kind_inside n id v c (kind.Bin size free) h = inl (ap (λ w. fields_in t (Some w)) h.1)
   kind_inside n id v c (kind.Arr item size) h = inl (ap (λ w. fields_in t (Some w)) h.1)
   kind_inside n id v c (kind.Con con) h =
       let sp = h.3 in

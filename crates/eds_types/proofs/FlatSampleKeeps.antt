@@ -73,10 +73,10 @@ module _ (s : Scalars) (is : AreScalars s) where
   parts : (y : ℕ) → AllByRecursion (λ (p : Placed). PartKeeps t p p.part) (own_parts t y)
   unfolding chain_within
   parts = by_parts (λ y ps. AllByRecursion (λ (p : Placed). PartKeeps t p p.part) ps) (λ y. tt)
-      (solid 7 refl ⊗ solid 8 refl ⊗ tt)
-      (solid 14 refl ⊗ solid 0 refl ⊗ tt)
-      (solid 11 refl ⊗ solid 12 refl ⊗ solid 14 refl ⊗ tt)
-      (solid 6 refl ⊗ tt)
+      ((solid 7 refl, tt) ⊗ (solid 8 refl, tt) ⊗ tt)
+      ((solid 14 refl, tt) ⊗ (solid 0 refl, tt) ⊗ tt)
+      ((solid 11 refl, tt) ⊗ (solid 12 refl, tt) ⊗ (solid 14 refl, tt) ⊗ tt)
+      ((solid 6 refl, tt) ⊗ tt)
 
   sequences : (k : ℕ) → SequenceKeeps (sequence t k)
   unfolding chain_within

@@ -23,7 +23,7 @@ use Rattle.eds_types.specs.Fields.{Field, value_at, has_value, row_at, type_by, 
 use Rattle.eds_types.specs.LeastSize.{least_of, least_number, least_number_in, least_count, size_by, least_part, least_sequence, least_family, least_row, least_within}
 use Rattle.eds_types.specs.Plain.{Plain, items, list_of}
 use Rattle.eds_types.specs.Rows.{Table, chain, list_has, container_in, concrete_in, is_concrete, Placed, sequence}
-use Rattle.eds_types.specs.Spelling.{State, started, count_in, ItemsSpell, PartPasses, PartsPass, KindSpells, SpellsWithin}
+use Rattle.eds_types.specs.Spelling.{BinHas, Progress, started, count_in, ItemsSpell, PartPasses, PartsPass, KindSpells, SpellsWithin}
 use Rattle.eds_types.proofs.AllOf.{All-both}
 use Rattle.eds_types.proofs.FieldTypes.{IsPlaced, Fits, found_by, ValueFits, part_keeps, sequence_placed}
 use Rattle.eds_types.proofs.Grown.{part_grown}
@@ -92,11 +92,11 @@ ends_known (f ∷ l) y i v = go (f.0 == y && f.1 == i) (ends_known l y i v)
     go false ih = ih
 
 module _ (t : Table) (n : ℕ) (least : ℕ → ℕ) (g : (id : ℕ) (v : Plain) (b : Bits) → SpellsWithin n any t id v b → least id ≤ length b) where
-  abbrev Each : ℕ → Plain → Bits → Type 0
-  Each = SpellsWithin n any t
+  abbrev SpellsInner : ℕ → Plain → Bits → Type 0
+  SpellsInner = SpellsWithin n any t
 
   -- a list has at least the least number of items
-  count_least : (y : TypeId) (i : ℕ) (done : List Placed) (s : State) → ListFits t done (part.List [] y y i) → AllByRecursion (IsKnown s.fields) done → AllByRecursion (IsPlaced t) done → Fits t n s → least_count t y i ≤ count_in (value_at s.fields y.0 i)
+  count_least : (y : TypeId) (i : ℕ) (done : List Placed) (s : Progress) → ListFits t done (part.List [] y y i) → AllByRecursion (IsKnown s.fields) done → AllByRecursion (IsPlaced t) done → Fits t n s → least_count t y i ≤ count_in (value_at s.fields y.0 i)
   count_least y i done s li known placed fit =
       let w = known_count t y.0 i s.fields done li known in
       let found = found_by t n s.fields y.0 i w.0 fit w.1 in
@@ -110,7 +110,7 @@ module _ (t : Table) (n : ℕ) (least : ℕ → ℕ) (g : (id : ℕ) (v : Plain)
       same_part : (q r : Part) → part_at t (y, i) ≡ Some q → part_at t (y, i) ≡ Some r → q ≡ r
       same_part q r a c = let z : ◌≡◌ {A = Option Part} (Some q) (Some r) = sym a ∙ c in cc
 
-  part_bound : (done : List Placed) (s : State) (p : Placed) (q : Part) (u : State) (b : Bits) → ListFits t done q → AllByRecursion (IsKnown s.fields) done → AllByRecursion (IsPlaced t) done → Fits t n s → PartPasses any t Each s p q u b → least_part t least q ≤ length b
+  part_bound : (done : List Placed) (s : Progress) (p : Placed) (q : Part) (u : Progress) (b : Bits) → ListFits t done q → AllByRecursion (IsKnown s.fields) done → AllByRecursion (IsPlaced t) done → Fits t n s → PartPasses any t SpellsInner s p q u b → least_part t least q ≤ length b
   part_bound done s p (part.Plain name id) u b li known placed fit h = g id.0 h.0 b h.1
   part_bound done s p (part.Fixed name id v) u b li known placed fit h = g id.0 _ b h.0
   part_bound done s p (part.Pad m) u b li known placed fit h = let e = h.0 in omega arith
@@ -118,24 +118,24 @@ module _ (t : Table) (n : ℕ) (least : ℕ → ℕ) (g : (id : ℕ) (v : Plain)
       let c = count_least y i done s li known placed fit in
       let same : count_in (value_at s.fields y.0 i) ≡ length (list_of h.0) = sym h.1 in
       let few : least_count t y i ≤ length (list_of h.0) = omega arith in
-      omega (arith, mul-le-mul_right (least id.0) few, items_least (Each id.0) (least id.0) (g id.0) (list_of h.0) b h.2)
+      omega (arith, mul-le-mul_right (least id.0) few, items_least (SpellsInner id.0) (least id.0) (g id.0) (list_of h.0) b h.2)
   part_bound done s p (part.Length name id c0 c1) u b li known placed fit h = g id.0 _ b h.1
   part_bound done s p (part.Check name id k) u b li known placed fit h = g id.0 _ b h.0
 
   -- the value of a part is among the fields behind it
-  part_known : (s : State) (p : Placed) (q : Part) (u : State) (b : Bits) → PartPasses any t Each s p q u b → has_value q ≡ true → (w : Plain) × (value_at u.fields p.container p.place ≡ Some w)
-  part_known s p (part.Plain name id) u b h e = let k = ends_known s.fields p.container p.place h.0 in (k.0, ap (λ (z : State). value_at z.fields p.container p.place) h.2 ∙ k.1)
+  part_known : (s : Progress) (p : Placed) (q : Part) (u : Progress) (b : Bits) → PartPasses any t SpellsInner s p q u b → has_value q ≡ true → (w : Plain) × (value_at u.fields p.container p.place ≡ Some w)
+  part_known s p (part.Plain name id) u b h e = let k = ends_known s.fields p.container p.place h.0 in (k.0, ap (λ (z : Progress). value_at z.fields p.container p.place) h.2 ∙ k.1)
   part_known s p (part.Fixed name id v) u b h e = absurd cc
   part_known s p (part.Pad m) u b h e = absurd cc
-  part_known s p (part.List name id y i) u b h e = let k = ends_known s.fields p.container p.place (items h.0) in (k.0, ap (λ (z : State). value_at z.fields p.container p.place) h.3 ∙ k.1)
+  part_known s p (part.List name id y i) u b h e = let k = ends_known s.fields p.container p.place (items h.0) in (k.0, ap (λ (z : Progress). value_at z.fields p.container p.place) h.3 ∙ k.1)
   part_known s p (part.Length name id c0 c1) u b h e = absurd cc
   part_known s p (part.Check name id k) u b h e = absurd cc
 
-  run_bound : (ps done : List Placed) (s u : State) (b : Bits) → ListsFit t done ps → AllByRecursion (IsKnown s.fields) done → AllByRecursion (IsPlaced t) done → AllByRecursion (IsPlaced t) ps → Fits t n s → PartsPass any t Each s ps u b → sum_by (λ (p : Placed). least_part t least p.part) ps ≤ length b
+  run_bound : (ps done : List Placed) (s u : Progress) (b : Bits) → ListsFit t done ps → AllByRecursion (IsKnown s.fields) done → AllByRecursion (IsPlaced t) done → AllByRecursion (IsPlaced t) ps → Fits t n s → PartsPass any t SpellsInner s ps u b → sum_by (λ (p : Placed). least_part t least p.part) ps ≤ length b
   run_bound [] done s u b li known placed later fit h = omega arith
   run_bound (p ∷ ps) done s u b li known placed later fit h =
       let m = h.0 in
-      let new = part_grown any t Each (λ y i. Unit {0}) s p p.part m h.1 tt h.4 in
+      let new = part_grown any t SpellsInner (λ y i. Unit {0}) s p p.part m h.1 tt h.4 in
       let still = subst (λ l. AllByRecursion (IsKnown l) done) (sym new.1) (known_more done s.fields new.0 known) in
       let known' = All-both (IsKnown m.fields) done (p ∷ []) still ((λ e. part_known s p p.part m h.1 h.4 e), tt) in
       let placed' = All-both (IsPlaced t) done (p ∷ []) placed (later.0, tt) in
@@ -150,6 +150,10 @@ text_bound : (m : ℕ) (fixed ascii : Bool) (stop : ℕ) (size : IsTextSize m st
 text_bound m true ascii stop size s b h = let e = h.size in omega arith
 text_bound m false ascii stop size s b h = let e = h.size in omega arith
 
+bin_bound : (n : ℕ) (free : Bool) (m : ℕ) → BinHas n free m → cond free 0 n ≤ m
+bin_bound n true m h = omega arith
+bin_bound n false m h = omega (arith, h)
+
 -- a concrete container is one of the table's
 pub there : (t : Table) (k : ℕ) → IsTrue (is_concrete t k) → k < length t
 there t k h = elim (cases_lt k (length t)) [
@@ -163,7 +167,7 @@ module _ (t : Table) (can : Facts t) where
   kind_bound n g id (kind.Enum form listing) v b h = let e = (h.4).is.size in omega arith
   kind_bound n g id (kind.Bool form) v b h = let e = (h.2).size in omega arith
   kind_bound n g id (kind.Str form) v b h = text_bound form.length form.fixed form.ascii form.stop (size_of form) h.0 b h.2
-  kind_bound n g id (kind.Bin m) v b h = let e = h.0 in omega arith
+  kind_bound n g id (kind.Bin m free) v b h = bin_bound m free (length b) h.0
   kind_bound n g id (kind.Arr item m) v b h = subst (λ z. z * least_within n t item.0 ≤ length b) h.2 (items_least (SpellsWithin n any t item.0) (least_within n t item.0) (g item.0) (list_of h.0) b h.3)
   kind_bound n g id (kind.Con c) v b h =
       let sp = h.3 in

@@ -12,7 +12,7 @@ use Rattle.eds_types.proofs.Scales.{scaled_same, told_decides}
 use Rattle.eds_types.proofs.TableFacts.{IsScaled, NoLength, IsLengthOnce}
 use Rattle.eds_types.specs.Plain.{Plain, num}
 use Rattle.eds_types.specs.Rows.{Table, Placed}
-use Rattle.eds_types.specs.Spelling.{State, PartPasses, PartsPass}
+use Rattle.eds_types.specs.Spelling.{Progress, PartPasses, PartsPass}
 
 -- ---- the numbers of the length entries
 
@@ -109,16 +109,16 @@ module _ (C : ℕ → Plain → Bits → Type 0) where
 
   -- ---- the numbers of a run
 
-  part_chosen : (t : Table) (s : State) (p : Placed) (q : Part) (u : State) (b : Bits) → PartPasses canonical t C s p q u b → (c : Choice q) × (u.octets ≡ tell q c s.octets)
-  part_chosen t s p (part.Plain name id) u b h = (tt, ap (λ (x : State). x.octets) h.2)
-  part_chosen t s p (part.Fixed name id v) u b h = (tt, ap (λ (x : State). x.octets) h.1)
-  part_chosen t s p (part.Pad m) u b h = (tt, ap (λ (x : State). x.octets) h.2)
-  part_chosen t s p (part.List name id y i) u b h = (tt, ap (λ (x : State). x.octets) h.3)
-  part_chosen t s p (part.Length name id c0 c1) u b h = ((h.0, b, h.1), ap (λ (x : State). x.octets) h.2)
-  part_chosen t s p (part.Check name id k) u b h = (tt, ap (λ (x : State). x.octets) h.1)
+  part_chosen : (t : Table) (s : Progress) (p : Placed) (q : Part) (u : Progress) (b : Bits) → PartPasses canonical t C s p q u b → (c : Choice q) × (u.octets ≡ tell q c s.octets)
+  part_chosen t s p (part.Plain name id) u b h = (tt, ap (λ (x : Progress). x.octets) h.2)
+  part_chosen t s p (part.Fixed name id v) u b h = (tt, ap (λ (x : Progress). x.octets) h.1)
+  part_chosen t s p (part.Pad m) u b h = (tt, ap (λ (x : Progress). x.octets) h.2)
+  part_chosen t s p (part.List name id y i) u b h = (tt, ap (λ (x : Progress). x.octets) h.3)
+  part_chosen t s p (part.Length name id c0 c1) u b h = ((h.0, b, h.1), ap (λ (x : Progress). x.octets) h.2)
+  part_chosen t s p (part.Check name id k) u b h = (tt, ap (λ (x : Progress). x.octets) h.1)
 
-  pub run_chosen : (t : Table) (ps : List Placed) (s u : State) (b : Bits) → PartsPass canonical t C s ps u b → (c : Choices ps) × (u.octets ≡ tell_all ps c s.octets)
-  run_chosen t [] s u b h = (tt, ap (λ (x : State). x.octets) h.0)
+  pub run_chosen : (t : Table) (ps : List Placed) (s u : Progress) (b : Bits) → PartsPass canonical t C s ps u b → (c : Choices ps) × (u.octets ≡ tell_all ps c s.octets)
+  run_chosen t [] s u b h = (tt, ap (λ (x : Progress). x.octets) h.0)
   run_chosen t (p ∷ ps) s u b h =
       let one = part_chosen t s p p.part h.0 h.1 h.4 in
       let rest = run_chosen t ps h.0 u h.2 h.5 in

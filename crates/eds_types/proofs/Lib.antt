@@ -36,3 +36,4 @@ pub mod SampleFacts
 pub mod SampleKeeps
 pub mod FlatSampleKeeps
 pub mod Appended
+pub mod TailSizes

@@ -95,7 +95,7 @@ spelt_counts t (suc m) x w b c s = (s.0, s.1, by_kind (s.0).kind (subst (λ (r :
     by_kind (kind.Enum form listing) c s = absurd c
     by_kind (kind.Bool form) c s = absurd c
     by_kind (kind.Str form) c s = absurd c
-    by_kind (kind.Bin size) c s = absurd c
+    by_kind (kind.Bin size free) c s = absurd c
     by_kind (kind.Arr item size) c s = absurd c
     by_kind (kind.Con con) c s = absurd c
 

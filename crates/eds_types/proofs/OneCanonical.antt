@@ -7,6 +7,7 @@ use Rattle.eds_bits.specs.Bits.{Bits, octets_of, octets_for}
 use Rattle.eds_bits.specs.IntForms.{IsNumber}
 use Rattle.eds_bits.specs.Scalars.{check_of}
 use Rattle.eds_bits.specs.Style.{any, canonical}
+use Rattle.eds_types.proofs.SameValues.{bin_bits}
 use Rattle.eds_types.specs.declared.row.TypeRow.{TypeRow}
 use Rattle.eds_types.specs.declared.row.Kind.{Kind}
 use Rattle.eds_types.specs.declared.row.Kind.TheVariants as kind
@@ -15,7 +16,7 @@ use Rattle.eds_types.specs.declared.row.Part.TheVariants as part
 use Rattle.eds_types.specs.Fields.{Field, paired, listed}
 use Rattle.eds_types.specs.Plain.{Plain, num, text, label, truth, bits, items, fields, list_of}
 use Rattle.eds_types.specs.Rows.{Table, Placed, sequence}
-use Rattle.eds_types.specs.Spelling.{State, started, ItemsSpell, PartPasses, PartsPass, ContainerSpells, KindSpells, SpellsWithin}
+use Rattle.eds_types.specs.Spelling.{Progress, started, ItemsSpell, PartPasses, PartsPass, ContainerSpells, KindSpells, SpellsWithin}
 use Rattle.eds_types.proofs.CanonicalPatterns.{zero_zeros, false_same, bool_unique, text_unique, octets_same}
 use Rattle.eds_types.proofs.CanonicalSpelling.{parts_before}
 use Rattle.eds_types.proofs.Grown.{only_grown}
@@ -38,51 +39,51 @@ module _ (t : Table) (n : ℕ) (g : (id : ℕ) (v : Plain) (b c : Bits) → Spel
   C = SpellsWithin n canonical t
 
   -- two runs over a part go to like states by the same bits
-  record Same (b c : Bits) (u w : State) : Type 0 where
+  record Same (b c : Bits) (u w : Progress) : Type 0 where
     bits : b ≡ c
     fields : u.fields ≡ w.fields
     before : u.before ≡ w.before
 
-  part_unique : (s z : State) (p : Placed) (q : Part) (u w : State) (b c : Bits) (more rest : List Field) → IsScaled q → (NoLength q ⊎ (u.octets ≡ w.octets)) → s.fields ≡ z.fields → s.before ≡ z.before → u.fields ++ more ≡ w.fields ++ rest → PartPasses canonical t C s p q u b → PartPasses canonical t C z p q w c → Same b c u w
+  part_unique : (s z : Progress) (p : Placed) (q : Part) (u w : Progress) (b c : Bits) (more rest : List Field) → IsScaled q → (NoLength q ⊎ (u.octets ≡ w.octets)) → s.fields ≡ z.fields → s.before ≡ z.before → u.fields ++ more ≡ w.fields ++ rest → PartPasses canonical t C s p q u b → PartPasses canonical t C z p q w c → Same b c u w
   part_unique s z p (part.Plain name id) u w b c more rest sc o e f l h k =
-      let uf = ap (λ (x : State). x.fields) h.2 in let wf = ap (λ (x : State). x.fields) k.2 in
+      let uf = ap (λ (x : Progress). x.fields) h.2 in let wf = ap (λ (x : Progress). x.fields) k.2 in
       let a = added_same s.fields z.fields (p.container, p.place, h.0) (p.container, p.place, k.0) more rest e (ap (λ l. l ++ more) (sym uf) ∙ l ∙ ap (λ l. l ++ rest) wf) in
       let v : h.0 ≡ k.0 = ap (λ (x : Field). x.2) a in
       let bc = g id.0 k.0 b c (subst (λ x. C id.0 x b) v h.1) k.1 in
-      record { bits = bc; fields = uf ∙ ap (λ l. l ++ (p.container, p.place, h.0) ∷ []) e ∙ ap (λ x. z.fields ++ x ∷ []) a ∙ sym wf; before = ap (λ (x : State). x.before) h.2 ∙ ap (λ l. l ++ b) f ∙ ap (λ l. z.before ++ l) bc ∙ sym (ap (λ (x : State). x.before) k.2) }
+      record { bits = bc; fields = uf ∙ ap (λ l. l ++ (p.container, p.place, h.0) ∷ []) e ∙ ap (λ x. z.fields ++ x ∷ []) a ∙ sym wf; before = ap (λ (x : Progress). x.before) h.2 ∙ ap (λ l. l ++ b) f ∙ ap (λ l. z.before ++ l) bc ∙ sym (ap (λ (x : Progress). x.before) k.2) }
   part_unique s z p (part.Fixed name id v) u w b c more rest sc o e f l h k =
       let bc = g id.0 _ b c h.0 k.0 in
-      record { bits = bc; fields = ap (λ (x : State). x.fields) h.1 ∙ e ∙ sym (ap (λ (x : State). x.fields) k.1); before = ap (λ (x : State). x.before) h.1 ∙ ap (λ l. l ++ b) f ∙ ap (λ l. z.before ++ l) bc ∙ sym (ap (λ (x : State). x.before) k.1) }
+      record { bits = bc; fields = ap (λ (x : Progress). x.fields) h.1 ∙ e ∙ sym (ap (λ (x : Progress). x.fields) k.1); before = ap (λ (x : Progress). x.before) h.1 ∙ ap (λ l. l ++ b) f ∙ ap (λ l. z.before ++ l) bc ∙ sym (ap (λ (x : Progress). x.before) k.1) }
   part_unique s z p (part.Pad m) u w b c more rest sc o e f l h k =
       let bc = false_same b c (h.0 ∙ sym k.0) (zero_zeros b h.1) (zero_zeros c k.1) in
-      record { bits = bc; fields = ap (λ (x : State). x.fields) h.2 ∙ e ∙ sym (ap (λ (x : State). x.fields) k.2); before = ap (λ (x : State). x.before) h.2 ∙ ap (λ l. l ++ b) f ∙ ap (λ l. z.before ++ l) bc ∙ sym (ap (λ (x : State). x.before) k.2) }
+      record { bits = bc; fields = ap (λ (x : Progress). x.fields) h.2 ∙ e ∙ sym (ap (λ (x : Progress). x.fields) k.2); before = ap (λ (x : Progress). x.before) h.2 ∙ ap (λ l. l ++ b) f ∙ ap (λ l. z.before ++ l) bc ∙ sym (ap (λ (x : Progress). x.before) k.2) }
   part_unique s z p (part.List name id y i) u w b c more rest sc o e f l h k =
-      let uf = ap (λ (x : State). x.fields) h.3 in let wf = ap (λ (x : State). x.fields) k.3 in
+      let uf = ap (λ (x : Progress). x.fields) h.3 in let wf = ap (λ (x : Progress). x.fields) k.3 in
       let a = added_same s.fields z.fields (p.container, p.place, items h.0) (p.container, p.place, items k.0) more rest e (ap (λ l. l ++ more) (sym uf) ∙ l ∙ ap (λ l. l ++ rest) wf) in
       let v : items h.0 ≡ items k.0 = ap (λ (x : Field). x.2) a in
       let vs : h.0 ≡ k.0 = cc in
       let bc = items_unique (C id.0) (g id.0) (list_of k.0) b c (subst (λ x. ItemsSpell (C id.0) (list_of x) b) vs h.2) k.2 in
-      record { bits = bc; fields = uf ∙ ap (λ l. l ++ (p.container, p.place, items h.0) ∷ []) e ∙ ap (λ x. z.fields ++ x ∷ []) a ∙ sym wf; before = ap (λ (x : State). x.before) h.3 ∙ ap (λ l. l ++ b) f ∙ ap (λ l. z.before ++ l) bc ∙ sym (ap (λ (x : State). x.before) k.3) }
+      record { bits = bc; fields = uf ∙ ap (λ l. l ++ (p.container, p.place, items h.0) ∷ []) e ∙ ap (λ x. z.fields ++ x ∷ []) a ∙ sym wf; before = ap (λ (x : Progress). x.before) h.3 ∙ ap (λ l. l ++ b) f ∙ ap (λ l. z.before ++ l) bc ∙ sym (ap (λ (x : Progress). x.before) k.3) }
   part_unique s z p (part.Length name id c0 c1) u w b c more rest sc (inl no_length) e f l h k = absurd no_length
   part_unique s z p (part.Length name id c0 c1) u w b c more rest sc (inr o) e f l h k =
-      let q : c0 +ℤ (c1 *ℤ h.0) ≡ c0 +ℤ (c1 *ℤ k.0) = some_is (c0 +ℤ (c1 *ℤ h.0)) (c0 +ℤ (c1 *ℤ k.0)) (sym (ap (λ (x : State). x.octets) h.2) ∙ o ∙ ap (λ (x : State). x.octets) k.2) in
+      let q : c0 +ℤ (c1 *ℤ h.0) ≡ c0 +ℤ (c1 *ℤ k.0) = some_is (c0 +ℤ (c1 *ℤ h.0)) (c0 +ℤ (c1 *ℤ k.0)) (sym (ap (λ (x : Progress). x.octets) h.2) ∙ o ∙ ap (λ (x : Progress). x.octets) k.2) in
       let bc = g id.0 (num k.0) b c (subst (λ x. C id.0 (num x) b) (scaled_same c0 c1 h.0 k.0 sc.0 sc.1 q) h.1) k.1 in
-      record { bits = bc; fields = ap (λ (x : State). x.fields) h.2 ∙ e ∙ sym (ap (λ (x : State). x.fields) k.2); before = ap (λ (x : State). x.before) h.2 ∙ ap (λ l. l ++ b) f ∙ ap (λ l. z.before ++ l) bc ∙ sym (ap (λ (x : State). x.before) k.2) }
+      record { bits = bc; fields = ap (λ (x : Progress). x.fields) h.2 ∙ e ∙ sym (ap (λ (x : Progress). x.fields) k.2); before = ap (λ (x : Progress). x.before) h.2 ∙ ap (λ l. l ++ b) f ∙ ap (λ l. z.before ++ l) bc ∙ sym (ap (λ (x : Progress). x.before) k.2) }
   part_unique s z p (part.Check name id kd) u w b c more rest sc o e f l h k =
       let bc = g id.0 (num (pos (check_of kd z.before))) b c (subst (λ y. C id.0 (num (pos (check_of kd y))) b) f h.0) k.0 in
-      record { bits = bc; fields = ap (λ (x : State). x.fields) h.1 ∙ e ∙ sym (ap (λ (x : State). x.fields) k.1); before = ap (λ (x : State). x.before) h.1 ∙ ap (λ l. l ++ b) f ∙ ap (λ l. z.before ++ l) bc ∙ sym (ap (λ (x : State). x.before) k.1) }
+      record { bits = bc; fields = ap (λ (x : Progress). x.fields) h.1 ∙ e ∙ sym (ap (λ (x : Progress). x.fields) k.1); before = ap (λ (x : Progress). x.before) h.1 ∙ ap (λ l. l ++ b) f ∙ ap (λ l. z.before ++ l) bc ∙ sym (ap (λ (x : Progress). x.before) k.1) }
 
   -- the number told stays where no length entry follows
-  part_tells : (s : State) (p : Placed) (q : Part) (u : State) (b : Bits) → NoLength q → PartPasses canonical t C s p q u b → u.octets ≡ s.octets
-  part_tells s p (part.Plain name id) u b no_length h = ap (λ (x : State). x.octets) h.2
-  part_tells s p (part.Fixed name id v) u b no_length h = ap (λ (x : State). x.octets) h.1
-  part_tells s p (part.Pad m) u b no_length h = ap (λ (x : State). x.octets) h.2
-  part_tells s p (part.List name id y i) u b no_length h = ap (λ (x : State). x.octets) h.3
+  part_tells : (s : Progress) (p : Placed) (q : Part) (u : Progress) (b : Bits) → NoLength q → PartPasses canonical t C s p q u b → u.octets ≡ s.octets
+  part_tells s p (part.Plain name id) u b no_length h = ap (λ (x : Progress). x.octets) h.2
+  part_tells s p (part.Fixed name id v) u b no_length h = ap (λ (x : Progress). x.octets) h.1
+  part_tells s p (part.Pad m) u b no_length h = ap (λ (x : Progress). x.octets) h.2
+  part_tells s p (part.List name id y i) u b no_length h = ap (λ (x : Progress). x.octets) h.3
   part_tells s p (part.Length name id c0 c1) u b no_length h = absurd no_length
-  part_tells s p (part.Check name id k) u b no_length h = ap (λ (x : State). x.octets) h.1
+  part_tells s p (part.Check name id k) u b no_length h = ap (λ (x : Progress). x.octets) h.1
 
-  parts_tell : (ps : List Placed) (s u : State) (b : Bits) → AllByRecursion (λ (p : Placed). NoLength p.part) ps → PartsPass canonical t C s ps u b → u.octets ≡ s.octets
-  parts_tell [] s u b a h = ap (λ (x : State). x.octets) h.0
+  parts_tell : (ps : List Placed) (s u : Progress) (b : Bits) → AllByRecursion (λ (p : Placed). NoLength p.part) ps → PartsPass canonical t C s ps u b → u.octets ≡ s.octets
+  parts_tell [] s u b a h = ap (λ (x : Progress). x.octets) h.0
   parts_tell (p ∷ ps) s u b a h = parts_tell ps h.0 u h.2 a.1 h.5 ∙ part_tells s p p.part h.0 h.1 a.0 h.4
 
   length_or : (q : Part) → NoLength q ⊎ (NoLength q → ⊥)
@@ -94,19 +95,19 @@ module _ (t : Table) (n : ℕ) (g : (id : ℕ) (v : Plain) (b c : Bits) → Spel
   length_or (part.Check name id k) = inl tt
 
   -- whether a number was told is the same of two runs
-  part_known : (s z : State) (p : Placed) (q : Part) (u w : State) (b c : Bits) → is_some s.octets ≡ is_some z.octets → PartPasses canonical t C s p q u b → PartPasses canonical t C z p q w c → is_some u.octets ≡ is_some w.octets
-  part_known s z p (part.Plain name id) u w b c e h k = ap (λ (x : State). is_some x.octets) h.2 ∙ e ∙ sym (ap (λ (x : State). is_some x.octets) k.2)
-  part_known s z p (part.Fixed name id v) u w b c e h k = ap (λ (x : State). is_some x.octets) h.1 ∙ e ∙ sym (ap (λ (x : State). is_some x.octets) k.1)
-  part_known s z p (part.Pad m) u w b c e h k = ap (λ (x : State). is_some x.octets) h.2 ∙ e ∙ sym (ap (λ (x : State). is_some x.octets) k.2)
-  part_known s z p (part.List name id y i) u w b c e h k = ap (λ (x : State). is_some x.octets) h.3 ∙ e ∙ sym (ap (λ (x : State). is_some x.octets) k.3)
-  part_known s z p (part.Length name id c0 c1) u w b c e h k = ap (λ (x : State). is_some x.octets) h.2 ∙ sym (ap (λ (x : State). is_some x.octets) k.2)
-  part_known s z p (part.Check name id kd) u w b c e h k = ap (λ (x : State). is_some x.octets) h.1 ∙ e ∙ sym (ap (λ (x : State). is_some x.octets) k.1)
+  part_known : (s z : Progress) (p : Placed) (q : Part) (u w : Progress) (b c : Bits) → is_some s.octets ≡ is_some z.octets → PartPasses canonical t C s p q u b → PartPasses canonical t C z p q w c → is_some u.octets ≡ is_some w.octets
+  part_known s z p (part.Plain name id) u w b c e h k = ap (λ (x : Progress). is_some x.octets) h.2 ∙ e ∙ sym (ap (λ (x : Progress). is_some x.octets) k.2)
+  part_known s z p (part.Fixed name id v) u w b c e h k = ap (λ (x : Progress). is_some x.octets) h.1 ∙ e ∙ sym (ap (λ (x : Progress). is_some x.octets) k.1)
+  part_known s z p (part.Pad m) u w b c e h k = ap (λ (x : Progress). is_some x.octets) h.2 ∙ e ∙ sym (ap (λ (x : Progress). is_some x.octets) k.2)
+  part_known s z p (part.List name id y i) u w b c e h k = ap (λ (x : Progress). is_some x.octets) h.3 ∙ e ∙ sym (ap (λ (x : Progress). is_some x.octets) k.3)
+  part_known s z p (part.Length name id c0 c1) u w b c e h k = ap (λ (x : Progress). is_some x.octets) h.2 ∙ sym (ap (λ (x : Progress). is_some x.octets) k.2)
+  part_known s z p (part.Check name id kd) u w b c e h k = ap (λ (x : Progress). is_some x.octets) h.1 ∙ e ∙ sym (ap (λ (x : Progress). is_some x.octets) k.1)
 
-  parts_known : (ps : List Placed) (s z u w : State) (b c : Bits) → is_some s.octets ≡ is_some z.octets → PartsPass canonical t C s ps u b → PartsPass canonical t C z ps w c → is_some u.octets ≡ is_some w.octets
-  parts_known [] s z u w b c e h k = ap (λ (x : State). is_some x.octets) h.0 ∙ e ∙ sym (ap (λ (x : State). is_some x.octets) k.0)
+  parts_known : (ps : List Placed) (s z u w : Progress) (b c : Bits) → is_some s.octets ≡ is_some z.octets → PartsPass canonical t C s ps u b → PartsPass canonical t C z ps w c → is_some u.octets ≡ is_some w.octets
+  parts_known [] s z u w b c e h k = ap (λ (x : Progress). is_some x.octets) h.0 ∙ e ∙ sym (ap (λ (x : Progress). is_some x.octets) k.0)
   parts_known (p ∷ ps) s z u w b c e h k = parts_known ps h.0 k.0 u w h.2 k.2 (part_known s z p p.part h.0 k.0 h.1 k.1 e h.4 k.4) h.5 k.5
 
-  parts_unique : (ps : List Placed) (s z u w : State) (b c : Bits) → AllByRecursion (λ (p : Placed). IsScaled p.part) ps → IsLengthOnce ps → s.fields ≡ z.fields → s.before ≡ z.before → u.fields ≡ w.fields → u.octets ≡ w.octets → PartsPass canonical t C s ps u b → PartsPass canonical t C z ps w c → b ≡ c
+  parts_unique : (ps : List Placed) (s z u w : Progress) (b c : Bits) → AllByRecursion (λ (p : Placed). IsScaled p.part) ps → IsLengthOnce ps → s.fields ≡ z.fields → s.before ≡ z.before → u.fields ≡ w.fields → u.octets ≡ w.octets → PartsPass canonical t C s ps u b → PartsPass canonical t C z ps w c → b ≡ c
   parts_unique [] s z u w b c sc once e f l o h k = h.1 ∙ sym k.1
   parts_unique (p ∷ ps) s z u w b c sc once e f l o h k =
       let one = only_grown canonical t C ps h.0 u h.2 h.5 in
@@ -133,7 +134,7 @@ module _ (t : Table) (can : Facts t) where
       one_canonical form k.1 b c (subst (λ x. IsNumber canonical form x b) m h.4) k.4
   kind_unique n g id (kind.Bool form) v b c h k = let e : truth h.0 ≡ truth k.0 = sym h.1 ∙ k.1 in let e' : h.0 ≡ k.0 = cc in bool_unique form h.0 k.0 b c e' h.2 k.2
   kind_unique n g id (kind.Str form) v b c h k = let e : text h.0 ≡ text k.0 = sym h.1 ∙ k.1 in let e' : h.0 ≡ k.0 = cc in text_unique form.length form.fixed form.ascii form.stop (size_of form) h.0 k.0 b c e' h.2 k.2
-  kind_unique n g id (kind.Bin m) v b c h k = let e : bits m (octets_of b) ≡ bits m (octets_of c) = sym h.1 ∙ k.1 in let e' : octets_of b ≡ octets_of c = bits_octets m (octets_of b) (octets_of c) e in octets_same b c (h.0 ∙ sym k.0) e'
+  kind_unique n g id (kind.Bin m free) v b c h k = octets_same b c (ap bin_bits (sym h.1 ∙ k.1)) (ap octets_in (sym h.1 ∙ k.1))
     where
       octets_in : Plain → List ℕ
       octets_in (num x) = []
@@ -143,9 +144,6 @@ module _ (t : Table) (can : Facts t) where
       octets_in (bits m o) = o
       octets_in (items x) = []
       octets_in (fields k x) = []
-
-      bits_octets : (m : ℕ) (o p : List ℕ) → bits m o ≡ bits m p → o ≡ p
-      bits_octets m o p e = ap octets_in e
   kind_unique n g id (kind.Arr item m) v b c h k = let e : items h.0 ≡ items k.0 = sym h.1 ∙ k.1 in let e' : h.0 ≡ k.0 = cc in items_unique (SpellsWithin n canonical t item.0) (g item.0) (list_of k.0) b c (subst (λ x. ItemsSpell (SpellsWithin n canonical t item.0) (list_of x) b) e' h.3) k.3
   kind_unique n g id (kind.Con con) v b c h k =
       let e : fields h.0 h.1 ≡ fields k.0 k.1 = sym h.2 ∙ k.2 in

@@ -24,11 +24,11 @@ use Rattle.eds_types.proofs.CanonicalPatterns.{bool_exists, text_exists}
 use Rattle.eds_types.proofs.ScalarReading.{size_of}
 use Rattle.eds_types.specs.Rules.{KindKeeps, IsValueOf, HasKind}
 use Rattle.eds_types.proofs.SpellingSizes.{same_row}
-use Rattle.eds_types.specs.Fields.{Field, listed, type_by, IsUnder}
+use Rattle.eds_types.specs.Fields.{Field, listed, type_by, IsAtOrUnder}
 use Rattle.eds_types.specs.Packing.{Where, here, ItemFails, shape, ContainerPackFails, OfKindFails, KindPackFails, PackFailsWithin}
 use Rattle.eds_types.specs.Plain.{Plain, num, bits, items, fields, Plains, list_of, plain}
 use Rattle.eds_types.specs.Rows.{Table, Placed, sequence}
-use Rattle.eds_types.specs.Spelling.{ContainerSpells, ItemsSpell, KindSpells, SpellsWithin}
+use Rattle.eds_types.specs.Spelling.{BinHas, ContainerSpells, ItemsSpell, KindSpells, SpellsWithin}
 use Rattle.eds_types.specs.Tables.{IsTable, IsPartType, IsItemType, IsIntRow, IsIntKind}
 use Rattle.eds_types.proofs.AllOf.{All-weaker, All-pair}
 use Rattle.eds_types.proofs.ContainerPacking.{Known, container_decided}
@@ -44,7 +44,7 @@ module _ (t : Table) (is : IsTable t) (can : Facts t) where
       go (Some n) e s = let c = has_canonical form n (listed_number form listing x.0 n h.of_form e) in (c.0, (x.0, n, x.1, e, c.1))
   fixed_kind E id (kind.Bool form) v h x = let c = bool_exists form x.0 in (c.0, (x.0, x.1, c.1))
   fixed_kind E id (kind.Str form) v h x = let c = text_exists form.length form.fixed form.ascii form.stop (size_of form) x.0 x.2 x.3 in (c.0, (x.0, x.1, c.1))
-  fixed_kind E id (kind.Bin m) v h x = ((x.2).0, ((x.2).1, x.1 ∙ ap (bits m) (sym (x.2).2)))
+  fixed_kind E id (kind.Bin m free) v h x = let f = x.3 in (f.0, (subst (λ q. BinHas m q (length f.0)) (sym x.1) f.1, x.2 ∙ ap (λ k. bits k x.0) (sym f.1) ∙ ap (bits (length f.0)) (sym f.2)))
   fixed_kind E id (kind.Arr item m) v h x = absurd x
   fixed_kind E id (kind.Con c) v h x = absurd x
 
@@ -64,7 +64,7 @@ module _ (t : Table) (is : IsTable t) (can : Facts t) where
       by_kind (kind.Enum form listing) p i = absurd i
       by_kind (kind.Bool form) p i = absurd i
       by_kind (kind.Str form) p i = absurd i
-      by_kind (kind.Bin m) p i = absurd i
+      by_kind (kind.Bin m free) p i = absurd i
       by_kind (kind.Arr item m) p i = absurd i
       by_kind (kind.Con con) p i = absurd i
 
@@ -112,7 +112,7 @@ module _ (t : Table) (is : IsTable t) (can : Facts t) where
     abbrev Lowers : Placed → Type 0
     Lowers p = IsPartType t is.rank id p.part
 
-    known_of : (k : ℕ) → IsUnder t id k → Known t is can n k
+    known_of : (k : ℕ) → IsAtOrUnder t id k → Known t is can n k
     known_of k u =
         let lows = sequence_lower t is id k u in
         record {
@@ -172,7 +172,7 @@ module _ (t : Table) (is : IsTable t) (can : Facts t) where
     kind_decided (kind.Enum form listing) i h v = enum_decided t CN FN id form listing h v
     kind_decided (kind.Bool form) i h v = bool_decided t CN FN id form v
     kind_decided (kind.Str form) i h v = text_decided t CN FN id form v
-    kind_decided (kind.Bin m) i h v = bin_decided t CN FN id m v
+    kind_decided (kind.Bin m free) i h v = bin_decided t CN FN id m free v
     kind_decided (kind.Arr item m) i h v = array_decided item m (let r = i.0 in ih item.0 (omega arith) i.1) v
     kind_decided (kind.Con c) i h v = con_decided c v
 

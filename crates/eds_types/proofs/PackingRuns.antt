@@ -24,7 +24,7 @@ use Rattle.eds_types.specs.Packing.{Where, here, ItemFails, ListFails, PartFails
 use Rattle.eds_types.specs.Plain.{Plain, num, label, truth, text, bits, items, fields, Plains, list_of, plain}
 use Rattle.eds_types.specs.Reading.{same}
 use Rattle.eds_types.specs.Rows.{Table, Placed}
-use Rattle.eds_types.specs.Spelling.{State, passed, took, told, count_in, ItemsSpell, PartPasses, PartsPass, SpellsWithin}
+use Rattle.eds_types.specs.Spelling.{Progress, with_bits, with_value, with_octets, count_in, ItemsSpell, PartPasses, PartsPass, SpellsWithin}
 use Rattle.eds_types.proofs.AllOf.{All-weaker, All-both, All-pair}
 
 -- ---- values with their parts
@@ -198,8 +198,8 @@ module _ (t : Table) (n : ℕ) (fs : List Field) where
 
   -- ---- values that don't fail have a canonical run
 
-  record Step (done : List Placed) (p : Placed) (ps : List Placed) (s : State) (q : Part) (o : Option ℤ) : Type 0 where
-    u : State
+  record Step (done : List Placed) (p : Placed) (ps : List Placed) (s : Progress) (q : Part) (o : Option ℤ) : Type 0 where
+    u : Progress
     b : Bits
     passes : PartPasses canonical t C s p q u b
     rest : List Plain
@@ -215,17 +215,17 @@ module _ (t : Table) (n : ℕ) (fs : List Field) where
   items_of p id y i (items vs) e fine = (vs, refl)
   items_of p id y i (fields k x) e fine = absurd (fine (here reason.WrongKind) (subst (λ o. ListFails t F fs id y i o (here reason.WrongKind)) (sym e) refl))
 
-  part_built : (done : List Placed) (p : Placed) (ps : List Placed) (s : State) (f : List Plain) (q : Part) → p.part ≡ q → At fs done (p ∷ ps) s.fields f → TypesDecided q → Supplies q → ListFits t done q → (c : Choice C q) → IsFine p q → Step done p ps s q (tell C q c s.octets)
+  part_built : (done : List Placed) (p : Placed) (ps : List Placed) (s : Progress) (f : List Plain) (q : Part) → p.part ≡ q → At fs done (p ∷ ps) s.fields f → TypesDecided q → Supplies q → ListFits t done q → (c : Choice C q) → IsFine p q → Step done p ps s q (tell C q c s.octets)
   part_built done p ps s f (part.Plain name id) e at d sup li c fine = go (d id.0 refl next.v).either
     where
       next : Next fs done p ps s.fields
       next = next_valued fs done p ps s.fields f at (ap has_value e)
 
       go : ((b : Bits) × C id.0 next.v b) ⊎ ((g : Where) × F id.0 next.v g) → Step done p ps s (part.Plain name id) s.octets
-      go (inl h) = record { u = took s p next.v h.0; b = h.0; passes = (next.v, h.1, refl); rest = next.rest; at = next.at; octets = refl }
+      go (inl h) = record { u = with_value s p next.v h.0; b = h.0; passes = (next.v, h.1, refl); rest = next.rest; at = next.at; octets = refl }
       go (inr h) = absurd (fine h.0 (next.v, next.there, h.1))
-  part_built done p ps s f (part.Fixed name id v) e at d sup li c fine = record { u = passed s sup.0; b = sup.0; passes = (sup.1, refl); rest = f; at = next_other fs done p ps s.fields f at (ap has_value e); octets = refl }
-  part_built done p ps s f (part.Pad m) e at d sup li c fine = record { u = passed s (replicate m false); b = replicate m false; passes = (length-zeros m, zeros_zero (replicate m false) (zeros_false m), refl); rest = f; at = next_other fs done p ps s.fields f at (ap has_value e); octets = refl }
+  part_built done p ps s f (part.Fixed name id v) e at d sup li c fine = record { u = with_bits s sup.0; b = sup.0; passes = (sup.1, refl); rest = f; at = next_other fs done p ps s.fields f at (ap has_value e); octets = refl }
+  part_built done p ps s f (part.Pad m) e at d sup li c fine = record { u = with_bits s (replicate m false); b = replicate m false; passes = (length-zeros m, zeros_zero (replicate m false) (zeros_false m), refl); rest = f; at = next_other fs done p ps s.fields f at (ap has_value e); octets = refl }
   part_built done p ps s f (part.List name id y i) e at d sup li c fine = go (tree_decides (value_at fs y.0 i) (num (pos (length (list_of vs))))) (items_decided (C id.0) (F id.0) (d id.0 refl) (list_of vs) 0)
     where
       next : Next fs done p ps s.fields
@@ -251,7 +251,7 @@ module _ (t : Table) (n : ℕ) (fs : List Field) where
       go (inl k) r = elim (r.either) [
         | inr h ↦ absurd (fine_items h.0 (inr (k, h.1)))
         | inl h ↦ record {
-          u = took s p (items vs) h.0;
+          u = with_value s p (items vs) h.0;
           b = h.0;
           passes = (vs, sym (ap count_in (known.1 ∙ ap Some (some_tree (value_at fs y.0 i) known.0 (num (pos (length (list_of vs)))) (known_whole done (p ∷ ps) s.fields f y.0 i known.0 at known.1) k))), h.1, refl);
           rest = next.rest;
@@ -259,17 +259,17 @@ module _ (t : Table) (n : ℕ) (fs : List Field) where
           octets = refl;
         }
       ]
-  part_built done p ps s f (part.Length name id c0 c1) e at d sup li c fine = record { u = told s (c0 +ℤ (c1 *ℤ c.0)) c.1; b = c.1; passes = (c.0, c.2, refl); rest = f; at = next_other fs done p ps s.fields f at (ap has_value e); octets = refl }
-  part_built done p ps s f (part.Check name id k) e at d sup li c fine = let x = sup s.before in record { u = passed s x.0; b = x.0; passes = (x.1, refl); rest = f; at = next_other fs done p ps s.fields f at (ap has_value e); octets = refl }
+  part_built done p ps s f (part.Length name id c0 c1) e at d sup li c fine = record { u = with_octets s (c0 +ℤ (c1 *ℤ c.0)) c.1; b = c.1; passes = (c.0, c.2, refl); rest = f; at = next_other fs done p ps s.fields f at (ap has_value e); octets = refl }
+  part_built done p ps s f (part.Check name id k) e at d sup li c fine = let x = sup s.before in record { u = with_bits s x.0; b = x.0; passes = (x.1, refl); rest = f; at = next_other fs done p ps s.fields f at (ap has_value e); octets = refl }
 
-  pub record Built (s : State) (ps : List Placed) (o : Option ℤ) : Type 0 where
-    pub u : State
+  pub record Built (s : Progress) (ps : List Placed) (o : Option ℤ) : Type 0 where
+    pub u : Progress
     pub b : Bits
     pub passes : PartsPass canonical t C s ps u b
     pub fields : u.fields ≡ fs
     pub octets : u.octets ≡ o
 
-  pub build : (ps done : List Placed) (s : State) (f : List Plain) → At fs done ps s.fields f → AllByRecursion (λ (p : Placed). TypesDecided p.part) ps → AllByRecursion (λ (p : Placed). Supplies p.part) ps → ListsFit t done ps → (c : Choices C ps) → AllByRecursion (λ (p : Placed). IsFine p p.part) ps → Built s ps (tell_all C ps c s.octets)
+  pub build : (ps done : List Placed) (s : Progress) (f : List Plain) → At fs done ps s.fields f → AllByRecursion (λ (p : Placed). TypesDecided p.part) ps → AllByRecursion (λ (p : Placed). Supplies p.part) ps → ListsFit t done ps → (c : Choices C ps) → AllByRecursion (λ (p : Placed). IsFine p p.part) ps → Built s ps (tell_all C ps c s.octets)
   build [] done s f at d sup li c fine = record { u = s; b = []; passes = (refl, refl); fields = sym (at.whole ∙ append-nil s.fields); octets = refl }
   build (p ∷ ps) done s f at d sup li c fine =
       let one = part_built done p ps s f p.part refl at d.0 sup.0 li.0 c.0 fine.0 in
@@ -281,28 +281,28 @@ module _ (t : Table) (n : ℕ) (fs : List Field) where
   abbrev Any : ℕ → Plain → Bits → Type 0
   Any = SpellsWithin n any t
 
-  record Passed (done : List Placed) (p : Placed) (ps : List Placed) (q : Part) (u : State) : Type 0 where
+  record Passed (done : List Placed) (p : Placed) (ps : List Placed) (q : Part) (u : Progress) : Type 0 where
     fine : IsFine p q
     rest : List Plain
     at : At fs (done ++ p ∷ []) ps u.fields rest
 
   -- the value that was taken is the one that stands there
-  same_value : (done : List Placed) (p : Placed) (ps : List Placed) (s u : State) (v : Plain) (gs : List Field) (next : Next fs done p ps s.fields) → u.fields ≡ s.fields ++ (p.container, p.place, v) ∷ [] → fs ≡ u.fields ++ gs → next.v ≡ v
+  same_value : (done : List Placed) (p : Placed) (ps : List Placed) (s u : Progress) (v : Plain) (gs : List Field) (next : Next fs done p ps s.fields) → u.fields ≡ s.fields ++ (p.container, p.place, v) ∷ [] → fs ≡ u.fields ++ gs → next.v ≡ v
   same_value done p ps s u v gs next e w =
       ap (λ (x : Field). x.2) (added_same s.fields s.fields (p.container, p.place, next.v) (p.container, p.place, v) (paired ps next.rest) gs refl (sym (next.at).whole ∙ w ∙ ap (λ x. x ++ gs) e))
 
-  part_passed : (done : List Placed) (p : Placed) (ps : List Placed) (s u : State) (f : List Plain) (b : Bits) (gs : List Field) (q : Part) → p.part ≡ q → At fs done (p ∷ ps) s.fields f → TypesDecided q → ListFits t done q → AllByRecursion (IsPlaced t) done → Fits t n s → fs ≡ u.fields ++ gs → PartPasses canonical t C s p q u b → Passed done p ps q u
+  part_passed : (done : List Placed) (p : Placed) (ps : List Placed) (s u : Progress) (f : List Plain) (b : Bits) (gs : List Field) (q : Part) → p.part ≡ q → At fs done (p ∷ ps) s.fields f → TypesDecided q → ListFits t done q → AllByRecursion (IsPlaced t) done → Fits t n s → fs ≡ u.fields ++ gs → PartPasses canonical t C s p q u b → Passed done p ps q u
   part_passed done p ps s u f b gs (part.Plain name id) e at d li pl fit w h =
       let next = next_valued fs done p ps s.fields f at (ap has_value e) in
-      let uf = ap (λ (x : State). x.fields) h.2 in
+      let uf = ap (λ (x : Progress). x.fields) h.2 in
       let v = same_value done p ps s u h.0 gs next uf w in
       record {
         fine = λ g k. (d id.0 refl h.0).apart b g h.1 (subst (λ x. F id.0 x g) (some_tree (value_at fs p.container p.place) k.0 h.0 k.1 (next.there ∙ ap Some v)) k.2);
         rest = next.rest;
         at = at_as fs (done ++ p ∷ []) ps (s.fields ++ (p.container, p.place, next.v) ∷ []) u.fields next.rest (uf ∙ ap (λ x. s.fields ++ (p.container, p.place, x) ∷ []) (sym v)) next.at;
       }
-  part_passed done p ps s u f b gs (part.Fixed name id v) e at d li pl fit w h = record { fine = λ g k. k; rest = f; at = at_as fs (done ++ p ∷ []) ps s.fields u.fields f (ap (λ (x : State). x.fields) h.1) (next_other fs done p ps s.fields f at (ap has_value e)) }
-  part_passed done p ps s u f b gs (part.Pad m) e at d li pl fit w h = record { fine = λ g k. k; rest = f; at = at_as fs (done ++ p ∷ []) ps s.fields u.fields f (ap (λ (x : State). x.fields) h.2) (next_other fs done p ps s.fields f at (ap has_value e)) }
+  part_passed done p ps s u f b gs (part.Fixed name id v) e at d li pl fit w h = record { fine = λ g k. k; rest = f; at = at_as fs (done ++ p ∷ []) ps s.fields u.fields f (ap (λ (x : Progress). x.fields) h.1) (next_other fs done p ps s.fields f at (ap has_value e)) }
+  part_passed done p ps s u f b gs (part.Pad m) e at d li pl fit w h = record { fine = λ g k. k; rest = f; at = at_as fs (done ++ p ∷ []) ps s.fields u.fields f (ap (λ (x : Progress). x.fields) h.2) (next_other fs done p ps s.fields f at (ap has_value e)) }
   part_passed done p ps s u f b gs (part.List name id y i) e at d li pl fit w h = record {
     fine = λ g k. none g (subst (λ o. ListFails t F fs id.0 y.0 i o g) (next.there ∙ ap Some v) k);
     rest = next.rest;
@@ -313,7 +313,7 @@ module _ (t : Table) (n : ℕ) (fs : List Field) where
       next = next_valued fs done p ps s.fields f at (ap has_value e)
 
       uf : u.fields ≡ s.fields ++ (p.container, p.place, items h.0) ∷ []
-      uf = ap (λ (x : State). x.fields) h.3
+      uf = ap (λ (x : Progress). x.fields) h.3
 
       v : next.v ≡ items h.0
       v = same_value done p ps s u (items h.0) gs next uf w
@@ -336,10 +336,10 @@ module _ (t : Table) (n : ℕ) (fs : List Field) where
       none : (g : Where) → ListFails t F fs id.0 y.0 i (Some (items h.0)) g → ⊥
       none g (inl k) = k.0 count_is
       none g (inr k) = (items_decided (C id.0) (F id.0) (d id.0 refl) (list_of h.0) 0).apart b g h.2 k.1
-  part_passed done p ps s u f b gs (part.Length name id c0 c1) e at d li pl fit w h = record { fine = λ g k. k; rest = f; at = at_as fs (done ++ p ∷ []) ps s.fields u.fields f (ap (λ (x : State). x.fields) h.2) (next_other fs done p ps s.fields f at (ap has_value e)) }
-  part_passed done p ps s u f b gs (part.Check name id k) e at d li pl fit w h = record { fine = λ g x. x; rest = f; at = at_as fs (done ++ p ∷ []) ps s.fields u.fields f (ap (λ (x : State). x.fields) h.1) (next_other fs done p ps s.fields f at (ap has_value e)) }
+  part_passed done p ps s u f b gs (part.Length name id c0 c1) e at d li pl fit w h = record { fine = λ g k. k; rest = f; at = at_as fs (done ++ p ∷ []) ps s.fields u.fields f (ap (λ (x : Progress). x.fields) h.2) (next_other fs done p ps s.fields f at (ap has_value e)) }
+  part_passed done p ps s u f b gs (part.Check name id k) e at d li pl fit w h = record { fine = λ g x. x; rest = f; at = at_as fs (done ++ p ∷ []) ps s.fields u.fields f (ap (λ (x : Progress). x.fields) h.1) (next_other fs done p ps s.fields f at (ap has_value e)) }
 
-  pub run_fine : (ps done : List Placed) (s u : State) (f : List Plain) (b : Bits) → At fs done ps s.fields f → AllByRecursion (λ (p : Placed). TypesDecided p.part) ps → ListsFit t done ps → AllByRecursion (IsPlaced t) done → AllByRecursion (IsPlaced t) ps → Fits t n s → u.fields ≡ fs → PartsPass canonical t C s ps u b → AllByRecursion (λ (p : Placed). IsFine p p.part) ps
+  pub run_fine : (ps done : List Placed) (s u : Progress) (f : List Plain) (b : Bits) → At fs done ps s.fields f → AllByRecursion (λ (p : Placed). TypesDecided p.part) ps → ListsFit t done ps → AllByRecursion (IsPlaced t) done → AllByRecursion (IsPlaced t) ps → Fits t n s → u.fields ≡ fs → PartsPass canonical t C s ps u b → AllByRecursion (λ (p : Placed). IsFine p p.part) ps
   run_fine [] done s u f b at d li pl pls fit w h = tt
   run_fine (p ∷ ps) done s u f b at d li pl pls fit w h =
       let more = only_grown canonical t C ps h.0 u h.2 h.5 in

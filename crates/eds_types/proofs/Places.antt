@@ -32,7 +32,7 @@ few_by (kind.Int form spans) h = (lit≤ tt, lit≤ tt)
 few_by (kind.Enum form listing) h = (lit≤ tt, lit≤ tt)
 few_by (kind.Bool form) h = (lit≤ tt, lit≤ tt)
 few_by (kind.Str form) h = (lit≤ tt, lit≤ tt)
-few_by (kind.Bin n) h = (lit≤ tt, lit≤ tt)
+few_by (kind.Bin n free) h = (lit≤ tt, lit≤ tt)
 few_by (kind.Arr item n) h = (lit≤ tt, lit≤ tt)
 few_by (kind.Con c) h = h
 

@@ -6,7 +6,7 @@ use Rattle.eds_types.specs.declared.row.TypeRow.{TypeRow}
 use Rattle.eds_types.specs.declared.row.Part.{Part}
 use Rattle.eds_types.specs.Rows.{Table, base_of, chain, chain_within, chain_before, entries_of, trailers_of, Placed, placed_from, placed_entries, placed_trailers, sequence}
 use Rattle.eds_types.specs.Tables.{IsTable, IsPartType}
-use Rattle.eds_types.specs.Fields.{IsUnder}
+use Rattle.eds_types.specs.Fields.{IsAtOrUnder}
 use Rattle.eds_types.proofs.AllOf.{All-weaker, All-both, All-front, All-back, All-at, All-flat, All-reverse}
 
 module _ (t : Table) (is : IsTable t) where
@@ -25,9 +25,9 @@ module _ (t : Table) (is : IsTable t) where
 
   placed_lower : (top y i : ℕ) → is.rank y ≡ is.rank top → (ps : List Part) → AllByRecursion (IsPartType t is.rank y) ps → AllByRecursion (Lower top) (placed_from y i ps)
   placed_lower top y i e [] h = tt
-  placed_lower top y i e (p ∷ ps) h = (record { lower = λ x q. let l = (h.0).lower x q in (rw (← e) l.0, l.1); length_is_int = (h.0).length_is_int }, placed_lower top y (i + 1) e ps h.1)
+  placed_lower top y i e (p ∷ ps) h = (record { lower = λ x q. let l = (h.0).lower x q in (rw (← e) l.0, l.1); length_is_int = (h.0).length_is_int; free = (h.0).free }, placed_lower top y (i + 1) e ps h.1)
 
-  pub sequence_lower : (top k : ℕ) → IsUnder t top k → AllByRecursion (Lower top) (sequence t k)
+  pub sequence_lower : (top k : ℕ) → IsAtOrUnder t top k → AllByRecursion (Lower top) (sequence t k)
   sequence_lower top k u =
       let all = ranks 16 k in
       let e : is.rank top ≡ is.rank k = All-at (λ y. is.rank y ≡ is.rank k) (chain t k) top u all in

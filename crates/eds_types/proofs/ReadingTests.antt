@@ -10,7 +10,7 @@ use Rattle.eds_base.specs.declared.ids.TypeId.{TypeId}
 use Rattle.eds_types.specs.declared.row.Constraint.{Constraint as Condition}
 use Rattle.eds_base.specs.Spans.{IsWithin}
 use Rattle.eds_bits.specs.Lists.{Has}
-use Rattle.eds_types.specs.Fields.{Field, number_on, Holds, StartsAbove, constraints_along, IsCandidate}
+use Rattle.eds_types.specs.Fields.{Field, number_on, Holds, StartsInEntries, constraints_along, IsCandidate}
 use Rattle.eds_types.specs.Reading.{in_span, is_within, number_within, holds, starts_above, is_candidate, first_from, candidate_under}
 use Rattle.eds_types.specs.Rows.{Table, chain, entries_of, is_concrete, concrete_in, container_in, list_has}
 
@@ -64,16 +64,16 @@ holds_from t fs c e = go (number_on t fs c.path) refl e
 pub holds_in : (t : Table) (fs : List Field) (c : Condition) → Holds t fs c → holds t fs c ≡ true
 holds_in t fs c h = ap (number_within c.set) h.is ∙ within_in c.set h.number h.within
 
-pub starts_from : (t : Table) (x : ℕ) (path : List (TypeId × ℕ)) → starts_above t x path ≡ true → StartsAbove t x path
+pub starts_from : (t : Table) (x : ℕ) (path : List (TypeId × ℕ)) → starts_above t x path ≡ true → StartsInEntries t x path
 starts_from t x [] e = absurd cc
 starts_from t x (p ∷ path) e = let q = and_parts (list_has (chain t x) (p.0).0) (nat_lt p.1 (length (entries_of t (p.0).0))) e in (has_from (chain t x) (p.0).0 q.0, ltb-true p.1 (length (entries_of t (p.0).0)) q.1)
 
-pub starts_in : (t : Table) (x : ℕ) (path : List (TypeId × ℕ)) → StartsAbove t x path → starts_above t x path ≡ true
+pub starts_in : (t : Table) (x : ℕ) (path : List (TypeId × ℕ)) → StartsInEntries t x path → starts_above t x path ≡ true
 starts_in t x [] h = absurd h
 starts_in t x (p ∷ path) h = and_from (list_has (chain t x) (p.0).0) (nat_lt p.1 (length (entries_of t (p.0).0))) (has_in (chain t x) (p.0).0 (h.0).before (h.0).after (h.0).is) (lt-ltb p.1 (length (entries_of t (p.0).0)) h.1)
 
 abbrev pub Applies : Table → ℕ → List Field → Condition → Type 0
-Applies t x fs c = StartsAbove t x c.path → Holds t fs c
+Applies t x fs c = StartsInEntries t x c.path → Holds t fs c
 
 all_from : (t : Table) (x : ℕ) (fs : List Field) (cs : List Condition) → list_all (λ (c : Condition). cond (starts_above t x c.path) (holds t fs c) true) cs ≡ true → AllByRecursion (Applies t x fs) cs
 all_from t x fs [] e = tt

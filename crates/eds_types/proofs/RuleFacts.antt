@@ -1,6 +1,6 @@
 -- What the laws use of a table follows from the rules that it keeps.
-use Rattle.std.proofs.Common.{◌≡◌, ℕ, zero, suc, ◌+◌, ◌≤◌, ℤ, pos, negsuc, Bool, true, false, cond, List, [], ◌∷◌, ◌++◌, length, map, filter, reverse, Some, refl, sym, ap, subst, ◌∙◌, append_assoc, arith}
-use Rattle.std.specs.Prelude.{slice_get, ◌≤ℤ◌}
+use Rattle.std.proofs.Common.{◌≡◌, ℕ, zero, suc, ◌+◌, ◌≤◌, ℤ, pos, negsuc, Bool, true, false, cond, List, [], ◌∷◌, ◌++◌, length, map, filter, reverse, Option, Some, None, refl, sym, ap, subst, ◌∙◌, append_assoc, append-nil, arith, inl, inr}
+use Rattle.std.specs.Prelude.{slice_get, IfSome, ◌≤ℤ◌}
 use Rattle.std.specs.List.{AllByRecursion, flat_map}
 use Rattle.std.proofs.lemmas.Grind.{flat_map-append}
 use Rattle.std.proofs.lemmas.Int.{ints}
@@ -15,15 +15,19 @@ use Rattle.eds_types.specs.declared.row.Kind.TheVariants as kind
 use Rattle.eds_types.specs.declared.row.Part.{Part}
 use Rattle.eds_types.specs.declared.row.Part.TheVariants as part
 use Rattle.eds_types.specs.declared.row.Constraint.{Constraint}
-use Rattle.eds_types.specs.Fields.{type_by, listed, StartsAbove}
+use Rattle.eds_types.specs.Plain.{Plain, plain}
+use Rattle.eds_types.specs.Sizes.{open_by, open_in, open_of, tail_of, part_size, trailers_along}
+use Rattle.eds_types.specs.Fields.{type_by, listed, StartsInEntries}
 use Rattle.eds_types.specs.Rows.{Table, chain, entries_of, trailers_of, constraints_of, Placed, placed_from, placed_entries, placed_trailers, own_parts, sequence}
-use Rattle.eds_types.specs.Rules.{AreDistinct, IsBefore, IsIntBy, IsInt, IsNested, ItemsNest, IsScale, PartKeeps, KindKeeps, is_length, ConstraintKeeps, KeepsRules}
+use Rattle.eds_types.specs.Rules.{AreDistinct, IsBefore, IsIntBy, IsInt, IsNested, ItemsNest, IsScale, IsValueOf, TailKeeps, PartKeeps, KindKeeps, is_length, ConstraintKeeps, KeepsRules}
 use Rattle.eds_types.specs.Tables.{IsTable, IsPartType, IsItemType, IsOneLabel, IsIntRow, IsIntKind, LengthIsInt}
 use Rattle.eds_types.proofs.AllOf.{All-weaker, All-both, All-front, All-back, All-pair, All-at, All-has, All-flat, All-reverse, one_of}
-use Rattle.eds_types.proofs.ChainLaws.{under_is}
+use Rattle.eds_types.proofs.ChainLaws.{chain_end, under_is}
 use Rattle.eds_types.proofs.DistinctParts.{Pairwise, Apart, placed_in, sequence_apart}
 use Rattle.eds_types.proofs.SameValues.{same_text-is}
-use Rattle.eds_types.proofs.TableFacts.{Facts, IsNumbered, CheckFits, FixedFits, IsCount, ListFits, ListsFit, IsScaled, NoLength, IsLengthOnce}
+use Rattle.eds_types.proofs.TableFacts.{Facts, IsNumbered, CheckFits, FixedFits, IsCount, ListFits, ListsFit, IsScaled, NoLength, IsLengthOnce, IsSized, TailsFollowed}
+use Rattle.eds_types.proofs.TailSizes.{Tells, one_split}
+use Rattle.std.proofs.lemmas.Bool.{both_ways}
 
 -- ---- listings
 
@@ -56,7 +60,7 @@ int_kind P (kind.Int form spans) h = tt
 int_kind P (kind.Enum form listing) h = absurd h
 int_kind P (kind.Bool form) h = absurd h
 int_kind P (kind.Str form) h = absurd h
-int_kind P (kind.Bin n) h = absurd h
+int_kind P (kind.Bin n free) h = absurd h
 int_kind P (kind.Arr item n) h = absurd h
 int_kind P (kind.Con c) h = absurd h
 
@@ -68,7 +72,7 @@ int_weaker P Q g (kind.Int form spans) h = g form spans h
 int_weaker P Q g (kind.Enum form listing) h = h
 int_weaker P Q g (kind.Bool form) h = h
 int_weaker P Q g (kind.Str form) h = h
-int_weaker P Q g (kind.Bin n) h = h
+int_weaker P Q g (kind.Bin n free) h = h
 int_weaker P Q g (kind.Arr item n) h = h
 int_weaker P Q g (kind.Con c) h = h
 
@@ -77,7 +81,7 @@ one_label_of (kind.Int form spans) h = tt
 one_label_of (kind.Enum form listing) h = one_listed listing h.numbers
 one_label_of (kind.Bool form) h = tt
 one_label_of (kind.Str form) h = tt
-one_label_of (kind.Bin n) h = tt
+one_label_of (kind.Bin n free) h = tt
 one_label_of (kind.Arr item n) h = tt
 one_label_of (kind.Con c) h = tt
 
@@ -86,11 +90,14 @@ item_type t rank id (kind.Int form spans) h = tt
 item_type t rank id (kind.Enum form listing) h = tt
 item_type t rank id (kind.Bool form) h = tt
 item_type t rank id (kind.Str form) h = tt
-item_type t rank id (kind.Bin n) h = tt
-item_type t rank id (kind.Arr item n) h = ((h.0).1, (h.0).0)
+item_type t rank id (kind.Bin n free) h = tt
+item_type t rank id (kind.Arr item n) h = ((h.0).1, (h.0).0, h.2)
 item_type t rank id (kind.Con c) h = tt
 
 -- ---- parts
+
+same_id : (a b : ℕ) → Some a ≡ Some b → a ≡ b
+same_id a b e = cc
 
 unplaced : (P : Part → Type 0) (y i : ℕ) (ps : List Part) → AllByRecursion (λ (p : Placed). P p.part) (placed_from y i ps) → AllByRecursion P ps
 unplaced P y i [] h = tt
@@ -107,6 +114,36 @@ module _ (t : Table) where
       all_units : (ys : List ℕ) → AllByRecursion (λ y. Unit {0}) ys
       all_units [] = tt
       all_units (y ∷ ys) = (tt, all_units ys)
+
+  int_closed : (id : ℕ) (P : IntForm → List Span → Type 0) → IsInt t id P → open_of t id ≡ None
+  int_closed id P h = ap open_in h.1 ∙ by_kind (h.0).kind h.2
+    where
+      by_kind : (k : Kind) → IsIntBy P k → open_by k ≡ None
+      by_kind (kind.Int form spans) i = refl
+      by_kind (kind.Enum form listing) i = absurd i
+      by_kind (kind.Bool form) i = absurd i
+      by_kind (kind.Str form) i = absurd i
+      by_kind (kind.Bin n free) i = absurd i
+      by_kind (kind.Arr item n) i = absurd i
+      by_kind (kind.Con c) i = absurd i
+
+  value_closed : (v : Plain) (k : Kind) → IsValueOf k v → open_by k ≡ None
+  value_closed v (kind.Int form spans) i = refl
+  value_closed v (kind.Enum form listing) i = refl
+  value_closed v (kind.Bool form) i = refl
+  value_closed v (kind.Str form) i = refl
+  value_closed v (kind.Bin n free) i = ap (λ o. cond o (Some n) None) i.1
+  value_closed v (kind.Arr item n) i = absurd i
+  value_closed v (kind.Con c) i = absurd i
+
+  -- only the type of a tail is an open binary
+  free_is : (p : Placed) (q : Part) → PartKeeps t p q → (x : ℕ) → type_by (Some q) ≡ Some x → open_of t x ≡ tail_of t q
+  free_is p (part.Plain name id) h x e = ap (open_of t) (sym (same_id id.0 x e))
+  free_is p (part.Fixed name id v) h x e = ap (open_of t) (sym (same_id id.0 x e)) ∙ ap open_in h.1 ∙ value_closed (plain v) (h.0).kind h.2
+  free_is p (part.Pad n) h x e = absurd cc
+  free_is p (part.List name id y i) h x e = ap (open_of t) (sym (same_id id.0 x e)) ∙ h.1
+  free_is p (part.Length name id c0 c1) h x e = ap (open_of t) (sym (same_id id.0 x e)) ∙ int_closed id.0 _ h.0
+  free_is p (part.Check name id k) h x e = ap (open_of t) (sym (same_id id.0 x e)) ∙ int_closed id.0 _ h.0
 
   length_int : (p : Placed) (q : Part) → PartKeeps t p q → LengthIsInt t q
   length_int p (part.Plain name id) h = tt
@@ -261,7 +298,7 @@ module _ (t : Table) (is : IsTable t) where
   list_fits k p (part.Fixed name id v) done ps e u h = tt
   list_fits k p (part.Pad n) done ps e u h = tt
   list_fits k p (part.List name id y i) done ps e u h =
-      let c = h.1 in
+      let c = h.2 in
       let field : Placed = record { container = y.0; place = i; part = part.Plain c.name c.id } in
       let b = before_longer p.container k field p u c.before in
       let two : sequence t k ≡ (b.before ++ field ∷ b.between) ++ p ∷ b.after = b.is ∙ sym (append_assoc b.before (field ∷ b.between) (p ∷ b.after)) in
@@ -279,6 +316,42 @@ module _ (t : Table) (is : IsTable t) where
   lists_fit k done [] e h = tt
   lists_fit k done (p ∷ ps) e h = (list_fits k p p.part done ps e h.0.0 h.0.1, lists_fit k (done ++ p ∷ []) ps (e ∙ sym (append_assoc done (p ∷ []) ps)) h.1)
 
+  -- ---- tails
+
+  after_same : (xs : List Placed) (p : Placed) (ys zs : List Placed) → xs ++ p ∷ ys ≡ xs ++ p ∷ zs → ys ≡ zs
+  after_same [] p ys zs e = cc
+  after_same (x ∷ xs) p ys zs e = let q : xs ++ p ∷ ys ≡ xs ++ p ∷ zs = cc in after_same xs p ys zs q
+
+  tail_followed : (k : ℕ) (p : Placed) (done ps : List Placed) → sequence t k ≡ done ++ p ∷ ps → Has (chain t k) p.container → is_length p.part ≡ false → TailKeeps t p → HasOne Tells done × (ps ≡ trailers_along t p.container) × AllByRecursion (IsSized t) ps
+  tail_followed k p done ps e u quiet h =
+      let same : k ≡ p.container = h.not_derived k u in
+      let up = chain_end t is k in
+      let front = flat_map (placed_entries t) up.0 in
+      let es : flat_map (placed_entries t) (chain t k) ≡ (front ++ h.before) ++ p ∷ [] =
+          ap (flat_map (placed_entries t)) up.1 ∙ flat_map-append (placed_entries t) up.0 (k ∷ []) ∙ ap (λ z. front ++ z) (append-nil (placed_entries t k) ∙ ap (placed_entries t) same ∙ h.last) ∙ sym (append_assoc front h.before (p ∷ [])) in
+      let two : sequence t k ≡ (front ++ h.before) ++ p ∷ trailers_along t k = ap (λ z. z ++ trailers_along t k) es ∙ append_assoc (front ++ h.before) (p ∷ []) (trailers_along t k) in
+      let first : done ≡ front ++ h.before = stands_once done (front ++ h.before) p ps (trailers_along t k) (subst (Pairwise Apart) e (sequence_apart t is k)) (sym e ∙ two) in
+      let rest : ps ≡ trailers_along t k = after_same (front ++ h.before) p ps (trailers_along t k) (ap (λ z. z ++ p ∷ ps) (sym first) ∙ sym e ∙ two) in
+      let rest' : ps ≡ trailers_along t p.container = rest ∙ ap (trailers_along t) same in
+      let told : HasOne Tells ((front ++ h.before) ++ p ∷ []) = subst (HasOne Tells) (ap (λ z. flat_map (placed_entries t) (chain t z)) (sym same) ∙ es) h.told in
+      (elim (one_split (front ++ h.before) p told) [ inl w ↦ subst (HasOne Tells) (sym first) w | inr i ↦ absurd (both_ways (is_length p.part) quiet i) ], rest', subst (AllByRecursion (IsSized t)) (sym rest') h.sized)
+
+  tail_by : (k : ℕ) (p : Placed) (q : Part) → p.part ≡ q → (done ps : List Placed) → sequence t k ≡ done ++ p ∷ ps → Has (chain t k) p.container → PartKeeps t p q → IfSome (tail_of t q) (λ n. HasOne Tells done × (ps ≡ trailers_along t p.container) × AllByRecursion (IsSized t) ps)
+  tail_by k p (part.Plain name id) is_q done ps e u h = if_some (open_of t id.0) h.1
+    where
+      if_some : (o : Option ℕ) → IfSome o (λ n. TailKeeps t p) → IfSome o (λ n. HasOne Tells done × (ps ≡ trailers_along t p.container) × AllByRecursion (IsSized t) ps)
+      if_some None h = tt
+      if_some (Some n) h = tail_followed k p done ps e u (ap is_length is_q) h
+  tail_by k p (part.Fixed name id v) is_q done ps e u h = tt
+  tail_by k p (part.Pad n) is_q done ps e u h = tt
+  tail_by k p (part.List name id y i) is_q done ps e u h = tt
+  tail_by k p (part.Length name id c0 c1) is_q done ps e u h = tt
+  tail_by k p (part.Check name id kd) is_q done ps e u h = tt
+
+  tails_follow : (k : ℕ) (done ps : List Placed) → sequence t k ≡ done ++ ps → AllByRecursion (λ (p : Placed). Has (chain t k) p.container × PartKeeps t p p.part) ps → TailsFollowed t done ps
+  tails_follow k done [] e h = tt
+  tails_follow k done (p ∷ ps) e h = (tail_by k p p.part refl done ps e h.0.0 h.0.1, tails_follow k (done ++ p ∷ []) ps (e ∙ sym (append_assoc done (p ∷ []) ps)) h.1)
+
 -- ---- all facts
 
 pub table_of : (t : Table) → KeepsRules t → IsTable t
@@ -286,7 +359,7 @@ table_of t keeps = record {
   level = keeps.level;
   low = keeps.chains;
   base = keeps.base_level;
-  conditions = λ id base e. All-weaker (ConstraintKeeps t base id) (λ (c : Constraint). StartsAbove t base c.path) (λ c h. h.starts) (constraints_of t id) (keeps.constraints id base e);
+  conditions = λ id base e. All-weaker (ConstraintKeeps t base id) (λ (c : Constraint). StartsInEntries t base c.path) (λ c h. h.starts) (constraints_of t id) (keeps.constraints id base e);
   root_conditions = keeps.root_constraints;
   rank = keeps.rank;
   nested = keeps.nesting;
@@ -298,7 +371,7 @@ table_of t keeps = record {
   where
     own : (y : ℕ) → AllByRecursion (λ (p : Placed). IsPartType t keeps.rank y p.part) (own_parts t y)
     own y = All-weaker (λ (p : Placed). ((id : ℕ) → type_by (Some p.part) ≡ Some id → IsNested t keeps.rank y id) × PartKeeps t p p.part) (λ (p : Placed). IsPartType t keeps.rank y p.part)
-        (λ p h. record { lower = λ x e. let n = h.0 x e in (n.1, n.0); length_is_int = length_int t p p.part h.1 }) (own_parts t y)
+        (λ p h. record { lower = λ x e. let n = h.0 x e in (n.1, n.0); length_is_int = length_int t p p.part h.1; free = free_is t p p.part h.1 }) (own_parts t y)
         (All-pair (λ (p : Placed). (id : ℕ) → type_by (Some p.part) ≡ Some id → IsNested t keeps.rank y id) (λ (p : Placed). PartKeeps t p p.part) (own_parts t y) (keeps.parts_nest y) (keeps.parts y))
 
     both_lists : (y : ℕ) → AllByRecursion (λ (p : Placed). IsPartType t keeps.rank y p.part) (own_parts t y) → AllByRecursion (IsPartType t keeps.rank y) (entries_of t y ++ trailers_of t y)
@@ -315,6 +388,7 @@ facts_of t keeps = record {
   lists = λ k. lists_fit t (table_of t keeps) k [] (sequence t k) refl (All-pair (λ (p : Placed). Has (chain t k) p.container) (λ (p : Placed). PartKeeps t p p.part) (sequence t k) (of_chain t (table_of t keeps) k) (all k));
   scaled = λ k. along (λ (p : Placed). IsScaled p.part) (λ p h. scaled t p p.part h) k;
   once = λ k. once_of (sequence t k) (keeps.sequences k).one_length;
+  tails = λ k. tails_follow t (table_of t keeps) k [] (sequence t k) refl (All-pair (λ (p : Placed). Has (chain t k) p.container) (λ (p : Placed). PartKeeps t p p.part) (sequence t k) (of_chain t (table_of t keeps) k) (all k));
 }
   where
     all : (k : ℕ) → AllByRecursion (λ (p : Placed). PartKeeps t p p.part) (sequence t k)

@@ -67,3 +67,13 @@ list_of-plains_of (v ∷ vs) = ap (λ ws. v ∷ ws) (list_of-plains_of vs)
 pub plains_of-list_of : (vs : Plains) → plains_of (list_of vs) ≡ vs
 plains_of-list_of none = refl
 plains_of-list_of (more v vs) = ap (more v) (plains_of-list_of vs)
+
+-- the number of bits of a binary
+abbrev pub bin_bits : Plain → ℕ
+bin_bits (num n) = 0
+bin_bits (label l) = 0
+bin_bits (truth b) = 0
+bin_bits (text s) = 0
+bin_bits (bits n o) = n
+bin_bits (items vs) = 0
+bin_bits (fields k vs) = 0

@@ -96,12 +96,12 @@ module _ (g : Given) (is : IsGiven g) where
   parts : (y : ℕ) → AllByRecursion (λ (p : Placed). PartKeeps (sample g) p p.part) (own_parts (sample g) y)
   unfolding chain_within
   parts = by_parts (λ y ps. AllByRecursion (λ (p : Placed). PartKeeps (sample g) p p.part) ps) (λ y. tt)
-      (solid 0 refl ⊗ solid 1 refl ⊗ solid 1 refl ⊗ solid 2 refl ⊗ solid 5 refl ⊗ solid 3 refl ⊗ ((_, refl, tt), record { rises = record { le = tt }; factor = record { le = tt }; offset = lit≤ tt }) ⊗ tt)
-      (solid 4 refl ⊗ tt)
-      (solid 9 refl ⊗ ((_, refl, holds_check g.u16 is.u16), refl) ⊗ tt)
-      (solid 8 refl ⊗ solid 8 refl ⊗ tt)
-      (solid 8 refl ⊗ solid 8 refl ⊗ tt)
-      (solid 8 refl ⊗ (solid 13 refl, record { name = codes "Count"; id = id_of 8; before = record { before = []; between = []; after = []; is = refl }; counts = (_, refl, λ n w. is.u8.range.from_low n w) }) ⊗ tt)
+      ((solid 0 refl, tt) ⊗ (solid 1 refl, tt) ⊗ (solid 1 refl, tt) ⊗ (solid 2 refl, tt) ⊗ (solid 5 refl, tt) ⊗ (solid 3 refl, tt) ⊗ ((_, refl, tt), record { rises = record { le = tt }; factor = record { le = tt }; offset = lit≤ tt }) ⊗ tt)
+      ((solid 4 refl, tt) ⊗ tt)
+      ((solid 9 refl, tt) ⊗ ((_, refl, holds_check g.u16 is.u16), refl) ⊗ tt)
+      ((solid 8 refl, tt) ⊗ (solid 8 refl, tt) ⊗ tt)
+      ((solid 8 refl, tt) ⊗ (solid 8 refl, tt) ⊗ tt)
+      ((solid 8 refl, tt) ⊗ (solid 13 refl, refl, record { name = codes "Count"; id = id_of 8; before = record { before = []; between = []; after = []; is = refl }; counts = (_, refl, λ n w. is.u8.range.from_low n w) }) ⊗ tt)
 
   sequences : (k : ℕ) → SequenceKeeps (sequence (sample g) k)
   unfolding chain_within

@@ -1,5 +1,5 @@
 -- Scalars, texts and binaries pack, or fail for one reason.
-use Rattle.std.proofs.Common.{◌≡◌, ℕ, ◌<◌, ◌≤◌, ℤ, Bool, true, false, List, [], length, take, Option, Some, None, refl, sym, ap, subst, ◌∙◌, arith, ◌⊎◌, inl, inr}
+use Rattle.std.proofs.Common.{◌≡◌, ℕ, ◌*◌, ◌/◌, ◌<◌, ◌≤◌, ℤ, Bool, true, false, List, [], length, take, Option, Some, None, refl, sym, ap, subst, ◌∙◌, arith, ◌⊎◌, inl, inr}
 use Rattle.std.specs.Prelude.{◌&&◌, ◌==◌}
 use Rattle.std.proofs.lemmas.Bool.{and_parts, and_from, cases_Bool, cases_lt, cases_eq, both_ways, eqb-true, eq-eqb}
 use Rattle.eds_base.specs.declared.spans.Span.{Span}
@@ -22,7 +22,7 @@ use Rattle.eds_types.specs.Plain.{Plain, num, label, truth, text, bits, items, f
 use Rattle.eds_types.specs.Reading.{is_within, is_coded}
 use Rattle.eds_types.specs.Rows.{Table}
 use Rattle.eds_types.specs.Rules.{KindKeeps}
-use Rattle.eds_types.specs.Spelling.{KindSpells}
+use Rattle.eds_types.specs.Spelling.{BinHas, KindSpells}
 use Rattle.eds_types.proofs.CanonicalPatterns.{bits_back, bool_exists, text_exists, text_fits}
 use Rattle.eds_types.proofs.CanonicalSpelling.{listed_number}
 use Rattle.eds_types.proofs.DecidedPacking.{Decided, spelled, refused, of_kind, of_other_kind}
@@ -93,18 +93,18 @@ octets_in (bits m o) = o
 octets_in (items x) = []
 octets_in (fields k x) = []
 
-module _ (t : Table) (Each : ℕ → Plain → Bits → Type 0) (Fails : ℕ → Plain → Where → Type 0) (id : ℕ) where
+module _ (t : Table) (SpellsInner : ℕ → Plain → Bits → Type 0) (FailsInner : ℕ → Plain → Where → Type 0) (id : ℕ) where
   abbrev Packs : Kind → Plain → Type 0
-  Packs k v = Decided (KindSpells canonical t Each id k v) (KindPackFails t Each Fails id k v)
+  Packs k v = Decided (KindSpells canonical t SpellsInner id k v) (KindPackFails t SpellsInner FailsInner id k v)
 
   abbrev Spelt : Kind → Plain → Bits → Type 0
-  Spelt k v b = KindSpells canonical t Each id k v b
+  Spelt k v b = KindSpells canonical t SpellsInner id k v b
 
   abbrev Faults : Kind → Plain → Where → Type 0
-  Faults k v g = OfKindFails t Each Fails id k v g
+  Faults k v g = OfKindFails t SpellsInner FailsInner id k v g
 
   pub int_decided : (form : IntForm) (spans : List Span) → KindKeeps (kind.Int form spans) → (v : Plain) → Packs (kind.Int form spans) v
-  int_decided form spans h (num n) = of_kind t Each Fails id (kind.Int form spans) (num n) (Spelt (kind.Int form spans) (num n)) (λ b p. ap shape p.1) (λ g f. ap shape f.1) (go (cases_Bool (is_within spans n)))
+  int_decided form spans h (num n) = of_kind t SpellsInner FailsInner id (kind.Int form spans) (num n) (Spelt (kind.Int form spans) (num n)) (λ b p. ap shape p.1) (λ g f. ap shape f.1) (go (cases_Bool (is_within spans n)))
     where
       go : ((is_within spans n ≡ true) ⊎ (is_within spans n ≡ false)) → Decided (Spelt (kind.Int form spans) (num n)) (Faults (kind.Int form spans) (num n))
       go (inl e) =
@@ -113,10 +113,10 @@ module _ (t : Table) (Each : ℕ → Plain → Bits → Type 0) (Fails : ℕ →
           spelled (Spelt (kind.Int form spans) (num n)) (Faults (kind.Int form spans) (num n)) c.0 (n, refl, w, c.1) (λ g f. f.2 (subst (IsWithin spans) (num_is n f.0 f.1) w))
       go (inr e) = refused (Spelt (kind.Int form spans) (num n)) (Faults (kind.Int form spans) (num n)) (here reason.OutOfRange) (n, refl, (λ w. both_ways (is_within spans n) e (within_in spans n w)), refl)
           (λ b p. both_ways (is_within spans n) e (within_in spans n (subst (IsWithin spans) (sym (num_is n p.0 p.1)) p.2))) (λ g f. f.3)
-  int_decided form spans h v = of_other_kind t Each Fails id (kind.Int form spans) v (Spelt (kind.Int form spans) v) (λ b p. ap shape p.1) (λ g f. ap shape f.1) (λ e. omega arith)
+  int_decided form spans h v = of_other_kind t SpellsInner FailsInner id (kind.Int form spans) v (Spelt (kind.Int form spans) v) (λ b p. ap shape p.1) (λ g f. ap shape f.1) (λ e. omega arith)
 
   pub enum_decided : (form : IntForm) (listing : List (List ℕ × ℤ)) → KindKeeps (kind.Enum form listing) → (v : Plain) → Packs (kind.Enum form listing) v
-  enum_decided form listing h (label l) = of_kind t Each Fails id (kind.Enum form listing) (label l) (Spelt (kind.Enum form listing) (label l)) (λ b p. ap shape p.2) (λ g f. ap shape f.1) (go (listed listing l) refl)
+  enum_decided form listing h (label l) = of_kind t SpellsInner FailsInner id (kind.Enum form listing) (label l) (Spelt (kind.Enum form listing) (label l)) (λ b p. ap shape p.2) (λ g f. ap shape f.1) (go (listed listing l) refl)
     where
       go : (o : Option ℤ) → listed listing l ≡ o → Decided (Spelt (kind.Enum form listing) (label l)) (Faults (kind.Enum form listing) (label l))
       go (Some n) e =
@@ -124,18 +124,18 @@ module _ (t : Table) (Each : ℕ → Plain → Bits → Type 0) (Fails : ℕ →
           spelled (Spelt (kind.Enum form listing) (label l)) (Faults (kind.Enum form listing) (label l)) c.0 (l, n, refl, e, c.1) (λ g f. some_none n (listed listing l) e (ap (listed listing) (label_is l f.0 f.1) ∙ f.2))
       go None e = refused (Spelt (kind.Enum form listing) (label l)) (Faults (kind.Enum form listing) (label l)) (here reason.NoLabel) (l, refl, e, refl)
           (λ b p. some_none p.1 (listed listing l) (ap (listed listing) (label_is l p.0 p.2) ∙ p.3) e) (λ g f. f.3)
-  enum_decided form listing h v = of_other_kind t Each Fails id (kind.Enum form listing) v (Spelt (kind.Enum form listing) v) (λ b p. ap shape p.2) (λ g f. ap shape f.1) (λ e. omega arith)
+  enum_decided form listing h v = of_other_kind t SpellsInner FailsInner id (kind.Enum form listing) v (Spelt (kind.Enum form listing) v) (λ b p. ap shape p.2) (λ g f. ap shape f.1) (λ e. omega arith)
 
   pub bool_decided : (form : BoolForm) (v : Plain) → Packs (kind.Bool form) v
-  bool_decided form (truth x) = of_kind t Each Fails id (kind.Bool form) (truth x) (Spelt (kind.Bool form) (truth x)) (λ b p. ap shape p.1) (λ g f. absurd f)
+  bool_decided form (truth x) = of_kind t SpellsInner FailsInner id (kind.Bool form) (truth x) (Spelt (kind.Bool form) (truth x)) (λ b p. ap shape p.1) (λ g f. absurd f)
       (let c = bool_exists form x in spelled (Spelt (kind.Bool form) (truth x)) (Faults (kind.Bool form) (truth x)) c.0 (x, refl, c.1) (λ g f. f))
-  bool_decided form v = of_other_kind t Each Fails id (kind.Bool form) v (Spelt (kind.Bool form) v) (λ b p. ap shape p.1) (λ g f. absurd f) (λ e. omega arith)
+  bool_decided form v = of_other_kind t SpellsInner FailsInner id (kind.Bool form) v (Spelt (kind.Bool form) v) (λ b p. ap shape p.1) (λ g f. absurd f) (λ e. omega arith)
 
   pub text_decided : (form : TextForm) (v : Plain) → Packs (kind.Str form) v
-  text_decided form (text s) = of_kind t Each Fails id (kind.Str form) (text s) (Spelt (kind.Str form) (text s)) (λ b p. ap shape p.1) (λ g f. ap shape f.1) (go (fits_decides form s) (cases_lt form.length (length s)))
+  text_decided form (text s) = of_kind t SpellsInner FailsInner id (kind.Str form) (text s) (Spelt (kind.Str form) (text s)) (λ b p. ap shape p.1) (λ g f. ap shape f.1) (go (fits_decides form s) (cases_lt form.length (length s)))
     where
       said : (b : Bits) → Spelt (kind.Str form) (text s) b → TextFits form s × (length s ≤ form.length)
-      said b p = text_fits form.length form.fixed form.ascii form.stop (size_of form) s b (text_any t Each Each (λ x v c q. q) form.length form.fixed form.ascii form.stop (size_of form) s b (subst (λ r. IsText canonical form r b) (sym (text_is s p.0 p.1)) p.2))
+      said b p = text_fits form.length form.fixed form.ascii form.stop (size_of form) s b (text_any t SpellsInner SpellsInner (λ x v c q. q) form.length form.fixed form.ascii form.stop (size_of form) s b (subst (λ r. IsText canonical form r b) (sym (text_is s p.0 p.1)) p.2))
 
       go : (TextFits form s ⊎ (TextFits form s → ⊥)) → ((form.length < length s) ⊎ (length s ≤ form.length)) → Decided (Spelt (kind.Str form) (text s)) (Faults (kind.Str form) (text s))
       go (inr n) l = refused (Spelt (kind.Str form) (text s)) (Faults (kind.Str form) (text s)) (here reason.BadText) (s, refl, inl (n, refl)) (λ b p. n (said b p).0) is
@@ -152,22 +152,34 @@ module _ (t : Table) (Each : ℕ → Plain → Bits → Type 0) (Fails : ℕ →
         where
           none : (g : Where) → Faults (kind.Str form) (text s) g → ⊥
           none g f = let e = text_is s f.0 f.1 in elim (f.2) [ inl k ↦ k.0 (subst (TextFits form) e y) | inr k ↦ (let m = k.1 in let q = ap length e in omega arith) ]
-  text_decided form v = of_other_kind t Each Fails id (kind.Str form) v (Spelt (kind.Str form) v) (λ b p. ap shape p.1) (λ g f. ap shape f.1) (λ e. omega arith)
+  text_decided form v = of_other_kind t SpellsInner FailsInner id (kind.Str form) v (Spelt (kind.Str form) v) (λ b p. ap shape p.1) (λ g f. ap shape f.1) (λ e. omega arith)
 
-  pub bin_decided : (n : ℕ) (v : Plain) → Packs (kind.Bin n) v
-  bin_decided n (bits m o) = of_kind t Each Fails id (kind.Bin n) (bits m o) (Spelt (kind.Bin n) (bits m o)) (λ b p. ap shape p.1) (λ g f. ap shape f.2) (go (cases_eq m n) (filled_decides n o))
+  bin_has : (n : ℕ) (free : Bool) (m : ℕ) → BinHas n free m ⊎ (BinHas n free m → ⊥)
+  bin_has n false m = cases_eq m n
+  bin_has n true m = go (cases_lt n m) (cases_eq m (8 * (m / 8)))
     where
-      said : (b : Bits) → Spelt (kind.Bin n) (bits m o) b → (m ≡ n) × IsFilled n o
-      said b p = (ap size_in p.1, (b, p.0, sym (ap octets_in p.1)))
+      go : ((n < m) ⊎ (m ≤ n)) → ((m ≡ 8 * (m / 8)) ⊎ (m ≡ 8 * (m / 8) → ⊥)) → BinHas n true m ⊎ (BinHas n true m → ⊥)
+      go (inl l) e = inr (λ h. let k = h.0 in omega arith)
+      go (inr l) (inl e) = inl (l, (m / 8, e))
+      go (inr l) (inr ne) = inr (λ h. let e = (h.1).1 in ne (omega arith))
 
-      again : (g : Where) → (f : Faults (kind.Bin n) (bits m o) g) → ((m ≡ n) × IsFilled n o) → (f.0 ≡ n) × IsFilled n f.1
-      again g f h = (sym (ap size_in f.2) ∙ h.0, subst (IsFilled n) (ap octets_in f.2) h.1)
+  pub bin_decided : (n : ℕ) (free : Bool) (v : Plain) → Packs (kind.Bin n free) v
+  bin_decided n free (bits m o) = of_kind t SpellsInner FailsInner id (kind.Bin n free) (bits m o) (Spelt (kind.Bin n free) (bits m o)) (λ b p. ap shape p.1) (λ g f. ap shape f.2) (go (bin_has n free m) (filled_decides m o))
+    where
+      Fits : ℕ → List ℕ → Type 0
+      Fits m o = BinHas n free m × IsFilled m o
 
-      wrong : (((m ≡ n) × IsFilled n o) → ⊥) → Decided (Spelt (kind.Bin n) (bits m o)) (Faults (kind.Bin n) (bits m o))
-      wrong ne = refused (Spelt (kind.Bin n) (bits m o)) (Faults (kind.Bin n) (bits m o)) (here reason.WrongSize) (m, o, refl, ne, refl) (λ b p. ne (said b p)) (λ g f. f.4)
+      said : (b : Bits) → Spelt (kind.Bin n free) (bits m o) b → Fits m o
+      said b p = (subst (BinHas n free) (sym (ap size_in p.1)) p.0, (b, sym (ap size_in p.1), sym (ap octets_in p.1)))
 
-      go : ((m ≡ n) ⊎ (m ≡ n → ⊥)) → (IsFilled n o ⊎ (IsFilled n o → ⊥)) → Decided (Spelt (kind.Bin n) (bits m o)) (Faults (kind.Bin n) (bits m o))
+      again : (g : Where) → (f : Faults (kind.Bin n free) (bits m o) g) → Fits m o → Fits f.0 f.1
+      again g f h = (subst (BinHas n free) (ap size_in f.2) h.0, subst (λ z. IsFilled z f.1) (ap size_in f.2) (subst (IsFilled m) (ap octets_in f.2) h.1))
+
+      wrong : (Fits m o → ⊥) → Decided (Spelt (kind.Bin n free) (bits m o)) (Faults (kind.Bin n free) (bits m o))
+      wrong ne = refused (Spelt (kind.Bin n free) (bits m o)) (Faults (kind.Bin n free) (bits m o)) (here reason.WrongSize) (m, o, refl, ne, refl) (λ b p. ne (said b p)) (λ g f. f.4)
+
+      go : (BinHas n free m ⊎ (BinHas n free m → ⊥)) → (IsFilled m o ⊎ (IsFilled m o → ⊥)) → Decided (Spelt (kind.Bin n free) (bits m o)) (Faults (kind.Bin n free) (bits m o))
       go (inr ne) h = wrong (λ x. ne x.0)
       go (inl e) (inr ne) = wrong (λ x. ne x.1)
-      go (inl e) (inl h) = spelled (Spelt (kind.Bin n) (bits m o)) (Faults (kind.Bin n) (bits m o)) h.0 (h.1, rw (e, h.2) refl) (λ g f. f.3 (again g f (e, h)))
-  bin_decided n v = of_other_kind t Each Fails id (kind.Bin n) v (Spelt (kind.Bin n) v) (λ b p. ap shape p.1) (λ g f. ap shape f.2) (λ e. omega arith)
+      go (inl e) (inl h) = spelled (Spelt (kind.Bin n free) (bits m o)) (Faults (kind.Bin n free) (bits m o)) h.0 (subst (BinHas n free) (sym h.1) e, ap (λ k. bits k o) (sym h.1) ∙ ap (bits (length h.0)) (sym h.2)) (λ g f. f.3 (again g f (e, h)))
+  bin_decided n free v = of_other_kind t SpellsInner FailsInner id (kind.Bin n free) v (Spelt (kind.Bin n free) v) (λ b p. ap shape p.1) (λ g f. ap shape f.2) (λ e. omega arith)

@@ -114,7 +114,7 @@ size_of form = record { some = form.some; few = form.few; plain = form.plain }
 abbrev pub text_form : (n : ℕ) → Bool → Bool → (stop : ℕ) → IsTextSize n stop → TextForm
 text_form n fixed ascii stop size = record { length = n; fixed = fixed; ascii = ascii; stop = stop; some = size.some; few = size.few; plain = size.plain }
 
-module _ (t : Table) (read : ℕ → Bits → Read Plain) (Each : ℕ → Plain → Bits → Type 0) (Fails : ℕ → Bits → Where → Type 0) where
+module _ (t : Table) (read : ℕ → Bits → Read Plain) (SpellsInner : ℕ → Plain → Bits → Type 0) (FailsInner : ℕ → Bits → Where → Type 0) where
   -- ---- integers
 
   ranged_by : Bool → ℤ → Result Plain Where
@@ -150,7 +150,7 @@ module _ (t : Table) (read : ℕ → Bits → Read Plain) (Each : ℕ → Plain 
   err_ranged spans o g (inl h) = ap (ranged spans) h.0 ∙ ap (failed Plain) (sym h.1)
   err_ranged spans o g (inr h) = ap (ranged spans) h.1 ∙ ap (λ b. ranged_by b h.0) (false_from_ne_true (is_within spans h.0) (λ e. h.2 (within_from spans h.0 e))) ∙ ap (failed Plain) (sym h.3)
 
-  pub int_exact : (id : ℕ) (form : IntForm) (spans : List Span) → Exact (λ b. judge (λ c. ranged spans (number_of form c)) (read_bits form.bits b)) (KindSpells any t Each id (kind.Int form spans)) (KindFails t Each Fails id (kind.Int form spans))
+  pub int_exact : (id : ℕ) (form : IntForm) (spans : List Span) → Exact (λ b. judge (λ c. ranged spans (number_of form c)) (read_bits form.bits b)) (KindSpells any t SpellsInner id (kind.Int form spans)) (KindFails t SpellsInner FailsInner id (kind.Int form spans))
   int_exact id form spans = exact_as _ (Says form.bits j) _ (Rejects form.bits j) _ (says_exact form.bits j)
       (λ v c h. let r = ranged_ok spans (number_of form c) v h.1 in (r.0, r.2, r.3, record { is = record { size = h.0; number = r.1 }; zero_plain = tt }))
       (λ v c h. ((h.3).is.size, ap (ranged spans) (h.3).is.number ∙ ok_ranged spans h.0 h.2 ∙ ap done (sym h.1)))
@@ -159,11 +159,11 @@ module _ (t : Table) (read : ℕ → Bits → Read Plain) (Each : ℕ → Plain 
       j : Bits → Result Plain Where
       j c = ranged spans (number_of form c)
 
-      there : (b : Bits) (g : Where) → Rejects form.bits j b g → KindFails t Each Fails id (kind.Int form spans) b g
+      there : (b : Bits) (g : Where) → Rejects form.bits j b g → KindFails t SpellsInner FailsInner id (kind.Int form spans) b g
       there b g (inl h) = inl h
       there b g (inr h) = inr (record { enough = h.0; why = ranged_err spans (number_of form (take form.bits b)) g h.1 })
 
-      back : (b : Bits) (g : Where) → KindFails t Each Fails id (kind.Int form spans) b g → Rejects form.bits j b g
+      back : (b : Bits) (g : Where) → KindFails t SpellsInner FailsInner id (kind.Int form spans) b g → Rejects form.bits j b g
       back b g (inl h) = inl h
       back b g (inr h) = inr (h.enough, err_ranged spans (number_of form (take form.bits b)) g h.why)
 
@@ -231,7 +231,7 @@ module _ (t : Table) (read : ℕ → Bits → Read Plain) (Each : ℕ → Plain 
       go (Some l) e = absurd (h.2 (l, label_found listing listing h.0 l e))
 
   pub enum_exact : (id : ℕ) (form : IntForm) (listing : List (List ℕ × ℤ)) → ((l m : List ℕ) (n : ℤ) → listed listing l ≡ Some n → listed listing m ≡ Some n → l ≡ m)
-      → Exact (λ b. judge (λ c. named listing (number_of form c)) (read_bits form.bits b)) (KindSpells any t Each id (kind.Enum form listing)) (KindFails t Each Fails id (kind.Enum form listing))
+      → Exact (λ b. judge (λ c. named listing (number_of form c)) (read_bits form.bits b)) (KindSpells any t SpellsInner id (kind.Enum form listing)) (KindFails t SpellsInner FailsInner id (kind.Enum form listing))
   enum_exact id form listing one = exact_as _ (Says form.bits j) _ (Rejects form.bits j) _ (says_exact form.bits j)
       (λ v c h. let r = named_ok listing (number_of form c) v h.1 in (r.0, r.1, r.3, r.4, record { is = record { size = h.0; number = r.2 }; zero_plain = tt }))
       (λ v c h. ((h.4).is.size, ap (named listing) (h.4).is.number ∙ ap label_as (label_some listing h.1 h.0 one h.3) ∙ ap done (sym h.2)))
@@ -240,11 +240,11 @@ module _ (t : Table) (read : ℕ → Bits → Read Plain) (Each : ℕ → Plain 
       j : Bits → Result Plain Where
       j c = named listing (number_of form c)
 
-      there : (b : Bits) (g : Where) → Rejects form.bits j b g → KindFails t Each Fails id (kind.Enum form listing) b g
+      there : (b : Bits) (g : Where) → Rejects form.bits j b g → KindFails t SpellsInner FailsInner id (kind.Enum form listing) b g
       there b g (inl h) = inl h
       there b g (inr h) = inr (record { enough = h.0; why = named_err listing (number_of form (take form.bits b)) g h.1 })
 
-      back : (b : Bits) (g : Where) → KindFails t Each Fails id (kind.Enum form listing) b g → Rejects form.bits j b g
+      back : (b : Bits) (g : Where) → KindFails t SpellsInner FailsInner id (kind.Enum form listing) b g → Rejects form.bits j b g
       back b g (inl h) = inl h
       back b g (inr h) = inr (h.enough, err_named listing (number_of form (take form.bits b)) g h.why)
 
@@ -254,34 +254,34 @@ module _ (t : Table) (read : ℕ → Bits → Read Plain) (Each : ℕ → Plain 
   never n f b g (inl h) = h
   never n f b g (inr h) = absurd (ok_err (done (f (take n b))) (f (take n b)) g refl h.1)
 
-  pub bool_exact : (id : ℕ) (form : BoolForm) → Exact (λ b. judge (λ c. Ok (truth (truth_of form c))) (read_bits form.bits b)) (KindSpells any t Each id (kind.Bool form)) (KindFails t Each Fails id (kind.Bool form))
+  pub bool_exact : (id : ℕ) (form : BoolForm) → Exact (λ b. judge (λ c. Ok (truth (truth_of form c))) (read_bits form.bits b)) (KindSpells any t SpellsInner id (kind.Bool form)) (KindFails t SpellsInner FailsInner id (kind.Bool form))
   bool_exact id form = exact_as _ (Says form.bits (λ c. Ok (truth (truth_of form c)))) _ (Rejects form.bits (λ c. Ok (truth (truth_of form c)))) _ (says_exact form.bits (λ c. Ok (truth (truth_of form c))))
       (λ v c h. (truth_of form c, sym (ok_is (truth (truth_of form c)) v h.1), record { size = h.0; meaning = refl; one = tt }))
       (λ v c h. ((h.2).size, ap (λ x. done (truth x)) (sym (h.2).meaning) ∙ ap done (sym h.1)))
       (never form.bits (λ c. truth (truth_of form c))) (λ b g h. inl h)
 
-  pub bin_exact : (id n : ℕ) → Exact (λ b. judge (λ c. Ok (bits n (octets_of c))) (read_bits n b)) (KindSpells any t Each id (kind.Bin n)) (KindFails t Each Fails id (kind.Bin n))
+  pub bin_exact : (id n : ℕ) → Exact (λ b. judge (λ c. Ok (bits n (octets_of c))) (read_bits n b)) (KindSpells any t SpellsInner id (kind.Bin n false)) (KindFails t SpellsInner FailsInner id (kind.Bin n false))
   bin_exact id n = exact_as _ (Says n (λ c. Ok (bits n (octets_of c)))) _ (Rejects n (λ c. Ok (bits n (octets_of c)))) _ (says_exact n (λ c. Ok (bits n (octets_of c))))
-      (λ v c h. (h.0, sym (ok_is (bits n (octets_of c)) v h.1)))
-      (λ v c h. (h.0, ap done (sym h.1)))
+      (λ v c h. (h.0, sym (ok_is (bits n (octets_of c)) v h.1) ∙ ap (λ m. bits m (octets_of c)) (sym h.0)))
+      (λ v c h. (h.0, ap (λ m. done (bits m (octets_of c))) (sym h.0) ∙ ap done (sym h.1)))
       (never n (λ c. bits n (octets_of c))) (λ b g h. inl h)
 
   -- ---- arrays
 
-  pub array_exact : (id : ℕ) (item : TypeId) (n : ℕ) → Exact (read item.0) (Each item.0) (Fails item.0) → Exact (λ b. judge (λ vs. Ok (items (plains_of vs))) (read_items (read item.0) n 0 b)) (KindSpells any t Each id (kind.Arr item n)) (KindFails t Each Fails id (kind.Arr item n))
-  array_exact id item n s = exact_as _ (Judged (Items (Each item.0) n) (λ vs. Ok (items (plains_of vs)))) _ (JudgeFails (Items (Each item.0) n) (λ vs. Ok (items (plains_of vs))) (ItemFails (Each item.0) (Fails item.0) n)) _
-      (judge_exact (read_items (read item.0) n 0) (Items (Each item.0) n) (ItemFails (Each item.0) (Fails item.0) n) (λ vs. Ok (items (plains_of vs))) (items_exact (read item.0) (Each item.0) (Fails item.0) s n))
-      (λ v c h. (plains_of h.x, sym (ok_is (items (plains_of h.x)) v h.is), ap length (list_of-plains_of h.x) ∙ h.read.count, subst (λ vs. ItemsSpell (Each item.0) vs c) (sym (list_of-plains_of h.x)) h.read.spelled))
+  pub array_exact : (id : ℕ) (item : TypeId) (n : ℕ) → Exact (read item.0) (SpellsInner item.0) (FailsInner item.0) → Exact (λ b. judge (λ vs. Ok (items (plains_of vs))) (read_items (read item.0) n 0 b)) (KindSpells any t SpellsInner id (kind.Arr item n)) (KindFails t SpellsInner FailsInner id (kind.Arr item n))
+  array_exact id item n s = exact_as _ (Judged (Items (SpellsInner item.0) n) (λ vs. Ok (items (plains_of vs)))) _ (JudgeFails (Items (SpellsInner item.0) n) (λ vs. Ok (items (plains_of vs))) (ItemFails (SpellsInner item.0) (FailsInner item.0) n)) _
+      (judge_exact (read_items (read item.0) n 0) (Items (SpellsInner item.0) n) (ItemFails (SpellsInner item.0) (FailsInner item.0) n) (λ vs. Ok (items (plains_of vs))) (items_exact (read item.0) (SpellsInner item.0) (FailsInner item.0) s n))
+      (λ v c h. (plains_of h.x, sym (ok_is (items (plains_of h.x)) v h.is), ap length (list_of-plains_of h.x) ∙ h.read.count, subst (λ vs. ItemsSpell (SpellsInner item.0) vs c) (sym (list_of-plains_of h.x)) h.read.spelled))
       (λ v c h. record { x = list_of h.0; read = record { count = h.2; spelled = h.3 }; is = ap (λ vs. done (items vs)) (plains_of-list_of h.0) ∙ ap done (sym h.1) })
       only (λ b g h. inl h)
     where
-      only : (b : Bits) (g : Where) → JudgeFails (Items (Each item.0) n) (λ vs. Ok (items (plains_of vs))) (ItemFails (Each item.0) (Fails item.0) n) b g → ItemFails (Each item.0) (Fails item.0) n b g
+      only : (b : Bits) (g : Where) → JudgeFails (Items (SpellsInner item.0) n) (λ vs. Ok (items (plains_of vs))) (ItemFails (SpellsInner item.0) (FailsInner item.0) n) b g → ItemFails (SpellsInner item.0) (FailsInner item.0) n b g
       only b g (inl h) = h
       only b g (inr h) = absurd (ok_err (done (items (plains_of h.x))) (items (plains_of h.x)) g refl h.is)
 
   -- ---- texts of a fixed length
 
-  pub fixed_exact : (id n : ℕ) (ascii : Bool) (stop : ℕ) (size : IsTextSize n stop) → Exact (read_text (text_form n true ascii stop size) true) (KindSpells any t Each id (kind.Str (text_form n true ascii stop size))) (KindFails t Each Fails id (kind.Str (text_form n true ascii stop size)))
+  pub fixed_exact : (id n : ℕ) (ascii : Bool) (stop : ℕ) (size : IsTextSize n stop) → Exact (read_text (text_form n true ascii stop size) true) (KindSpells any t SpellsInner id (kind.Str (text_form n true ascii stop size))) (KindFails t SpellsInner FailsInner id (kind.Str (text_form n true ascii stop size)))
   fixed_exact id n ascii stop size = exact_as _ (Says (8 * n) j) _ (Rejects (8 * n) j) _ (says_exact (8 * n) j)
       (λ v c h. let r = coded_ok ascii (said c) v h.1 in (said c, r.1, record { size = h.0; value = refl; coded = r.0; filler = tt }))
       (λ v c h. ((h.2).size, ok_coded ascii (said c) (subst (IsCoded ascii) (h.2).value (h.2).coded) ∙ ap (λ s. done (text s)) (sym (h.2).value) ∙ ap done (sym h.1)))
@@ -293,10 +293,10 @@ module _ (t : Table) (read : ℕ → Bits → Read Plain) (Each : ℕ → Plain 
       j : Bits → Result Plain Where
       j c = coded ascii (said c)
 
-      there : (b : Bits) (g : Where) → Rejects (8 * n) j b g → KindFails t Each Fails id (kind.Str (text_form n true ascii stop size)) b g
+      there : (b : Bits) (g : Where) → Rejects (8 * n) j b g → KindFails t SpellsInner FailsInner id (kind.Str (text_form n true ascii stop size)) b g
       there b g (inl h) = inl h
       there b g (inr h) = let r = coded_err ascii (said (take (8 * n) b)) g h.1 in inr (h.0, r.0, r.1)
 
-      back : (b : Bits) (g : Where) → KindFails t Each Fails id (kind.Str (text_form n true ascii stop size)) b g → Rejects (8 * n) j b g
+      back : (b : Bits) (g : Where) → KindFails t SpellsInner FailsInner id (kind.Str (text_form n true ascii stop size)) b g → Rejects (8 * n) j b g
       back b g (inl h) = inl h
       back b g (inr h) = inr (h.0, err_coded ascii (said (take (8 * n) b)) h.1 ∙ ap (failed Plain) (sym h.2))

@@ -3,6 +3,7 @@ use Rattle.std.proofs.Common.{◌≡◌, ℕ, zero, suc, ◌+◌, ◌*◌, ℤ, 
 use Rattle.std.specs.Prelude.{slice_get}
 use Rattle.std.specs.List.{AllByRecursion}
 use Rattle.std.proofs.lemmas.List.{length-append}
+use Rattle.eds_types.proofs.SameValues.{bin_bits}
 use Rattle.eds_types.specs.declared.row.TypeRow.{TypeRow}
 use Rattle.eds_types.specs.declared.row.Kind.{Kind}
 use Rattle.eds_types.specs.declared.row.Kind.TheVariants as kind
@@ -18,7 +19,7 @@ use Rattle.eds_types.proofs.ScalarReading.{IsTextSize, size_of, text_form}
 use Rattle.eds_types.specs.Fields.{Field, values_of, paired}
 use Rattle.eds_types.specs.Plain.{Plain, num, text, items, fields, list_of}
 use Rattle.eds_types.specs.Rows.{Table, Placed, sequence}
-use Rattle.eds_types.specs.Spelling.{State, started, ItemsSpell, PartPasses, PartsPass, ContainerSpells, KindSpells, SpellsWithin}
+use Rattle.eds_types.specs.Spelling.{Progress, started, ItemsSpell, PartPasses, PartsPass, ContainerSpells, KindSpells, SpellsWithin}
 use Rattle.eds_types.specs.Tables.{IsIntRow, IsIntKind}
 
 -- ---- a canonical spelling is a spelling
@@ -28,7 +29,7 @@ items_any E F g [] b h = h
 items_any E F g (v ∷ vs) b h = (h.0, h.1, h.2, g v h.0 h.3, items_any E F g vs h.1 h.4)
 
 module _ (t : Table) (E F : ℕ → Plain → Bits → Type 0) (g : (id : ℕ) (v : Plain) (b : Bits) → E id v b → F id v b) where
-  pub part_any : (s : State) (p : Placed) (q : Part) (u : State) (b : Bits) → PartPasses canonical t E s p q u b → PartPasses any t F s p q u b
+  pub part_any : (s : Progress) (p : Placed) (q : Part) (u : Progress) (b : Bits) → PartPasses canonical t E s p q u b → PartPasses any t F s p q u b
   part_any s p (part.Plain name id) u b h = (h.0, g id.0 h.0 b h.1, h.2)
   part_any s p (part.Fixed name id v) u b h = (g id.0 _ b h.0, h.1)
   part_any s p (part.Pad n) u b h = (h.0, tt, h.2)
@@ -36,7 +37,7 @@ module _ (t : Table) (E F : ℕ → Plain → Bits → Type 0) (g : (id : ℕ) (
   part_any s p (part.Length name id c0 c1) u b h = (h.0, g id.0 _ b h.1, h.2)
   part_any s p (part.Check name id k) u b h = (g id.0 _ b h.0, h.1)
 
-  pub parts_any : (ps : List Placed) (s u : State) (b : Bits) → PartsPass canonical t E s ps u b → PartsPass any t F s ps u b
+  pub parts_any : (ps : List Placed) (s u : Progress) (b : Bits) → PartsPass canonical t E s ps u b → PartsPass any t F s ps u b
   parts_any [] s u b h = h
   parts_any (p ∷ ps) s u b h = (h.0, h.1, h.2, h.3, part_any s p p.part h.0 h.1 h.4, parts_any ps h.0 u h.2 h.5)
 
@@ -49,7 +50,7 @@ module _ (t : Table) (E F : ℕ → Plain → Bits → Type 0) (g : (id : ℕ) (
   kind_any id (kind.Enum form listing) v b h = (h.0, h.1, h.2, h.3, record { is = (h.4).is; zero_plain = tt })
   kind_any id (kind.Bool form) v b h = (h.0, h.1, record { size = (h.2).size; meaning = (h.2).meaning; one = tt })
   kind_any id (kind.Str form) v b h = (h.0, h.1, text_any form.length form.fixed form.ascii form.stop (size_of form) h.0 b h.2)
-  kind_any id (kind.Bin n) v b h = h
+  kind_any id (kind.Bin n free) v b h = h
   kind_any id (kind.Arr item n) v b h = (h.0, h.1, h.2, items_any (E item.0) (F item.0) (g item.0) (list_of h.0) b h.3)
   kind_any id (kind.Con c) v b h =
       let sp = h.3 in
@@ -93,25 +94,25 @@ IsSized E (part.Check name id k) = NumberSize E id.0
 
 module _ (t : Table) (E : ℕ → Plain → Bits → Type 0) (g : (id : ℕ) (v : Plain) (b c : Bits) → E id v b → E id v c → length b ≡ length c) where
   -- two runs over the same part, with the same fields in the end
-  part_size : (s z : State) (p : Placed) (q : Part) (u w : State) (b c : Bits) (more rest : List Field) → IsSized E q → s.fields ≡ z.fields → u.fields ++ more ≡ w.fields ++ rest → PartPasses any t E s p q u b → PartPasses any t E z p q w c → (length b ≡ length c) × (u.fields ≡ w.fields)
+  part_size : (s z : Progress) (p : Placed) (q : Part) (u w : Progress) (b c : Bits) (more rest : List Field) → IsSized E q → s.fields ≡ z.fields → u.fields ++ more ≡ w.fields ++ rest → PartPasses any t E s p q u b → PartPasses any t E z p q w c → (length b ≡ length c) × (u.fields ≡ w.fields)
   unfolding NumberSize
   part_size s z p (part.Plain name id) u w b c more rest sz e f h k =
-      let uf = ap (λ (x : State). x.fields) h.2 in let wf = ap (λ (x : State). x.fields) k.2 in
+      let uf = ap (λ (x : Progress). x.fields) h.2 in let wf = ap (λ (x : Progress). x.fields) k.2 in
       let a = added_same s.fields z.fields (p.container, p.place, h.0) (p.container, p.place, k.0) more rest e (ap (λ l. l ++ more) (sym uf) ∙ f ∙ ap (λ l. l ++ rest) wf) in
       let v : h.0 ≡ k.0 = ap (λ (x : Field). x.2) a in
       (g id.0 k.0 b c (subst (λ x. E id.0 x b) v h.1) k.1, uf ∙ ap (λ l. l ++ (p.container, p.place, h.0) ∷ []) e ∙ ap (λ x. z.fields ++ x ∷ []) a ∙ sym wf)
-  part_size s z p (part.Fixed name id v) u w b c more rest sz e f h k = (g id.0 _ b c h.0 k.0, ap (λ (x : State). x.fields) h.1 ∙ e ∙ sym (ap (λ (x : State). x.fields) k.1))
-  part_size s z p (part.Pad n) u w b c more rest sz e f h k = (h.0 ∙ sym k.0, ap (λ (x : State). x.fields) h.2 ∙ e ∙ sym (ap (λ (x : State). x.fields) k.2))
+  part_size s z p (part.Fixed name id v) u w b c more rest sz e f h k = (g id.0 _ b c h.0 k.0, ap (λ (x : Progress). x.fields) h.1 ∙ e ∙ sym (ap (λ (x : Progress). x.fields) k.1))
+  part_size s z p (part.Pad n) u w b c more rest sz e f h k = (h.0 ∙ sym k.0, ap (λ (x : Progress). x.fields) h.2 ∙ e ∙ sym (ap (λ (x : Progress). x.fields) k.2))
   part_size s z p (part.List name id y i) u w b c more rest sz e f h k =
-      let uf = ap (λ (x : State). x.fields) h.3 in let wf = ap (λ (x : State). x.fields) k.3 in
+      let uf = ap (λ (x : Progress). x.fields) h.3 in let wf = ap (λ (x : Progress). x.fields) k.3 in
       let a = added_same s.fields z.fields (p.container, p.place, items h.0) (p.container, p.place, items k.0) more rest e (ap (λ l. l ++ more) (sym uf) ∙ f ∙ ap (λ l. l ++ rest) wf) in
       let v : items h.0 ≡ items k.0 = ap (λ (x : Field). x.2) a in
       let vs : h.0 ≡ k.0 = cc in
       (items_size (E id.0) (g id.0) (list_of k.0) b c (subst (λ x. ItemsSpell (E id.0) (list_of x) b) vs h.2) k.2, uf ∙ ap (λ l. l ++ (p.container, p.place, items h.0) ∷ []) e ∙ ap (λ x. z.fields ++ x ∷ []) a ∙ sym wf)
-  part_size s z p (part.Length name id c0 c1) u w b c more rest sz e f h k = (sz h.0 k.0 b c h.1 k.1, ap (λ (x : State). x.fields) h.2 ∙ e ∙ sym (ap (λ (x : State). x.fields) k.2))
-  part_size s z p (part.Check name id kd) u w b c more rest sz e f h k = (sz _ _ b c h.0 k.0, ap (λ (x : State). x.fields) h.1 ∙ e ∙ sym (ap (λ (x : State). x.fields) k.1))
+  part_size s z p (part.Length name id c0 c1) u w b c more rest sz e f h k = (sz h.0 k.0 b c h.1 k.1, ap (λ (x : Progress). x.fields) h.2 ∙ e ∙ sym (ap (λ (x : Progress). x.fields) k.2))
+  part_size s z p (part.Check name id kd) u w b c more rest sz e f h k = (sz _ _ b c h.0 k.0, ap (λ (x : Progress). x.fields) h.1 ∙ e ∙ sym (ap (λ (x : Progress). x.fields) k.1))
 
-  pub parts_size : (ps : List Placed) (s z u w : State) (b c : Bits) → AllByRecursion (λ (p : Placed). IsSized E p.part) ps → s.fields ≡ z.fields → u.fields ≡ w.fields → PartsPass any t E s ps u b → PartsPass any t E z ps w c → length b ≡ length c
+  pub parts_size : (ps : List Placed) (s z u w : Progress) (b c : Bits) → AllByRecursion (λ (p : Placed). IsSized E p.part) ps → s.fields ≡ z.fields → u.fields ≡ w.fields → PartsPass any t E s ps u b → PartsPass any t E z ps w c → length b ≡ length c
   parts_size [] s z u w b c sz e f h k = ap length h.1 ∙ ap length (sym k.1)
   parts_size (p ∷ ps) s z u w b c sz e f h k =
       let one = only_grown any t E ps h.0 u h.2 h.5 in
@@ -132,7 +133,7 @@ module _ (t : Table) where
       go (kind.Enum form listing) i h k = absurd i
       go (kind.Bool form) i h k = absurd i
       go (kind.Str form) i h k = absurd i
-      go (kind.Bin m) i h k = absurd i
+      go (kind.Bin m free) i h k = absurd i
       go (kind.Arr item m) i h k = absurd i
       go (kind.Con con) i h k = absurd i
 
@@ -156,7 +157,7 @@ module _ (t : Table) where
   AllNumbered = (k : ℕ) → AllByRecursion (λ (p : Placed). IsNumbered t p.part) (sequence t k)
 
   -- the last fields are those that the value gives
-  pub fields_by : (n k : ℕ) (u : State) (b : Bits) (f : List Plain) → PartsPass any t (SpellsWithin n any t) started (sequence t k) u b → f ≡ values_of u.fields → u.fields ≡ paired (sequence t k) f
+  pub fields_by : (n k : ℕ) (u : Progress) (b : Bits) (f : List Plain) → PartsPass any t (SpellsWithin n any t) started (sequence t k) u b → f ≡ values_of u.fields → u.fields ≡ paired (sequence t k) f
   fields_by n k u b f h e =
       let a = parts_fit t n (sequence t k) started u b (sequence_placed t k) tt h in
       a.1.1 ∙ sym a.1.2 ∙ ap (paired (sequence t k)) (ap values_of (sym a.1.1) ∙ sym e)
@@ -166,7 +167,7 @@ module _ (t : Table) where
   kind_size nums n g id (kind.Enum form listing) v b c h k = (h.4).is.size ∙ sym (k.4).is.size
   kind_size nums n g id (kind.Bool form) v b c h k = (h.2).size ∙ sym (k.2).size
   kind_size nums n g id (kind.Str form) v b c h k = let e : text h.0 ≡ text k.0 = sym h.1 ∙ k.1 in let e' : h.0 ≡ k.0 = cc in text_size form.length form.fixed form.ascii form.stop (size_of form) h.0 k.0 b c e' h.2 k.2
-  kind_size nums n g id (kind.Bin m) v b c h k = h.0 ∙ sym k.0
+  kind_size nums n g id (kind.Bin m free) v b c h k = ap bin_bits (sym h.1 ∙ k.1)
   kind_size nums n g id (kind.Arr item m) v b c h k = let e : items h.0 ≡ items k.0 = sym h.1 ∙ k.1 in let e' : h.0 ≡ k.0 = cc in items_size (SpellsWithin n any t item.0) (g item.0) (list_of k.0) b c (subst (λ x. ItemsSpell (SpellsWithin n any t item.0) (list_of x) b) e' h.3) k.3
   kind_size nums n g id (kind.Con con) v b c h k =
       let e : fields h.0 h.1 ≡ fields k.0 k.1 = sym h.2 ∙ k.2 in

@@ -1,5 +1,5 @@
 -- What the rules say of the parts of whole sequences.
-use Rattle.std.specs.Prelude.{◌≡◌, ℕ, suc, ℤ, pos, List, [], ◌∷◌, ◌++◌, Some, slice_get}
+use Rattle.std.specs.Prelude.{◌≡◌, ℕ, suc, ℤ, pos, List, [], ◌∷◌, ◌++◌, Some, IsSome, IfSome, IsTrue, slice_get}
 use Rattle.std.specs.List.{AllByRecursion}
 use Rattle.eds_base.specs.Spans.{IsWithin}
 use Rattle.eds_bits.specs.Lists.{HasOne}
@@ -8,7 +8,8 @@ use Rattle.eds_types.specs.declared.row.Part.{Part}
 use Rattle.eds_types.specs.declared.row.Part.TheVariants as part
 use Rattle.eds_types.specs.Plain.{plain}
 use Rattle.eds_types.specs.Rows.{Table, Placed, sequence}
-use Rattle.eds_types.specs.Rules.{HasKind, IsInt, IsValueOf, HoldsCheck, KindKeeps}
+use Rattle.eds_types.specs.Rules.{HasKind, IsInt, IsValueOf, HoldsCheck, KindKeeps, is_length}
+use Rattle.eds_types.specs.Sizes.{tail_of, part_size, trailers_along}
 use Rattle.eds_types.specs.Tables.{IsIntRow}
 
 -- entries that hold a size or a check have integer types
@@ -82,6 +83,17 @@ abbrev pub IsLengthOnce : List Placed → Type 0
 IsLengthOnce [] = Unit {0}
 IsLengthOnce (p ∷ ps) = ((NoLength p.part → ⊥) → AllByRecursion (λ (p : Placed). NoLength p.part) ps) × IsLengthOnce ps
 
+abbrev pub IsSized : Table → Placed → Type 0
+IsSized t p = IsSome (part_size t p.part)
+
+-- a tail stands after a length entry, and the trailers of its container follow it and no other part; they have sizes
+abbrev pub TailFollowed : Table → List Placed → Placed → List Placed → Type 0
+TailFollowed t before p after = IfSome (tail_of t p.part) (λ n. HasOne (λ (q : Placed). IsTrue (is_length q.part)) before × (after ≡ trailers_along t p.container) × AllByRecursion (IsSized t) after)
+
+abbrev pub TailsFollowed : Table → List Placed → List Placed → Type 0
+TailsFollowed t before [] = Unit {0}
+TailsFollowed t before (p ∷ ps) = TailFollowed t before p ps × TailsFollowed t (before ++ p ∷ []) ps
+
 pub record Facts (t : Table) : Type 0 where
   pub kinds : (id : ℕ) (row : TypeRow) → slice_get t id ≡ Some row → KindKeeps row.kind
   pub numbered : (k : ℕ) → AllByRecursion (λ (p : Placed). IsNumbered t p.part) (sequence t k)
@@ -90,3 +102,4 @@ pub record Facts (t : Table) : Type 0 where
   pub lists : (k : ℕ) → ListsFit t [] (sequence t k)
   pub scaled : (k : ℕ) → AllByRecursion (λ (p : Placed). IsScaled p.part) (sequence t k)
   pub once : (k : ℕ) → IsLengthOnce (sequence t k)
+  pub tails : (k : ℕ) → TailsFollowed t [] (sequence t k)

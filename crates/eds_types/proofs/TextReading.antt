@@ -154,7 +154,7 @@ take_short zero (o ∷ os) h = absurd (omega arith)
 take_short (suc n) [] h = refl
 take_short (suc n) (o ∷ os) h = ap (λ l. o ∷ l) (take_short n os (omega arith))
 
-module _ (t : Table) (read : ℕ → Bits → Read Plain) (Each : ℕ → Plain → Bits → Type 0) (Fails : ℕ → Bits → Where → Type 0) (id n : ℕ) (ascii : Bool) (stop : ℕ) (form_size : IsTextSize n stop) where
+module _ (t : Table) (read : ℕ → Bits → Read Plain) (SpellsInner : ℕ → Plain → Bits → Type 0) (FailsInner : ℕ → Bits → Where → Type 0) (id n : ℕ) (ascii : Bool) (stop : ℕ) (form_size : IsTextSize n stop) where
   abbrev F : TextForm
   F = text_form n false ascii stop form_size
 
@@ -165,10 +165,10 @@ module _ (t : Table) (read : ℕ → Bits → Read Plain) (Each : ℕ → Plain 
   by_room q = cond q (Err (here Short)) (Err (here Unterminated))
 
   abbrev P : Plain → Bits → Type 0
-  P = KindSpells any t Each id (kind.Str F)
+  P = KindSpells any t SpellsInner id (kind.Str F)
 
   abbrev Q : Bits → Where → Type 0
-  Q = KindFails t Each Fails id (kind.Str F)
+  Q = KindFails t SpellsInner FailsInner id (kind.Str F)
 
   abbrev said : Bits → List ℕ
   said b = before_stop stop (whole b)
@@ -235,6 +235,6 @@ module _ (t : Table) (read : ℕ → Bits → Read Plain) (Each : ℕ → Plain 
   pub open_exact : Exact (read_text F false) P Q
   open_exact = record { from = open_from; to = open_to }
 
-pub text_exact : (t : Table) (read : ℕ → Bits → Read Plain) (Each : ℕ → Plain → Bits → Type 0) (Fails : ℕ → Bits → Where → Type 0) (id n : ℕ) (fixed ascii : Bool) (stop : ℕ) (size : IsTextSize n stop) → Exact (read_text (text_form n fixed ascii stop size) fixed) (KindSpells any t Each id (kind.Str (text_form n fixed ascii stop size))) (KindFails t Each Fails id (kind.Str (text_form n fixed ascii stop size)))
-text_exact t read Each Fails id n true ascii stop size = fixed_exact t read Each Fails id n ascii stop size
-text_exact t read Each Fails id n false ascii stop size = open_exact t read Each Fails id n ascii stop size
+pub text_exact : (t : Table) (read : ℕ → Bits → Read Plain) (SpellsInner : ℕ → Plain → Bits → Type 0) (FailsInner : ℕ → Bits → Where → Type 0) (id n : ℕ) (fixed ascii : Bool) (stop : ℕ) (size : IsTextSize n stop) → Exact (read_text (text_form n fixed ascii stop size) fixed) (KindSpells any t SpellsInner id (kind.Str (text_form n fixed ascii stop size))) (KindFails t SpellsInner FailsInner id (kind.Str (text_form n fixed ascii stop size)))
+text_exact t read SpellsInner FailsInner id n true ascii stop size = fixed_exact t read SpellsInner FailsInner id n ascii stop size
+text_exact t read SpellsInner FailsInner id n false ascii stop size = open_exact t read SpellsInner FailsInner id n ascii stop size

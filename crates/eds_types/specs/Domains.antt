@@ -8,7 +8,7 @@ use Rattle.eds_types.specs.declared.row.TypeRow.{TypeRow}
 use Rattle.eds_types.specs.declared.row.Kind.{Kind}
 use Rattle.eds_types.specs.declared.row.Kind.TheVariants as kind
 use Rattle.eds_types.specs.Rows.{Table, is_concrete}
-use Rattle.eds_types.specs.Fields.{type_on, IsUnder}
+use Rattle.eds_types.specs.Fields.{type_on, IsAtOrUnder}
 
 -- ---- of integer types and sub-ranges, as intervals
 
@@ -17,7 +17,7 @@ int_domain_by (kind.Int form spans) = Some spans
 int_domain_by (kind.Enum form listing) = None
 int_domain_by (kind.Bool form) = None
 int_domain_by (kind.Str form) = None
-int_domain_by (kind.Bin n) = None
+int_domain_by (kind.Bin n free) = None
 int_domain_by (kind.Arr item n) = None
 int_domain_by (kind.Con c) = None
 
@@ -38,9 +38,9 @@ InDomainOf t id (kind.Int form spans) n = IsWithin spans n
 InDomainOf t id (kind.Enum form listing) n = HasOne (λ e. e.1 ≡ n) listing
 InDomainOf t id (kind.Bool form) n = (n ≡ pos 0) ⊎ (n ≡ pos 1)
 InDomainOf t id (kind.Str form) n = ⊥
-InDomainOf t id (kind.Bin size) n = ⊥
+InDomainOf t id (kind.Bin size free) n = ⊥
 InDomainOf t id (kind.Arr item size) n = ⊥
-InDomainOf t id (kind.Con c) n = (k : ℕ) × (n ≡ pos k) × IsTrue (is_concrete t k) × IsUnder t id k
+InDomainOf t id (kind.Con c) n = (k : ℕ) × (n ≡ pos k) × IsTrue (is_concrete t k) × IsAtOrUnder t id k
 
 abbrev pub InDomainOfRow : Table → ℕ → Option TypeRow → ℤ → Type 0
 InDomainOfRow t id None n = ⊥

@@ -1,5 +1,5 @@
 -- Where reading fails, and why.
-use Rattle.std.specs.Prelude.{◌≡◌, ◌≢◌, ℕ, zero, suc, ◌+◌, ◌*◌, ◌/◌, ◌<◌, ◌≤◌, ℤ, pos, List, [], ◌∷◌, ◌++◌, length, map, take, drop, reverse, Bool, true, false, Some, None, slice_get, IsTrue, ◌⊎◌}
+use Rattle.std.specs.Prelude.{◌≡◌, ◌≢◌, ℕ, zero, suc, ◌+◌, ◌*◌, ◌/◌, ◌<◌, ◌≤◌, ℤ, pos, List, [], ◌∷◌, ◌++◌, length, map, take, drop, reverse, Bool, true, false, Option, Some, None, IfSome, unwrap_or, slice_get, IsTrue, ◌⊎◌}
 use Rattle.std.specs.List.{flat_map}
 use Rattle.eds_base.specs.declared.ids.TypeId.{TypeId}
 use Rattle.eds_base.specs.declared.fault.Step.{Step}
@@ -10,7 +10,7 @@ use Rattle.eds_base.specs.Spans.{IsWithin}
 use Rattle.eds_bits.specs.declared.forms.IntForm.{IntForm}
 use Rattle.eds_bits.specs.declared.forms.TextForm.{TextForm}
 use Rattle.eds_bits.specs.Lists.{Has}
-use Rattle.eds_bits.specs.Bits.{Bits, octets_of}
+use Rattle.eds_bits.specs.Bits.{Bits, octets_of, octets_for}
 use Rattle.eds_bits.specs.Style.{any}
 use Rattle.eds_bits.specs.IntForms.{number_of}
 use Rattle.eds_bits.specs.Scalars.{before_stop, IsCoded, check_of}
@@ -21,9 +21,10 @@ use Rattle.eds_types.specs.declared.row.Part.{Part}
 use Rattle.eds_types.specs.declared.row.Part.TheVariants as part
 use Rattle.eds_types.specs.declared.row.Constraint.{Constraint as Condition}
 use Rattle.eds_types.specs.Plain.{Plain, num, plain}
-use Rattle.eds_types.specs.Rows.{Table, id_of, chain, is_concrete, constraints_of, Placed, placed_entries, placed_trailers}
-use Rattle.eds_types.specs.Fields.{listed, Holds, IsUnder, IsCandidate}
-use Rattle.eds_types.specs.Spelling.{State, started, SizeFits, count_at, ItemsSpell, PartPasses, SpellsWithin}
+use Rattle.eds_types.specs.Rows.{Table, id_of, chain, is_concrete, constraints_of, Placed, placed_entries, placed_trailers, sequence}
+use Rattle.eds_types.specs.Sizes.{tail_of, trailers_size}
+use Rattle.eds_types.specs.Fields.{listed, Holds, IsAtOrUnder, IsCandidate}
+use Rattle.eds_types.specs.Spelling.{Progress, started, SizeFits, count_at, ItemsSpell, PartPasses, SpellsWithin}
 
 -- ---- the course of reading a container
 
@@ -55,29 +56,45 @@ course t s x = flat_map (own t) (chain t s) ++ (choice s ∷ (later t (chain_und
 -- ---- what passes
 
 -- a container at or under the next one towards x may be that of the fields
-pub record GoesOn (t : Table) (y x : ℕ) (s : State) : Type 0 where
+pub record GoesOn (t : Table) (y x : ℕ) (s : Progress) : Type 0 where
   pub candidate : ℕ
   pub is : IsCandidate t y candidate s.fields
   pub child : ℕ
   pub towards : (more : List ℕ) × (chain t x ≡ chain t y ++ child ∷ more)
-  pub under : IsUnder t child candidate
+  pub under : IsAtOrUnder t child candidate
 
 -- no container strictly under x may be that of the fields
-abbrev pub NoneUnder : Table → ℕ → State → Type 0
-NoneUnder t x s = (l : ℕ) → l ≢ x → IsUnder t x l → IsCandidate t x l s.fields → ⊥
+abbrev pub NoneUnder : Table → ℕ → Progress → Type 0
+NoneUnder t x s = (l : ℕ) → l ≢ x → IsAtOrUnder t x l → IsCandidate t x l s.fields → ⊥
 
-module _ (t : Table) (Each : ℕ → Plain → Bits → Type 0) (x : ℕ) where
+-- ---- tails
+
+-- a tail of 8 * j bits after what has been read: with it and the trailers of the container's chain there are as many
+-- octets as the length entry tells
+abbrev pub TailFits : Table → Progress → Placed → ℕ → Type 0
+TailFits t s p j = unwrap_or s.octets (pos 0) ≡ pos (j + octets_for (length s.before + trailers_size t p.container))
+
+-- the size of a tail is the one that fits
+abbrev pub IfTail : Table → Progress → Placed → Bits → Type 0
+IfTail t s p b = IfSome (tail_of t p.part) (λ n. (j : ℕ) × (length b ≡ 8 * j) × TailFits t s p j)
+
+module _ (t : Table) (SpellsInner : ℕ → Plain → Bits → Type 0) where
+  -- the bits are those of the part, which has the size that fits where it is a tail
+  abbrev pub EntryPasses : Progress → Placed → Progress → Bits → Type 0
+  EntryPasses s p u b = PartPasses any t SpellsInner s p p.part u b × IfTail t s p b
+
+module _ (t : Table) (SpellsInner : ℕ → Plain → Bits → Type 0) (x : ℕ) where
   -- the station lets the bits pass, from one state to the next
-  abbrev pub StationPasses : State → Station → State → Bits → Type 0
+  abbrev pub StationPasses : Progress → Station → Progress → Bits → Type 0
   StationPasses s (condition y c) u b = (u ≡ s) × (b ≡ []) × Holds t s.fields c
-  StationPasses s (entry p) u b = PartPasses any t Each s p p.part u b
+  StationPasses s (entry p) u b = EntryPasses t SpellsInner s p u b
   StationPasses s (choice y) u b = (u ≡ s) × (b ≡ []) × (GoesOn t y x s ⊎ ((y ≡ x) × IsTrue (is_concrete t x) × NoneUnder t x s))
   StationPasses s end u b = (u ≡ s) × (b ≡ []) × SizeFits s
 
   -- all stations do, one after the other
-  abbrev pub Passes : State → List Station → State → Bits → Type 0
+  abbrev pub Passes : Progress → List Station → Progress → Bits → Type 0
   Passes s [] u b = (u ≡ s) × (b ≡ [])
-  Passes s (p ∷ ps) u b = (m : State) × (c : Bits) × (d : Bits) × (b ≡ c ++ d) × StationPasses s p m c × Passes m ps u d
+  Passes s (p ∷ ps) u b = (m : Progress) × (c : Bits) × (d : Bits) × (b ≡ c ++ d) × StationPasses s p m c × Passes m ps u d
 
 -- ---- what fails
 
@@ -100,16 +117,19 @@ abbrev pub whole : Bits → List ℕ
 whole b = octets_of (take (8 * (length b / 8)) b)
 
 -- fewer than count items are spelled, and the next one fails
-pub record ItemFails (Each : Plain → Bits → Type 0) (Fails : Bits → Where → Type 0) (count : ℕ) (b : Bits) (g : Where) : Type 0 where
+pub record ItemFails (SpellsInner : Plain → Bits → Type 0) (FailsInner : Bits → Where → Type 0) (count : ℕ) (b : Bits) (g : Where) : Type 0 where
   pub before : List Plain
   pub few : length before < count
   pub c : Bits
   pub d : Bits
   pub bits : b ≡ c ++ d
-  pub spelled : ItemsSpell Each before c
+  pub spelled : ItemsSpell SpellsInner before c
   pub why : Where
-  pub fails : Fails d why
+  pub fails : FailsInner d why
   pub is : g ≡ behind (step.Item (length before)) why
+
+abbrev pub part_step : Placed → Step
+part_step p = step.Part (id_of p.container) p.place
 
 abbrev pub if_length : Part → Placed → List Step → List Step
 if_length (part.Plain name id) p steps = steps
@@ -126,6 +146,10 @@ length_step (condition y c ∷ ss) = length_step ss
 length_step (choice y ∷ ss) = length_step ss
 length_step (end ∷ ss) = length_step ss
 length_step (entry p ∷ ss) = if_length p.part p (length_step ss)
+
+-- the path of the length entry of a container
+abbrev pub length_path : Table → ℕ → List Step
+length_path t x = length_step (map entry (sequence t x))
 
 -- a pattern of the form that is there, but isn't one of the type: a digit above 9, or a number that isn't Good
 pub record BadNumber (form : IntForm) (Good : ℤ → Type 0) (bad : Reason) (b : Bits) (g : Where) : Type 0 where
@@ -152,54 +176,68 @@ abbrev pub TextFails : TextForm → Bool → Bits → Where → Type 0
 TextFails form true b g = FixedTextFails form b g
 TextFails form false b g = OpenTextFails form b g
 
--- Each says what spells a value of a type that is nested in this one, and Fails where reading one fails
-module _ (t : Table) (Each : ℕ → Plain → Bits → Type 0) (Fails : ℕ → Bits → Where → Type 0) where
+-- SpellsInner says what spells a value of a type that is nested in this one, and FailsInner where reading one fails
+module _ (t : Table) (SpellsInner : ℕ → Plain → Bits → Type 0) (FailsInner : ℕ → Bits → Where → Type 0) where
   -- another value of the type is read where this one should stand
   pub record Differs (id : ℕ) (v : Plain) (b : Bits) : Type 0 where
     pub other : Plain
     pub c : Bits
     pub rest : Bits
     pub bits : b ≡ c ++ rest
-    pub spelled : Each id other c
+    pub spelled : SpellsInner id other c
     pub differs : other ≢ v
 
-  abbrev pub PartFails : State → Part → Bits → Where → Type 0
-  PartFails s (part.Plain name id) b g = Fails id.0 b g
-  PartFails s (part.Fixed name id v) b g = Fails id.0 b g ⊎ (Differs id.0 (plain v) b × (g ≡ here FixedDiffers))
+  abbrev pub PartFails : Progress → Part → Bits → Where → Type 0
+  PartFails s (part.Plain name id) b g = FailsInner id.0 b g
+  PartFails s (part.Fixed name id v) b g = FailsInner id.0 b g ⊎ (Differs id.0 (plain v) b × (g ≡ here FixedDiffers))
   PartFails s (part.Pad n) b g = (length b < n) × (g ≡ here Short)
-  PartFails s (part.List name id y i) b g = ItemFails (Each id.0) (Fails id.0) (count_at s y.0 i) b g
-  PartFails s (part.Length name id c0 c1) b g = Fails id.0 b g
-  PartFails s (part.Check name id k) b g = Fails id.0 b g ⊎ (Differs id.0 (num (pos (check_of k s.before))) b × (g ≡ here CheckDiffers))
+  PartFails s (part.List name id y i) b g = ItemFails (SpellsInner id.0) (FailsInner id.0) (count_at s y.0 i) b g
+  PartFails s (part.Length name id c0 c1) b g = FailsInner id.0 b g
+  PartFails s (part.Check name id k) b g = FailsInner id.0 b g ⊎ (Differs id.0 (num (pos (check_of k s.before))) b × (g ≡ here CheckDiffers))
 
-  -- the bits are refused at the station, of all of the course towards x
-  abbrev pub StationFails : ℕ → List Station → State → Station → Bits → Where → Type 0
-  StationFails x all s (condition y c) b g = (Holds t s.fields c → ⊥) × (g ≡ (Constraint, path_steps c.path))
-  StationFails x all s (entry p) b g = (w : Where) × PartFails s p.part b w × (g ≡ behind (step.Part (id_of p.container) p.place) w)
-  StationFails x all s (choice y) b g = (y ≡ x) × (is_concrete t x ≡ false) × ((l : ℕ) → IsCandidate t x l s.fields → ⊥) × (g ≡ (NoDerived, step.Choice (id_of x) ∷ []))
-  StationFails x all s end b g = (SizeFits s → ⊥) × (g ≡ (LengthDiffers, length_step all))
+  -- a tail: no size fits; or one does, and the bits are too few
+  abbrev pub TailFails : ℕ → Progress → Placed → Bits → Where → Type 0
+  TailFails n s p b g =
+      (((j : ℕ) → 8 * j ≤ n → TailFits t s p j → ⊥) × (g ≡ (LengthDiffers, length_path t p.container)))
+      ⊎ ((j : ℕ) × (8 * j ≤ n) × TailFits t s p j × (length b < 8 * j) × (g ≡ behind (part_step p) (here Short)))
+
+  abbrev pub EntryFailsBy : Option ℕ → Progress → Placed → Bits → Where → Type 0
+  EntryFailsBy None s p b g = (w : Where) × PartFails s p.part b w × (g ≡ behind (part_step p) w)
+  EntryFailsBy (Some n) s p b g = TailFails n s p b g
+
+  -- the bits are refused at the part
+  abbrev pub EntryFails : Progress → Placed → Bits → Where → Type 0
+  EntryFails s p b g = EntryFailsBy (tail_of t p.part) s p b g
+
+  -- the bits are refused at the station, in the course towards x
+  abbrev pub StationFails : ℕ → Progress → Station → Bits → Where → Type 0
+  StationFails x s (condition y c) b g = (Holds t s.fields c → ⊥) × (g ≡ (Constraint, path_steps c.path))
+  StationFails x s (entry p) b g = EntryFails s p b g
+  StationFails x s (choice y) b g = (y ≡ x) × (is_concrete t x ≡ false) × ((l : ℕ) → IsCandidate t x l s.fields → ⊥) × (g ≡ (NoDerived, step.Choice (id_of x) ∷ []))
+  StationFails x s end b g = (SizeFits s → ⊥) × (g ≡ (LengthDiffers, length_path t x))
 
   -- for some container x the first stations of its course let a front of the bits pass, and the next refuses the rest
   pub record ContainerFails (s : ℕ) (b : Bits) (g : Where) : Type 0 where
     pub x : ℕ
-    pub under : IsUnder t s x
+    pub under : IsAtOrUnder t s x
     pub done : List Station
     pub station : Station
     pub rest : List Station
     pub is_course : course t s x ≡ done ++ station ∷ rest
-    pub state : State
+    pub state : Progress
     pub c : Bits
     pub d : Bits
     pub bits : b ≡ c ++ d
-    pub passes : Passes t Each x started done state c
-    pub fails : StationFails x (course t s x) state station d g
+    pub passes : Passes t SpellsInner x started done state c
+    pub fails : StationFails x state station d g
 
   abbrev pub KindFails : ℕ → Kind → Bits → Where → Type 0
   KindFails id (kind.Int form spans) b g = ((length b < form.bits) × (g ≡ here Short)) ⊎ BadNumber form (IsWithin spans) OutOfRange b g
   KindFails id (kind.Enum form listing) b g = ((length b < form.bits) × (g ≡ here Short)) ⊎ BadNumber form (IsListed listing) NoLabel b g
   KindFails id (kind.Bool form) b g = (length b < form.bits) × (g ≡ here Short)
   KindFails id (kind.Str form) b g = TextFails form form.fixed b g
-  KindFails id (kind.Bin n) b g = (length b < n) × (g ≡ here Short)
-  KindFails id (kind.Arr item n) b g = ItemFails (Each item.0) (Fails item.0) n b g
+  KindFails id (kind.Bin n free) b g = (length b < n) × (g ≡ here Short)
+  KindFails id (kind.Arr item n) b g = ItemFails (SpellsInner item.0) (FailsInner item.0) n b g
   KindFails id (kind.Con c) b g = ContainerFails id b g
 
 -- ---- all types

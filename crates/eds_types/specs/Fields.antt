@@ -94,7 +94,7 @@ labelled_by (kind.Int form spans) l = None
 labelled_by (kind.Enum form listing) l = listed listing l
 labelled_by (kind.Bool form) l = None
 labelled_by (kind.Str form) l = None
-labelled_by (kind.Bin n) l = None
+labelled_by (kind.Bin n free) l = None
 labelled_by (kind.Arr item n) l = None
 labelled_by (kind.Con c) l = None
 
@@ -130,13 +130,13 @@ pub record Holds (t : Table) (fs : List Field) (c : Constraint) : Type 0 where
   pub within : IsWithin c.set number
 
 -- the type k is x, or derives from it
-abbrev pub IsUnder : Table → ℕ → ℕ → Type 0
-IsUnder t x k = Has (chain t k) x
+abbrev pub IsAtOrUnder : Table → ℕ → ℕ → Type 0
+IsAtOrUnder t x k = Has (chain t k) x
 
 -- the path starts in an entry, and no trailer, of x or of one of its bases
-abbrev pub StartsAbove : Table → ℕ → List (TypeId × ℕ) → Type 0
-StartsAbove t x [] = ⊥
-StartsAbove t x (p ∷ path) = Has (chain t x) (p.0).0 × (p.1 < length (entries_of t (p.0).0))
+abbrev pub StartsInEntries : Table → ℕ → List (TypeId × ℕ) → Type 0
+StartsInEntries t x [] = ⊥
+StartsInEntries t x (p ∷ path) = Has (chain t x) (p.0).0 × (p.1 < length (entries_of t (p.0).0))
 
 -- the constraints of a container and of all its bases
 abbrev pub constraints_along : Table → ℕ → List Constraint
@@ -146,5 +146,5 @@ constraints_along t k = flat_map (constraints_of t) (chain t k)
 -- are read before the choice at x holds
 pub record IsCandidate (t : Table) (x l : ℕ) (fs : List Field) : Type 0 where
   pub concrete : IsTrue (is_concrete t l)
-  pub under : IsUnder t x l
-  pub holds : AllByRecursion (λ c. StartsAbove t x c.path → Holds t fs c) (constraints_along t l)
+  pub under : IsAtOrUnder t x l
+  pub holds : AllByRecursion (λ c. StartsInEntries t x c.path → Holds t fs c) (constraints_along t l)

@@ -31,7 +31,7 @@ IsFlatKind t base (kind.Int form spans) = Unit {0}
 IsFlatKind t base (kind.Enum form listing) = Unit {0}
 IsFlatKind t base (kind.Bool form) = Unit {0}
 IsFlatKind t base (kind.Str form) = ⊥
-IsFlatKind t base (kind.Bin n) = ⊥
+IsFlatKind t base (kind.Bin n free) = ⊥
 IsFlatKind t base (kind.Arr item n) = ⊥
 IsFlatKind t base (kind.Con c) = IsFlat t base c
 

@@ -47,7 +47,7 @@ size_by least (kind.Int form spans) container = form.bits
 size_by least (kind.Enum form listing) container = form.bits
 size_by least (kind.Bool form) container = form.bits
 size_by least (kind.Str form) container = if form.fixed then 8 * form.length else 8
-size_by least (kind.Bin n) container = n
+size_by least (kind.Bin n free) container = if free then 0 else n
 size_by least (kind.Arr item n) container = n * least item.0
 size_by least (kind.Con c) container = container
 

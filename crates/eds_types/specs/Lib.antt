@@ -9,6 +9,7 @@ pub mod LeastSize
 pub mod Overlap
 pub mod Reading
 pub mod Rules
+pub mod Sizes
 pub mod Stored
 pub mod Tables
 pub mod Sample

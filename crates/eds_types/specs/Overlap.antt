@@ -1,5 +1,5 @@
 -- Containers whose values can't be told apart.
-use Rattle.std.specs.Prelude.{◌≡◌, ◌≢◌, ℕ, ℤ, List, ◌∷◌, ◌++◌, Some, slice_get, IsTrue}
+use Rattle.std.specs.Prelude.{◌≡◌, ◌≢◌, ℕ, ℤ, List, ◌∷◌, ◌++◌, Some, None, slice_get, IsTrue}
 use Rattle.std.specs.List.{AllByRecursion}
 use Rattle.eds_base.specs.declared.ids.TypeId.{TypeId}
 use Rattle.eds_base.specs.Spans.{IsWithin}
@@ -9,7 +9,8 @@ use Rattle.eds_types.specs.declared.row.Kind.{Kind}
 use Rattle.eds_types.specs.declared.row.Kind.TheVariants as kind
 use Rattle.eds_types.specs.declared.row.Constraint.{Constraint}
 use Rattle.eds_types.specs.Rows.{Table, chain, is_concrete, sequence}
-use Rattle.eds_types.specs.Fields.{type_by, IsUnder, StartsAbove, constraints_along}
+use Rattle.eds_types.specs.Sizes.{open_of}
+use Rattle.eds_types.specs.Fields.{type_by, IsAtOrUnder, StartsInEntries, constraints_along}
 use Rattle.eds_types.specs.Domains.{InDomain}
 
 -- ---- solution sets
@@ -36,8 +37,8 @@ pub record Overlapping (t : Table) (Used : ℕ → Type 0) (x k l : ℕ) : Type 
   pub differ : one ≢ other
   pub to_first : (more : List ℕ) × (chain t k ≡ chain t x ++ one ∷ more)
   pub to_second : (more : List ℕ) × (chain t l ≡ chain t x ++ other ∷ more)
-  pub used : (u : ℕ) × Used u × IsUnder t u x
-  pub common : (path : List (TypeId × ℕ)) → StartsAbove t x path → IsConstrained (constraints_along t k ++ constraints_along t l) path
+  pub used : (u : ℕ) × Used u × IsAtOrUnder t u x
+  pub common : (path : List (TypeId × ℕ)) → StartsInEntries t x path → IsConstrained (constraints_along t k ++ constraints_along t l) path
       → (n : ℤ) × IsSolution t (constraints_along t k ++ constraints_along t l) path n
 
 -- ---- what is read through a type
@@ -48,15 +49,16 @@ ReachesByKind t x (kind.Int form spans) y = ⊥
 ReachesByKind t x (kind.Enum form listing) y = ⊥
 ReachesByKind t x (kind.Bool form) y = ⊥
 ReachesByKind t x (kind.Str form) y = ⊥
-ReachesByKind t x (kind.Bin size) y = ⊥
+ReachesByKind t x (kind.Bin size free) y = ⊥
 ReachesByKind t x (kind.Arr item size) y = y ≡ item.0
-ReachesByKind t x (kind.Con c) y = (k : ℕ) × IsUnder t x k × HasOne (λ p. type_by (Some p.part) ≡ Some y) (sequence t k)
+ReachesByKind t x (kind.Con c) y = (k : ℕ) × IsAtOrUnder t x k × HasOne (λ p. type_by (Some p.part) ≡ Some y) (sequence t k)
 
 -- the second type is the first, or is reached from it in some steps
 pub data Reaches (t : Table) : ℕ → ℕ → Type 0 where
   itself : {x : ℕ} → Reaches t x x
   step : {x y z : ℕ} (row : TypeRow) → slice_get t x ≡ Some row → ReachesByKind t x row.kind y → Reaches t y z → Reaches t x z
 
--- no two containers overlap where the type and all that is reached from it are used
-abbrev pub IsClear : Table → ℕ → Type 0
-IsClear t id = (x k l : ℕ) → Overlapping t (Reaches t id) x k l → ⊥
+-- the type is no open binary, and no two containers overlap where it and all that is reached from it are used
+pub record IsClear (t : Table) (id : ℕ) : Type 0 where
+  pub not_open : open_of t id ≡ None
+  pub apart : (x k l : ℕ) → Overlapping t (Reaches t id) x k l → ⊥

@@ -17,9 +17,9 @@ use Rattle.eds_types.specs.declared.row.Part.{Part}
 use Rattle.eds_types.specs.declared.row.Part.TheVariants as part
 use Rattle.eds_types.specs.Plain.{Plain, num, label, truth, text, bits, items, fields, Plains, list_of}
 use Rattle.eds_types.specs.Rows.{Table, id_of, Placed, container_of, is_concrete, sequence}
-use Rattle.eds_types.specs.Fields.{Field, has_value, value_at, paired, listed, Holds, IsUnder, IsCandidate}
-use Rattle.eds_types.specs.Spelling.{State, started, PartsPass, SizeFits, SpellsWithin, Canon}
-use Rattle.eds_types.specs.Failing.{Station, condition, entry, choice, end, course, length_step, path_steps}
+use Rattle.eds_types.specs.Fields.{Field, has_value, value_at, paired, listed, Holds, IsAtOrUnder, IsCandidate}
+use Rattle.eds_types.specs.Spelling.{Progress, started, PartsPass, SizeFits, BinHas, SpellsWithin, Canon}
+use Rattle.eds_types.specs.Failing.{Station, condition, entry, choice, end, course, length_path, path_steps}
 
 -- why packing stops, and the steps from the whole value to the place where it does
 abbrev pub Where : Type 0
@@ -36,10 +36,10 @@ here r = (r, [])
 
 -- the first item that fails, after those that don't; the first of the list has the number j
 abbrev pub ItemFails : (Plain → Where → Type 0) → ℕ → List Plain → Where → Type 0
-ItemFails Fails j [] g = ⊥
-ItemFails Fails j (v ∷ vs) g = ((w : Where) × Fails v w × (g ≡ behind (step.Item j) w)) ⊎ (((w : Where) → Fails v w → ⊥) × ItemFails Fails (j + 1) vs g)
+ItemFails FailsInner j [] g = ⊥
+ItemFails FailsInner j (v ∷ vs) g = ((w : Where) × FailsInner v w × (g ≡ behind (step.Item j) w)) ⊎ (((w : Where) → FailsInner v w → ⊥) × ItemFails FailsInner (j + 1) vs g)
 
-module _ (t : Table) (Fails : ℕ → Plain → Where → Type 0) (fs : List Field) where
+module _ (t : Table) (FailsInner : ℕ → Plain → Where → Type 0) (fs : List Field) where
   -- the entry at this place of the container tells the number of items
   abbrev pub Tells : ℕ → ℕ → List Plain → Type 0
   Tells y i vs = value_at fs y i ≡ Some (num (pos (length vs)))
@@ -54,28 +54,28 @@ module _ (t : Table) (Fails : ℕ → Plain → Where → Type 0) (fs : List Fie
   ListFails id y i (Some (fields k vs)) g = g ≡ here reason.WrongKind
   ListFails id y i (Some (items vs)) g =
       ((Tells y i (list_of vs) → ⊥) × (g ≡ here reason.CountWrong))
-      ⊎ (Tells y i (list_of vs) × ItemFails (Fails id) 0 (list_of vs) g)
+      ⊎ (Tells y i (list_of vs) × ItemFails (FailsInner id) 0 (list_of vs) g)
 
   -- a part without a value in the fields never fails here
   abbrev pub PartFails : Placed → Part → Where → Type 0
-  PartFails p (part.Plain name id) g = (v : Plain) × (value_at fs p.container p.place ≡ Some v) × Fails id.0 v g
+  PartFails p (part.Plain name id) g = (v : Plain) × (value_at fs p.container p.place ≡ Some v) × FailsInner id.0 v g
   PartFails p (part.Fixed name id v) g = ⊥
   PartFails p (part.Pad n) g = ⊥
   PartFails p (part.List name id y i) g = ListFails id.0 y.0 i (value_at fs p.container p.place) g
   PartFails p (part.Length name id c0 c1) g = ⊥
   PartFails p (part.Check name id k) g = ⊥
 
-  -- the fields don't pass the station, of all of the course of x; NoSize says that no number of the length entry fits
-  abbrev pub StationFails : Type 0 → List Station → ℕ → Station → Where → Type 0
-  StationFails NoSize all x (condition y c) g = (Holds t fs c → ⊥) × (g ≡ (reason.Constraint, path_steps c.path))
-  StationFails NoSize all x (entry p) g = (w : Where) × PartFails p p.part w × (g ≡ behind (step.Part (id_of p.container) p.place) w)
-  StationFails NoSize all x (choice y) g = (l : ℕ) × (l ≢ x) × IsUnder t x l × IsCandidate t x l fs × (g ≡ (reason.NotMostDerived, step.Choice (id_of x) ∷ []))
-  StationFails NoSize all x end g = NoSize × (g ≡ (reason.LengthField, length_step all))
+  -- the fields don't pass the station of x; NoSize says that no number of the length entry fits
+  abbrev pub StationFails : Type 0 → ℕ → Station → Where → Type 0
+  StationFails NoSize x (condition y c) g = (Holds t fs c → ⊥) × (g ≡ (reason.Constraint, path_steps c.path))
+  StationFails NoSize x (entry p) g = (w : Where) × PartFails p p.part w × (g ≡ behind (step.Part (id_of p.container) p.place) w)
+  StationFails NoSize x (choice y) g = (l : ℕ) × (l ≢ x) × IsAtOrUnder t x l × IsCandidate t x l fs × (g ≡ (reason.NotMostDerived, step.Choice (id_of x) ∷ []))
+  StationFails NoSize x end g = NoSize × (g ≡ (reason.LengthField, length_path t x))
 
   -- the first station that they don't pass, after those that they do
-  abbrev pub FirstFails : Type 0 → List Station → ℕ → List Station → Where → Type 0
-  FirstFails NoSize all x [] g = ⊥
-  FirstFails NoSize all x (s ∷ ss) g = StationFails NoSize all x s g ⊎ (((w : Where) → StationFails NoSize all x s w → ⊥) × FirstFails NoSize all x ss g)
+  abbrev pub FirstFails : Type 0 → ℕ → List Station → Where → Type 0
+  FirstFails NoSize x [] g = ⊥
+  FirstFails NoSize x (s ∷ ss) g = StationFails NoSize x s g ⊎ (((w : Where) → StationFails NoSize x s w → ⊥) × FirstFails NoSize x ss g)
 
 -- ---- values that don't pack
 
@@ -94,7 +94,7 @@ kind_shape (kind.Int form spans) = 0
 kind_shape (kind.Enum form listing) = 1
 kind_shape (kind.Bool form) = 2
 kind_shape (kind.Str form) = 3
-kind_shape (kind.Bin n) = 4
+kind_shape (kind.Bin n free) = 4
 kind_shape (kind.Arr item n) = 5
 kind_shape (kind.Con c) = 6
 
@@ -116,20 +116,20 @@ pub record HasFields (t : Table) (k : ℕ) (f : List Plain) : Type 0 where
   pub container : IsSome (container_of t k)
   pub count : length f ≡ valued (sequence t k)
 
--- Each says what is the canonical spelling of a value of a nested type
-module _ (t : Table) (Each : ℕ → Plain → Bits → Type 0) (Fails : ℕ → Plain → Where → Type 0) where
+-- SpellsInner says what is the canonical spelling of a value of a nested type
+module _ (t : Table) (SpellsInner : ℕ → Plain → Bits → Type 0) (FailsInner : ℕ → Plain → Where → Type 0) where
   -- no canonical bits of these fields have the size that the length entry tells, whatever its number
   abbrev pub NoSizeFits : ℕ → List Field → Type 0
-  NoSizeFits k fs = (u : State) (b : Bits) → PartsPass canonical t Each started (sequence t k) u b → u.fields ≡ fs → SizeFits u → ⊥
+  NoSizeFits k fs = (u : Progress) (b : Bits) → PartsPass canonical t SpellsInner started (sequence t k) u b → u.fields ≡ fs → SizeFits u → ⊥
 
   -- the fields f of k where the type s is packed: not the fields of a container; one that isn't at or under s; an
   -- abstract one; or else the first station of its own course that they don't pass
   abbrev pub ContainerPackFails : ℕ → ℕ → List Plain → Where → Type 0
   ContainerPackFails s k f g =
       ((HasFields t k f → ⊥) × (g ≡ here reason.WrongKind))
-      ⊎ (HasFields t k f × (IsUnder t s k → ⊥) × (g ≡ (reason.NotDerived, step.Choice (id_of k) ∷ [])))
-      ⊎ (HasFields t k f × IsUnder t s k × (is_concrete t k ≡ false) × (g ≡ (reason.Abstract, step.Choice (id_of k) ∷ [])))
-      ⊎ (HasFields t k f × IsUnder t s k × IsTrue (is_concrete t k) × FirstFails t Fails (paired (sequence t k) f) (NoSizeFits k (paired (sequence t k) f)) (course t k k) k (course t k k) g)
+      ⊎ (HasFields t k f × (IsAtOrUnder t s k → ⊥) × (g ≡ (reason.NotDerived, step.Choice (id_of k) ∷ [])))
+      ⊎ (HasFields t k f × IsAtOrUnder t s k × (is_concrete t k ≡ false) × (g ≡ (reason.Abstract, step.Choice (id_of k) ∷ [])))
+      ⊎ (HasFields t k f × IsAtOrUnder t s k × IsTrue (is_concrete t k) × FirstFails t FailsInner (paired (sequence t k) f) (NoSizeFits k (paired (sequence t k) f)) k (course t k k) g)
 
   -- a value of the right kind
   abbrev pub OfKindFails : ℕ → Kind → Plain → Where → Type 0
@@ -137,8 +137,8 @@ module _ (t : Table) (Each : ℕ → Plain → Bits → Type 0) (Fails : ℕ →
   OfKindFails id (kind.Enum form listing) v g = (l : List ℕ) × (v ≡ label l) × (listed listing l ≡ None) × (g ≡ here reason.NoLabel)
   OfKindFails id (kind.Bool form) v g = ⊥
   OfKindFails id (kind.Str form) v g = (s : List ℕ) × (v ≡ text s) × (((TextFits form s → ⊥) × (g ≡ here reason.BadText)) ⊎ (TextFits form s × (form.length < length s) × (g ≡ here reason.WrongSize)))
-  OfKindFails id (kind.Bin n) v g = (m : ℕ) × (o : List ℕ) × (v ≡ bits m o) × (((m ≡ n) × IsFilled n o) → ⊥) × (g ≡ here reason.WrongSize)
-  OfKindFails id (kind.Arr item n) v g = (vs : Plains) × (v ≡ items vs) × (((length (list_of vs) ≢ n) × (g ≡ here reason.WrongSize)) ⊎ ((length (list_of vs) ≡ n) × ItemFails (Fails item.0) 0 (list_of vs) g))
+  OfKindFails id (kind.Bin n free) v g = (m : ℕ) × (o : List ℕ) × (v ≡ bits m o) × ((BinHas n free m × IsFilled m o) → ⊥) × (g ≡ here reason.WrongSize)
+  OfKindFails id (kind.Arr item n) v g = (vs : Plains) × (v ≡ items vs) × (((length (list_of vs) ≢ n) × (g ≡ here reason.WrongSize)) ⊎ ((length (list_of vs) ≡ n) × ItemFails (FailsInner item.0) 0 (list_of vs) g))
   OfKindFails id (kind.Con c) v g = (k : ℕ) × (f : Plains) × (v ≡ fields k f) × ContainerPackFails id k (list_of f) g
 
   abbrev pub KindPackFails : ℕ → Kind → Plain → Where → Type 0

@@ -1,7 +1,7 @@
 -- Reading from left to right, with the first fault that is met. This function is a device of the proofs: the meaning of
 -- bits is said by spellings and by where reading fails, and the laws say that this function gives exactly that. The
 -- reader in code is proved to give what this function gives.
-use Rattle.std.specs.Prelude.{ℕ, zero, suc, ◌+◌, ◌-◌, ◌*◌, ℤ, pos, ◌+ℤ◌, ◌*ℤ◌, List, [], ◌∷◌, length, take, drop, reverse, Bool, true, false, cond, not, ◌&&◌, ◌==◌, Option, Some, None, Result, Ok, Err, slice_get, nat_lt, int_le, unwrap_or}
+use Rattle.std.specs.Prelude.{ℕ, zero, suc, ◌+◌, ◌-◌, ◌*◌, ℤ, pos, negsuc, ◌+ℤ◌, ◌*ℤ◌, List, [], ◌∷◌, length, take, drop, reverse, Bool, true, false, cond, not, ◌&&◌, ◌==◌, Option, Some, None, Result, Ok, Err, slice_get, nat_lt, int_le, unwrap_or}
 use Rattle.std.specs.List.{flat_map, list_all}
 use Rattle.std.specs.Str.{is_utf8}
 use Rattle.std.specs.Ordering.{int_eq}
@@ -27,8 +27,9 @@ use Rattle.eds_types.specs.declared.row.Constraint.{Constraint as Condition}
 use Rattle.eds_types.specs.Plain.{Plain, num, label, truth, text, bits, items, fields, Plains, none, more, plains_of, plain}
 use Rattle.eds_types.specs.Rows.{Table, id_of, chain, list_has, is_concrete, entries_of, constraints_of, Placed, placed_entries, placed_trailers}
 use Rattle.eds_types.specs.Fields.{Field, values_of, number_on, listed, constraints_along}
-use Rattle.eds_types.specs.Spelling.{State, started, passed, took, told, count_at}
-use Rattle.eds_types.specs.Failing.{Where, behind, here, path_steps, length_step, course, whole}
+use Rattle.eds_types.specs.Spelling.{Progress, started, with_bits, with_value, with_octets, count_at}
+use Rattle.eds_types.specs.Failing.{Where, behind, here, path_steps, part_step, length_step, length_path, course, whole}
+use Rattle.eds_types.specs.Sizes.{tail_of, trailers_size}
 
 abbrev pub Read : Type 0 → Type 0
 Read A = Result (A × Bits) Where
@@ -167,21 +168,45 @@ number_in (bits n o) = Err (here Short)
 number_in (items vs) = Err (here Short)
 number_in (fields k vs) = Err (here Short)
 
-abbrev pub after_number : State → ℤ → ℤ → ℤ → Bits → State
-after_number s c0 c1 r b = told s (c0 +ℤ (c1 *ℤ r)) b
+abbrev pub after_number : Progress → ℤ → ℤ → ℤ → Bits → Progress
+after_number s c0 c1 r b = with_octets s (c0 +ℤ (c1 *ℤ r)) b
 
-module _ (read : ℕ → Bits → Read Plain) where
-  abbrev pub read_part : State → Placed → Part → Bits → Read State
-  read_part s p (part.Plain name id) b = advance (took s p) b (read id.0 b)
-  read_part s p (part.Fixed name id v) b = advance (λ u c. passed s c) b (judge (expected (plain v) FixedDiffers) (read id.0 b))
-  read_part s p (part.Pad n) b = advance (λ u c. passed s c) b (read_bits n b)
-  read_part s p (part.List name id y i) b = advance (λ vs c. took s p (items (plains_of vs)) c) b (read_items (read id.0) (count_at s y.0 i) 0 b)
+-- how many octets a tail has: those that are told, less those of the other parts
+abbrev pub octets_left : ℤ → ℕ → Option ℕ
+octets_left (pos c) q = cond (nat_lt c q) None (Some (c - q))
+octets_left (negsuc c) q = None
+
+-- the same, where the tail may have so many bits
+abbrev pub tail_octets : ℕ → Option ℕ → Option ℕ
+tail_octets n None = None
+tail_octets n (Some j) = cond (nat_lt n (8 * j)) None (Some j)
+
+abbrev pub tail_room : Table → ℕ → Progress → Placed → Option ℕ
+tail_room t n s p = tail_octets n (octets_left (unwrap_or s.octets (pos 0)) (octets_for (length s.before + trailers_size t p.container)))
+
+abbrev pub read_tail : Table → Option ℕ → Progress → Placed → Bits → Read Progress
+read_tail t None s p b = Err (LengthDiffers, length_path t p.container)
+read_tail t (Some j) s p b = inside (part_step p) (advance (λ c d. with_value s p (bits (8 * j) (octets_of d)) d) b (read_bits (8 * j) b))
+
+module _ (t : Table) (read : ℕ → Bits → Read Plain) where
+  abbrev pub read_part : Progress → Placed → Part → Bits → Read Progress
+  read_part s p (part.Plain name id) b = advance (with_value s p) b (read id.0 b)
+  read_part s p (part.Fixed name id v) b = advance (λ u c. with_bits s c) b (judge (expected (plain v) FixedDiffers) (read id.0 b))
+  read_part s p (part.Pad n) b = advance (λ u c. with_bits s c) b (read_bits n b)
+  read_part s p (part.List name id y i) b = advance (λ vs c. with_value s p (items (plains_of vs)) c) b (read_items (read id.0) (count_at s y.0 i) 0 b)
   read_part s p (part.Length name id c0 c1) b = advance (after_number s c0 c1) b (judge number_in (read id.0 b))
-  read_part s p (part.Check name id k) b = advance (λ u c. passed s c) b (judge (expected (num (pos (check_of k s.before))) CheckDiffers) (read id.0 b))
+  read_part s p (part.Check name id k) b = advance (λ u c. with_bits s c) b (judge (expected (num (pos (check_of k s.before))) CheckDiffers) (read id.0 b))
 
-  unfoldable pub read_parts : List Placed → State → Bits → Read State
+  abbrev pub read_entry_by : Option ℕ → Progress → Placed → Bits → Read Progress
+  read_entry_by None s p b = inside (part_step p) (read_part s p p.part b)
+  read_entry_by (Some n) s p b = read_tail t (tail_room t n s p) s p b
+
+  abbrev pub read_entry : Progress → Placed → Bits → Read Progress
+  read_entry s p b = read_entry_by (tail_of t p.part) s p b
+
+  unfoldable pub read_parts : List Placed → Progress → Bits → Read Progress
   read_parts [] s b = Ok (s, b)
-  read_parts (p ∷ ps) s b = inside (step.Part (id_of p.container) p.place) (read_part s p p.part b) >>= λ v. read_parts ps v.0 v.1
+  read_parts (p ∷ ps) s b = read_entry s p b >>= λ v. read_parts ps v.0 v.1
 
 -- ---- constraints
 
@@ -232,29 +257,29 @@ size_fits (Some n) b = int_eq n (pos (octets_for (length b)))
 
 -- a container, its last state and the bits that are left
 abbrev pub Ends : Type 0
-Ends = Result (ℕ × State × Bits) Where
+Ends = Result (ℕ × Progress × Bits) Where
 
-abbrev pub finish : ℕ → List Step → State × Bits → Ends
+abbrev pub finish : ℕ → List Step → Progress × Bits → Ends
 finish x steps v = cond (size_fits (v.0).octets (v.0).before) (Ok (x, v.0, v.1)) (Err (LengthDiffers, steps))
 
 module _ (t : Table) (read : ℕ → Bits → Read Plain) where
   abbrev pub trailers_up : ℕ → List Placed
   trailers_up x = flat_map (placed_trailers t) (reverse (chain t x))
 
-  abbrev pub read_own : ℕ → State → Bits → Read State
-  read_own y s b = check_all t (constraints_of t y) s.fields >>= λ u. read_parts read (placed_entries t y) s b
+  abbrev pub read_own : ℕ → Progress → Bits → Read Progress
+  read_own y s b = check_all t (constraints_of t y) s.fields >>= λ u. read_parts t read (placed_entries t y) s b
 
-  unfoldable pub read_chain : List ℕ → State → Bits → Read State
+  unfoldable pub read_chain : List ℕ → Progress → Bits → Read Progress
   read_chain [] s b = Ok (s, b)
   read_chain (y ∷ ys) s b = read_own y s b >>= λ v. read_chain ys v.0 v.1
 
-  abbrev pub go_on : ℕ → (ℕ → State → Bits → Ends) → ℕ → State → Bits → Next → Ends
-  go_on top then x s b stay = read_parts read (trailers_up x) s b >>= finish x (length_step (course t top x))
+  abbrev pub go_on : ℕ → (ℕ → Progress → Bits → Ends) → ℕ → Progress → Bits → Next → Ends
+  go_on top then x s b stay = read_parts t read (trailers_up x) s b >>= finish x (length_path t x)
   go_on top then x s b nowhere = Err (NoDerived, step.Choice (id_of x) ∷ [])
-  go_on top then x s b (under z) = read_parts read (placed_entries t z) s b >>= λ v. then z v.0 v.1
+  go_on top then x s b (under z) = read_parts t read (placed_entries t z) s b >>= λ v. then z v.0 v.1
 
   -- the container x and its bases have been read
-  unfoldable pub read_under : ℕ → ℕ → ℕ → State → Bits → Ends
+  unfoldable pub read_under : ℕ → ℕ → ℕ → Progress → Bits → Ends
   read_under top zero x s b = Err (NoDerived, step.Choice (id_of x) ∷ [])
   read_under top (suc n) x s b = go_on top (read_under top n) x s b (next t x s.fields)
 
@@ -270,7 +295,7 @@ module _ (t : Table) (read : ℕ → Bits → Read Plain) where
   read_kind id (kind.Enum form listing) b = judge (λ c. named listing (number_of form c)) (read_bits form.bits b)
   read_kind id (kind.Bool form) b = judge (λ c. Ok (truth (truth_of form c))) (read_bits form.bits b)
   read_kind id (kind.Str form) b = read_text form form.fixed b
-  read_kind id (kind.Bin n) b = judge (λ c. Ok (bits n (octets_of c))) (read_bits n b)
+  read_kind id (kind.Bin n free) b = judge (λ c. Ok (bits n (octets_of c))) (read_bits n b)
   read_kind id (kind.Arr item n) b = judge (λ vs. Ok (items (plains_of vs))) (read_items (read item.0) n 0 b)
   read_kind id (kind.Con c) b = ended (read_to_end id b)
 

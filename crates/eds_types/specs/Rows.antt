@@ -23,7 +23,7 @@ container_by (kind.Int form spans) = None
 container_by (kind.Enum form listing) = None
 container_by (kind.Bool form) = None
 container_by (kind.Str form) = None
-container_by (kind.Bin n) = None
+container_by (kind.Bin n free) = None
 container_by (kind.Arr item n) = None
 container_by (kind.Con c) = Some c
 

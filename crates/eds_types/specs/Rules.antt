@@ -1,14 +1,14 @@
 -- The rules of the profile that a table of types keeps. Each is named where it stands by the refusal that a sheet gets
 -- which breaks it: a sheet that gets none of these has a table that keeps them all.
-use Rattle.std.specs.Prelude.{◌≡◌, ℕ, suc, ◌^◌, ◌<◌, ◌≤◌, ℤ, pos, ◌≤ℤ◌, nat_abs, List, [], ◌∷◌, ◌++◌, length, map, filter, Bool, true, false, Option, Some, None, IsSome, slice_get, IsTrue}
-use Rattle.std.specs.List.{AllByRecursion, filter_map}
+use Rattle.std.specs.Prelude.{◌≡◌, ℕ, suc, ◌*◌, ◌^◌, ◌<◌, ◌≤◌, ℤ, pos, ◌≤ℤ◌, nat_abs, List, [], ◌∷◌, ◌++◌, length, map, filter, Bool, true, false, Option, Some, None, IsSome, IfSome, slice_get, IsTrue}
+use Rattle.std.specs.List.{AllByRecursion, filter_map, flat_map}
 use Rattle.eds_base.specs.declared.ids.TypeId.{TypeId}
 use Rattle.eds_base.specs.declared.spans.Span.{Span}
 use Rattle.eds_base.specs.Spans.{IsWithin}
 use Rattle.eds_bits.specs.declared.forms.IntForm.{IntForm}
 use Rattle.eds_bits.specs.declared.forms.Encoding.TheVariants.{Unsigned}
 use Rattle.eds_bits.specs.declared.forms.CheckKind.{CheckKind}
-use Rattle.eds_bits.specs.Lists.{Has}
+use Rattle.eds_bits.specs.Lists.{Has, HasOne}
 use Rattle.eds_bits.specs.IntForms.{HasNumber}
 use Rattle.eds_bits.specs.Scalars.{check_bits}
 use Rattle.eds_types.specs.declared.row.TypeRow.{TypeRow}
@@ -18,8 +18,9 @@ use Rattle.eds_types.specs.declared.row.Part.{Part}
 use Rattle.eds_types.specs.declared.row.Part.TheVariants as part
 use Rattle.eds_types.specs.declared.row.Constraint.{Constraint}
 use Rattle.eds_types.specs.Plain.{Plain, num, label, truth, text, bits, plain}
-use Rattle.eds_types.specs.Rows.{Table, container_of, base_of, constraints_of, is_concrete, derived, Placed, own_parts, sequence}
-use Rattle.eds_types.specs.Fields.{type_by, type_on, part_at, listed, IsUnder, StartsAbove, constraints_along}
+use Rattle.eds_types.specs.Rows.{Table, container_of, base_of, constraints_of, is_concrete, derived, chain, Placed, placed_entries, own_parts, sequence}
+use Rattle.eds_types.specs.Sizes.{open_of, part_size, trailers_along}
+use Rattle.eds_types.specs.Fields.{type_by, type_on, part_at, listed, IsAtOrUnder, StartsInEntries, constraints_along}
 use Rattle.eds_types.specs.Packing.{TextFits, IsFilled}
 use Rattle.eds_types.specs.Overlap.{IsSolution}
 
@@ -43,7 +44,7 @@ IsIntBy P (kind.Int form spans) = P form spans
 IsIntBy P (kind.Enum form listing) = ⊥
 IsIntBy P (kind.Bool form) = ⊥
 IsIntBy P (kind.Str form) = ⊥
-IsIntBy P (kind.Bin n) = ⊥
+IsIntBy P (kind.Bin n free) = ⊥
 IsIntBy P (kind.Arr item n) = ⊥
 IsIntBy P (kind.Con c) = ⊥
 
@@ -79,7 +80,7 @@ KindKeeps (kind.Int form spans) = IsDomain form spans
 KindKeeps (kind.Enum form listing) = IsListing form listing
 KindKeeps (kind.Bool form) = Unit {0}
 KindKeeps (kind.Str form) = Unit {0}
-KindKeeps (kind.Bin n) = (1 ≤ n) × (n ≤ 524288)
+KindKeeps (kind.Bin n free) = (1 ≤ n) × (n ≤ 524288) × (IsTrue free → (j : ℕ) × (n ≡ 8 * j))
 KindKeeps (kind.Arr item n) = (1 ≤ n) × (n ≤ 65536)
 KindKeeps (kind.Con c) = (length c.entries ≤ 32767) × (length c.trailers ≤ 32767)
 
@@ -104,9 +105,9 @@ DerivesFrom k base = ⊥
 pub record IsHollow (t : Table) (id : ℕ) : Type 0 where
   pub hollow : ℕ
   pub concrete : IsTrue (is_concrete t hollow)
-  pub under : IsUnder t id hollow
+  pub under : IsAtOrUnder t id hollow
   pub no_parts : sequence t hollow ≡ []
-  pub last : (l : ℕ) → IsTrue (is_concrete t l) → IsUnder t hollow l → l ≡ hollow
+  pub last : (l : ℕ) → IsTrue (is_concrete t l) → IsAtOrUnder t hollow l → l ≡ hollow
 
 -- the types of a container's parts, and of an array's items, are there, and nested less deep
 abbrev pub IsNested : Table → (ℕ → ℕ) → ℕ → ℕ → Type 0
@@ -117,8 +118,8 @@ ItemsNest t rank id (kind.Int form spans) = Unit {0}
 ItemsNest t rank id (kind.Enum form listing) = Unit {0}
 ItemsNest t rank id (kind.Bool form) = Unit {0}
 ItemsNest t rank id (kind.Str form) = Unit {0}
-ItemsNest t rank id (kind.Bin n) = Unit {0}
-ItemsNest t rank id (kind.Arr item n) = IsNested t rank id item.0 × (IsHollow t item.0 → ⊥)
+ItemsNest t rank id (kind.Bin n free) = Unit {0}
+ItemsNest t rank id (kind.Arr item n) = IsNested t rank id item.0 × (IsHollow t item.0 → ⊥) × (open_of t item.0 ≡ None)
 ItemsNest t rank id (kind.Con c) = Unit {0}
 
 -- ---- parts
@@ -129,7 +130,7 @@ IsValueOf (kind.Int form spans) v = (n : ℤ) × (v ≡ num n) × IsWithin spans
 IsValueOf (kind.Enum form listing) v = (l : List ℕ) × (v ≡ label l) × IsSome (listed listing l)
 IsValueOf (kind.Bool form) v = (b : Bool) × (v ≡ truth b)
 IsValueOf (kind.Str form) v = (s : List ℕ) × (v ≡ text s) × TextFits form s × (length s ≤ form.length)
-IsValueOf (kind.Bin n) v = (o : List ℕ) × (v ≡ bits n o) × IsFilled n o
+IsValueOf (kind.Bin n free) v = (o : List ℕ) × (free ≡ false) × (v ≡ bits n o) × IsFilled n o
 IsValueOf (kind.Arr item n) v = ⊥
 IsValueOf (kind.Con c) v = ⊥
 
@@ -153,11 +154,28 @@ pub record IsScale (c0 c1 : ℤ) : Type 0 where
   pub factor : c1 ≤ℤ pos (2 ^ 32)
   pub offset : nat_abs c0 ≤ 2 ^ 32
 
+abbrev pub is_length : Part → Bool
+is_length (part.Plain name id) = false
+is_length (part.Fixed name id v) = false
+is_length (part.Pad n) = false
+is_length (part.List name id y i) = false
+is_length (part.Length name id c0 c1) = true
+is_length (part.Check name id k) = false
+
+-- an entry with an open binary is the last one of its container, which has no derived container, a length entry before
+-- it, and trailers with sizes (LengthField)
+pub record TailKeeps (t : Table) (p : Placed) : Type 0 where
+  pub before : List Placed
+  pub last : placed_entries t p.container ≡ before ++ p ∷ []
+  pub not_derived : (k : ℕ) → IsAtOrUnder t p.container k → k ≡ p.container
+  pub told : HasOne (λ (q : Placed). IsTrue (is_length q.part)) (flat_map (placed_entries t) (chain t p.container))
+  pub sized : AllByRecursion (λ (q : Placed). IsSome (part_size t q.part)) (trailers_along t p.container)
+
 abbrev pub PartKeeps : Table → Placed → Part → Type 0
-PartKeeps t p (part.Plain name id) = IsHollow t id.0 → ⊥
+PartKeeps t p (part.Plain name id) = (IsHollow t id.0 → ⊥) × IfSome (open_of t id.0) (λ n. TailKeeps t p)
 PartKeeps t p (part.Fixed name id v) = HasKind t id.0 (λ k. IsValueOf k (plain v))
 PartKeeps t p (part.Pad n) = (1 ≤ n) × (n ≤ 524288)
-PartKeeps t p (part.List name id y i) = (IsHollow t id.0 → ⊥) × IsCounted t p y.0 i
+PartKeeps t p (part.List name id y i) = (IsHollow t id.0 → ⊥) × (open_of t id.0 ≡ None) × IsCounted t p y.0 i
 PartKeeps t p (part.Length name id c0 c1) = IsInt t id.0 (λ form spans. Unit {0}) × IsScale c0 c1
 PartKeeps t p (part.Check name id check) = IsInt t id.0 (HoldsCheck check) × (base_of t id.0 ≡ None)
 
@@ -168,14 +186,6 @@ name_of (part.Pad n) = None
 name_of (part.List name id y i) = Some name
 name_of (part.Length name id c0 c1) = Some name
 name_of (part.Check name id k) = Some name
-
-abbrev pub is_length : Part → Bool
-is_length (part.Plain name id) = false
-is_length (part.Fixed name id v) = false
-is_length (part.Pad n) = false
-is_length (part.List name id y i) = false
-is_length (part.Length name id c0 c1) = true
-is_length (part.Check name id k) = false
 
 -- the parts of a whole chain: names differ (DuplicateEntry), and there is one length entry at most (LengthField)
 pub record SequenceKeeps (parts : List Placed) : Type 0 where
@@ -189,14 +199,14 @@ pub record SequenceKeeps (parts : List Placed) : Type 0 where
 abbrev pub Follows : Table → List (TypeId × ℕ) → Type 0
 Follows t [] = ⊥
 Follows t (p ∷ []) = (name : List ℕ) × (id : TypeId) × (part_at t p ≡ Some (part.Plain name id))
-Follows t (p ∷ q ∷ path) = (name : List ℕ) × (id : TypeId) × (part_at t p ≡ Some (part.Plain name id)) × IsContainer t id.0 × IsUnder t (q.0).0 id.0 × Follows t (q ∷ path)
+Follows t (p ∷ q ∷ path) = (name : List ℕ) × (id : TypeId) × (part_at t p ≡ Some (part.Plain name id)) × IsContainer t id.0 × IsAtOrUnder t (q.0).0 id.0 × Follows t (q ∷ path)
 
 abbrev pub IsScalarKind : Kind → Type 0
 IsScalarKind (kind.Int form spans) = Unit {0}
 IsScalarKind (kind.Enum form listing) = Unit {0}
 IsScalarKind (kind.Bool form) = Unit {0}
 IsScalarKind (kind.Str form) = ⊥
-IsScalarKind (kind.Bin n) = ⊥
+IsScalarKind (kind.Bin n free) = ⊥
 IsScalarKind (kind.Arr item n) = ⊥
 IsScalarKind (kind.Con c) = ⊥
 
@@ -204,9 +214,9 @@ IsScalarKind (kind.Con c) = ⊥
 -- (ConstraintValue)
 pub record IsTypeSet (t : Table) (target : ℕ) (set : List Span) : Type 0 where
   pub kept : ℕ
-  pub under : IsUnder t target kept
-  pub ids : (n : ℤ) → IsWithin set n → (k : ℕ) × (n ≡ pos k) × IsTrue (is_concrete t k) × IsUnder t kept k
-  pub all : (k : ℕ) → IsTrue (is_concrete t k) → IsUnder t kept k → IsWithin set (pos k)
+  pub under : IsAtOrUnder t target kept
+  pub ids : (n : ℤ) → IsWithin set n → (k : ℕ) × (n ≡ pos k) × IsTrue (is_concrete t k) × IsAtOrUnder t kept k
+  pub all : (k : ℕ) → IsTrue (is_concrete t k) → IsAtOrUnder t kept k → IsWithin set (pos k)
 
 -- a constraint speaks of a scalar, or, where it is one on an entry's type, of a container
 abbrev pub TargetKeeps : Table → ℕ → Bool → List Span → Type 0
@@ -216,7 +226,7 @@ TargetKeeps t target false set = HasKind t target IsScalarKind
 -- a constraint of the container k, which derives from base: its path leads to an entry, from one of the bases' own
 -- entries, and all that the chain asks of this entry can be met (ConstraintEmpty)
 pub record ConstraintKeeps (t : Table) (base k : ℕ) (c : Constraint) : Type 0 where
-  pub starts : StartsAbove t base c.path
+  pub starts : StartsInEntries t base c.path
   pub follows : Follows t c.path
   pub target : ℕ
   pub leads : type_on t c.path ≡ Some target
@@ -229,7 +239,7 @@ pub record KeepsRules (t : Table) : Type 0 where
   -- there are at most 4,096 types (Limit), of different names (Duplicate)
   pub few : length t ≤ 4096
   pub names : AreDistinct (map (λ (row : TypeRow). row.name) t)
-  -- sizes and numbers of items (BadAttribute, Limit), domains and listings
+  -- sizes and numbers of items (BadAttribute, Limit, BadEncoding), domains and listings
   pub kinds : (id : ℕ) (row : TypeRow) → slice_get t id ≡ Some row → KindKeeps row.kind
   -- a base is there (Unresolved), and of the derived type's kind
   pub bases : (id base : ℕ) (row : TypeRow) → slice_get t id ≡ Some row → base_of t id ≡ Some base → HasKind t base (DerivesFrom row.kind)

@@ -1,5 +1,5 @@
 -- Which bits spell a value of a type.
-use Rattle.std.specs.Prelude.{◌≡◌, ◌≢◌, ℕ, zero, suc, ℤ, pos, ◌+ℤ◌, ◌*ℤ◌, nat_abs, List, [], ◌∷◌, ◌++◌, length, Bool, Option, Some, None, slice_get, IfSome, IsTrue}
+use Rattle.std.specs.Prelude.{◌≡◌, ◌≢◌, ℕ, zero, suc, ◌*◌, ◌≤◌, ℤ, pos, ◌+ℤ◌, ◌*ℤ◌, nat_abs, List, [], ◌∷◌, ◌++◌, length, Bool, true, false, Option, Some, None, slice_get, IfSome, IsTrue}
 use Rattle.std.specs.List.{AllByRecursion}
 use Rattle.eds_base.specs.Spans.{IsWithin}
 use Rattle.eds_bits.specs.Bits.{Bits, octets_of, octets_for}
@@ -13,34 +13,34 @@ use Rattle.eds_types.specs.declared.row.Part.{Part}
 use Rattle.eds_types.specs.declared.row.Part.TheVariants as part
 use Rattle.eds_types.specs.Plain.{Plain, num, label, truth, text, bits, items, fields, Plains, list_of, plain}
 use Rattle.eds_types.specs.Rows.{Table, is_concrete, Placed, sequence}
-use Rattle.eds_types.specs.Fields.{Field, value_at, values_of, listed, Holds, IsUnder, constraints_along, IsCandidate}
+use Rattle.eds_types.specs.Fields.{Field, value_at, values_of, listed, Holds, IsAtOrUnder, constraints_along, IsCandidate}
 
 -- ---- how far a container has come
 
 -- the fields of a container so far, its bits so far, and the number of octets that its length entry tells
-pub record State : Type 0 where
+pub record Progress : Type 0 where
   pub fields : List Field
   pub before : Bits
   pub octets : Option ℤ
 
 -- before the first part
-abbrev pub started : State
+abbrev pub started : Progress
 started = record { fields = []; before = []; octets = None }
 
 -- after the bits of a part that has no value
-abbrev pub passed : State → Bits → State
-passed s b = record { fields = s.fields; before = s.before ++ b; octets = s.octets }
+abbrev pub with_bits : Progress → Bits → Progress
+with_bits s b = record { fields = s.fields; before = s.before ++ b; octets = s.octets }
 
 -- after the bits of a part and its value
-abbrev pub took : State → Placed → Plain → Bits → State
-took s p v b = record { fields = s.fields ++ (p.container, p.place, v) ∷ []; before = s.before ++ b; octets = s.octets }
+abbrev pub with_value : Progress → Placed → Plain → Bits → Progress
+with_value s p v b = record { fields = s.fields ++ (p.container, p.place, v) ∷ []; before = s.before ++ b; octets = s.octets }
 
 -- after the bits of a length entry that tells n octets
-abbrev pub told : State → ℤ → Bits → State
-told s n b = record { fields = s.fields; before = s.before ++ b; octets = Some n }
+abbrev pub with_octets : Progress → ℤ → Bits → Progress
+with_octets s n b = record { fields = s.fields; before = s.before ++ b; octets = Some n }
 
 -- the number of the length entry fits the container's size
-abbrev pub SizeFits : State → Type 0
+abbrev pub SizeFits : Progress → Type 0
 SizeFits s = IfSome s.octets (λ n. n ≡ pos (octets_for (length s.before)))
 
 abbrev pub count_in : Option Plain → ℕ
@@ -54,44 +54,49 @@ count_in (Some (items vs)) = 0
 count_in (Some (fields k vs)) = 0
 
 -- how many items the entry at this place of the container tells
-abbrev pub count_at : State → ℕ → ℕ → ℕ
+abbrev pub count_at : Progress → ℕ → ℕ → ℕ
 count_at s y i = count_in (value_at s.fields y i)
 
--- ---- items, parts and containers, where Each says what spells a value of a type that is nested in this one
+-- a binary of n bits, or an open one of at most so many, has m bits
+abbrev pub BinHas : ℕ → Bool → ℕ → Type 0
+BinHas n false m = m ≡ n
+BinHas n true m = (m ≤ n) × ((j : ℕ) × (m ≡ 8 * j))
+
+-- ---- items, parts and containers, where SpellsInner says what spells a value of a type that is nested in this one
 
 -- the bits are one spelling for each item, in order
 abbrev pub ItemsSpell : (Plain → Bits → Type 0) → List Plain → Bits → Type 0
-ItemsSpell Each [] b = b ≡ []
-ItemsSpell Each (v ∷ vs) b = (c : Bits) × (d : Bits) × (b ≡ c ++ d) × Each v c × ItemsSpell Each vs d
+ItemsSpell SpellsInner [] b = b ≡ []
+ItemsSpell SpellsInner (v ∷ vs) b = (c : Bits) × (d : Bits) × (b ≡ c ++ d) × SpellsInner v c × ItemsSpell SpellsInner vs d
 
-module _ (style : Style) (t : Table) (Each : ℕ → Plain → Bits → Type 0) where
+module _ (style : Style) (t : Table) (SpellsInner : ℕ → Plain → Bits → Type 0) where
   -- the bits are those of the part, and lead from one state to the next. A list has as many items as the entry tells;
   -- an error control has the check of the bits before it. A length entry may have any number of its type, which is
   -- compared with the size when all parts are known.
-  abbrev pub PartPasses : State → Placed → Part → State → Bits → Type 0
-  PartPasses s p (part.Plain name id) u b = (v : Plain) × Each id.0 v b × (u ≡ took s p v b)
-  PartPasses s p (part.Fixed name id v) u b = Each id.0 (plain v) b × (u ≡ passed s b)
-  PartPasses s p (part.Pad n) u b = (length b ≡ n) × IfCanonical style (IsTrue (is_zero b)) × (u ≡ passed s b)
-  PartPasses s p (part.List name id y i) u b = (vs : Plains) × (length (list_of vs) ≡ count_at s y.0 i) × ItemsSpell (Each id.0) (list_of vs) b × (u ≡ took s p (items vs) b)
-  PartPasses s p (part.Length name id c0 c1) u b = (r : ℤ) × Each id.0 (num r) b × (u ≡ told s (c0 +ℤ (c1 *ℤ r)) b)
-  PartPasses s p (part.Check name id k) u b = Each id.0 (num (pos (check_of k s.before))) b × (u ≡ passed s b)
+  abbrev pub PartPasses : Progress → Placed → Part → Progress → Bits → Type 0
+  PartPasses s p (part.Plain name id) u b = (v : Plain) × SpellsInner id.0 v b × (u ≡ with_value s p v b)
+  PartPasses s p (part.Fixed name id v) u b = SpellsInner id.0 (plain v) b × (u ≡ with_bits s b)
+  PartPasses s p (part.Pad n) u b = (length b ≡ n) × IfCanonical style (IsTrue (is_zero b)) × (u ≡ with_bits s b)
+  PartPasses s p (part.List name id y i) u b = (vs : Plains) × (length (list_of vs) ≡ count_at s y.0 i) × ItemsSpell (SpellsInner id.0) (list_of vs) b × (u ≡ with_value s p (items vs) b)
+  PartPasses s p (part.Length name id c0 c1) u b = (r : ℤ) × SpellsInner id.0 (num r) b × (u ≡ with_octets s (c0 +ℤ (c1 *ℤ r)) b)
+  PartPasses s p (part.Check name id k) u b = SpellsInner id.0 (num (pos (check_of k s.before))) b × (u ≡ with_bits s b)
 
   -- the bits are those of the parts, one after the other
-  abbrev pub PartsPass : State → List Placed → State → Bits → Type 0
+  abbrev pub PartsPass : Progress → List Placed → Progress → Bits → Type 0
   PartsPass s [] u b = (u ≡ s) × (b ≡ [])
-  PartsPass s (p ∷ ps) u b = (m : State) × (c : Bits) × (d : Bits) × (b ≡ c ++ d) × PartPasses s p p.part m c × PartsPass m ps u d
+  PartsPass s (p ∷ ps) u b = (m : Progress) × (c : Bits) × (d : Bits) × (b ≡ c ++ d) × PartPasses s p p.part m c × PartsPass m ps u d
 
   -- the bits spell the values f of the container k where the type s is read: k is concrete, at or under s, the bits are
   -- those of its sequence and have the told size, all constraints hold, and no container under k may be it too
   pub record ContainerSpells (s k : ℕ) (f : List Plain) (b : Bits) : Type 0 where
     pub concrete : IsTrue (is_concrete t k)
-    pub under : IsUnder t s k
-    pub end : State
+    pub under : IsAtOrUnder t s k
+    pub end : Progress
     pub parts : PartsPass started (sequence t k) end b
     pub values : f ≡ values_of end.fields
     pub size : SizeFits end
     pub constraints : AllByRecursion (Holds t end.fields) (constraints_along t k)
-    pub most_derived : (l : ℕ) → l ≢ k → IsUnder t k l → IsCandidate t k l end.fields → ⊥
+    pub most_derived : (l : ℕ) → l ≢ k → IsAtOrUnder t k l → IsCandidate t k l end.fields → ⊥
 
   -- the bits spell the value, by the kind of the type
   abbrev pub KindSpells : ℕ → Kind → Plain → Bits → Type 0
@@ -99,8 +104,8 @@ module _ (style : Style) (t : Table) (Each : ℕ → Plain → Bits → Type 0) 
   KindSpells id (kind.Enum form listing) v b = (l : List ℕ) × (n : ℤ) × (v ≡ label l) × (listed listing l ≡ Some n) × IsNumber style form n b
   KindSpells id (kind.Bool form) v b = (x : Bool) × (v ≡ truth x) × IsBool style form x b
   KindSpells id (kind.Str form) v b = (s : List ℕ) × (v ≡ text s) × IsText style form s b
-  KindSpells id (kind.Bin n) v b = (length b ≡ n) × (v ≡ bits n (octets_of b))
-  KindSpells id (kind.Arr item n) v b = (vs : Plains) × (v ≡ items vs) × (length (list_of vs) ≡ n) × ItemsSpell (Each item.0) (list_of vs) b
+  KindSpells id (kind.Bin n free) v b = BinHas n free (length b) × (v ≡ bits (length b) (octets_of b))
+  KindSpells id (kind.Arr item n) v b = (vs : Plains) × (v ≡ items vs) × (length (list_of vs) ≡ n) × ItemsSpell (SpellsInner item.0) (list_of vs) b
   KindSpells id (kind.Con c) v b = (k : ℕ) × (f : Plains) × (v ≡ fields k f) × ContainerSpells id k (list_of f) b
 
 -- ---- all types

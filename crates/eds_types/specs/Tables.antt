@@ -7,14 +7,15 @@ use Rattle.eds_types.specs.declared.row.Kind.TheVariants as kind
 use Rattle.eds_types.specs.declared.row.Part.{Part}
 use Rattle.eds_types.specs.declared.row.Part.TheVariants as part
 use Rattle.eds_types.specs.Rows.{Table, base_of, entries_of, trailers_of, constraints_of}
-use Rattle.eds_types.specs.Fields.{type_by, listed, StartsAbove}
+use Rattle.eds_types.specs.Sizes.{open_of, tail_of}
+use Rattle.eds_types.specs.Fields.{type_by, listed, StartsInEntries}
 
 abbrev pub IsIntKind : Kind → Type 0
 IsIntKind (kind.Int form spans) = Unit {0}
 IsIntKind (kind.Enum form listing) = ⊥
 IsIntKind (kind.Bool form) = ⊥
 IsIntKind (kind.Str form) = ⊥
-IsIntKind (kind.Bin n) = ⊥
+IsIntKind (kind.Bin n free) = ⊥
 IsIntKind (kind.Arr item n) = ⊥
 IsIntKind (kind.Con c) = ⊥
 
@@ -35,14 +36,16 @@ LengthIsInt t (part.Check name id k) = Unit {0}
 pub record IsPartType (t : Table) (rank : ℕ → ℕ) (id : ℕ) (p : Part) : Type 0 where
   pub lower : (x : ℕ) → type_by (Some p) ≡ Some x → (rank x < rank id) × (x < length t)
   pub length_is_int : LengthIsInt t p
+  -- the type is an open binary only where the part is a tail
+  pub free : (x : ℕ) → type_by (Some p) ≡ Some x → open_of t x ≡ tail_of t p
 
 abbrev pub IsItemType : Table → (ℕ → ℕ) → ℕ → Kind → Type 0
 IsItemType t rank id (kind.Int form spans) = Unit {0}
 IsItemType t rank id (kind.Enum form listing) = Unit {0}
 IsItemType t rank id (kind.Bool form) = Unit {0}
 IsItemType t rank id (kind.Str form) = Unit {0}
-IsItemType t rank id (kind.Bin n) = Unit {0}
-IsItemType t rank id (kind.Arr item n) = (rank item.0 < rank id) × (item.0 < length t)
+IsItemType t rank id (kind.Bin n free) = Unit {0}
+IsItemType t rank id (kind.Arr item n) = (rank item.0 < rank id) × (item.0 < length t) × (open_of t item.0 ≡ None)
 IsItemType t rank id (kind.Con c) = Unit {0}
 
 abbrev pub IsOneLabel : Kind → Type 0
@@ -50,7 +53,7 @@ IsOneLabel (kind.Int form spans) = Unit {0}
 IsOneLabel (kind.Enum form listing) = (l m : List ℕ) (n : ℤ) → listed listing l ≡ Some n → listed listing m ≡ Some n → l ≡ m
 IsOneLabel (kind.Bool form) = Unit {0}
 IsOneLabel (kind.Str form) = Unit {0}
-IsOneLabel (kind.Bin n) = Unit {0}
+IsOneLabel (kind.Bin n free) = Unit {0}
 IsOneLabel (kind.Arr item n) = Unit {0}
 IsOneLabel (kind.Con c) = Unit {0}
 
@@ -60,7 +63,7 @@ pub record IsTable (t : Table) : Type 0 where
   pub low : (id : ℕ) → level id < 16
   pub base : (id base : ℕ) → base_of t id ≡ Some base → level id ≡ suc (level base)
   -- constraints look at entries of the bases
-  pub conditions : (id base : ℕ) → base_of t id ≡ Some base → AllByRecursion (λ c. StartsAbove t base c.path) (constraints_of t id)
+  pub conditions : (id base : ℕ) → base_of t id ≡ Some base → AllByRecursion (λ c. StartsInEntries t base c.path) (constraints_of t id)
   pub root_conditions : (id : ℕ) → base_of t id ≡ None → constraints_of t id ≡ []
   -- types are nested
   pub rank : ℕ → ℕ

@@ -91,8 +91,8 @@ pub enum Kind {
     Bool(BoolForm),
     /// A string.
     Str(TextForm),
-    /// A binary of so many bits.
-    Bin(u32),
+    /// A binary of so many bits; or an open one, of at most so many, whose size comes from the length entry.
+    Bin(u32, bool),
     /// An array: the type of its items and their number.
     Arr(TypeId, u32),
     /// A container.

@@ -189,7 +189,7 @@ fn kind_size(sizes: &[u32], kind: &Kind, container: u32) -> u32
         Kind::Enum(form, _) => capped(form.bits as u64),
         Kind::Bool(form) => capped(form.bits as u64),
         Kind::Str(form) => text_size(form),
-        Kind::Bin(n) => capped(*n as u64),
+        Kind::Bin(n, open) => capped(if *open { 0 } else { *n as u64 }),
         Kind::Arr(item, n) => capped(*n as u64 * size_in(sizes, *item) as u64),
         Kind::Con(_) => capped(container as u64),
     }

@@ -21,7 +21,7 @@ use Rattle.eds_types.specs.Plain.{Plain}
 use Rattle.eds_types.specs.Reading.{Read, ◌>>=◌, inside, advance, front, read_parts, read_chain, read_own, read_under, read_to_end, go_on, ended, finish, read_kind, read_row, read_within, next, next_of, stay, nowhere, size_fits, candidate_under, check_all}
 use Rattle.eds_types.specs.Rows.{Table, id_of, base_of, container_of, container_in, container_by, entries_of, trailers_of, trailers_in, entries_in, is_concrete, concrete_in, chain, chain_before, chain_within, Placed, placed_from, placed_entries, placed_trailers}
 use Rattle.eds_types.specs.Rules.{KeepsRules}
-use Rattle.eds_types.specs.Spelling.{State, started, took}
+use Rattle.eds_types.specs.Spelling.{Progress, started, with_value}
 use Rattle.eds_types.proofs.ReadingTests.{found_is}
 use Rattle.eds_unpack.specs.Entries.{SoFar, read_entries, as_fields, read_flat}
 
@@ -105,11 +105,11 @@ stays t id c fs flat e = ap (next_of t id) (none_under t flat id fs) ∙ ap (λ 
 
 -- ---- entries
 
-kept : Read State → Result SoFar Where
+kept : Read Progress → Result SoFar Where
 kept (Ok u) = Ok (values_of (u.0).fields, u.1)
 kept (Err g) = Err g
 
-abbrev HasOctets : Option ℤ → Read State → Type 0
+abbrev HasOctets : Option ℤ → Read Progress → Type 0
 HasOctets o (Ok u) = (u.0).octets ≡ o
 HasOctets o (Err g) = Unit {0}
 
@@ -118,7 +118,7 @@ values_last [] f = refl
 values_last (g ∷ fs) f = ap (λ vs. g.2 ∷ vs) (values_last fs f)
 
 module _ (t : Table) (read : ℕ → Bits → Read Plain) where
-  parts_kept : (y i : ℕ) (ps : List Part) (s : State) (b : Bits) → AllByRecursion (IsScalarEntry t) ps → kept (read_parts read (placed_from y i ps) s b) ≡ read_entries read y i ps (values_of s.fields, b)
+  parts_kept : (y i : ℕ) (ps : List Part) (s : Progress) (b : Bits) → AllByRecursion (IsScalarEntry t) ps → kept (read_parts read (placed_from y i ps) s b) ≡ read_entries read y i ps (values_of s.fields, b)
   unfolding kept read_parts
   parts_kept y i [] s b h = refl
   parts_kept y i (part.Plain name id ∷ ps) s b h = go (read id.0 b) (λ u d. parts_kept y (i + 1) ps u d h.1)
@@ -126,16 +126,16 @@ module _ (t : Table) (read : ℕ → Bits → Read Plain) where
       p : Placed
       p = record { container = y; place = i; part = part.Plain name id }
 
-      go : (r : Read Plain) → ((u : State) (d : Bits) → kept (read_parts read (placed_from y (i + 1) ps) u d) ≡ read_entries read y (i + 1) ps (values_of u.fields, d)) → kept (inside (step.Part (id_of y) i) (advance (took s p) b r) >>= λ v. read_parts read (placed_from y (i + 1) ps) v.0 v.1) ≡ ((inside (step.Part (id_of y) i) r >>= λ v. Ok (values_of s.fields ++ v.0 ∷ [], v.1)) >>= λ u. read_entries read y (i + 1) ps u)
+      go : (r : Read Plain) → ((u : Progress) (d : Bits) → kept (read_parts read (placed_from y (i + 1) ps) u d) ≡ read_entries read y (i + 1) ps (values_of u.fields, d)) → kept (inside (step.Part (id_of y) i) (advance (with_value s p) b r) >>= λ v. read_parts read (placed_from y (i + 1) ps) v.0 v.1) ≡ ((inside (step.Part (id_of y) i) r >>= λ v. Ok (values_of s.fields ++ v.0 ∷ [], v.1)) >>= λ u. read_entries read y (i + 1) ps u)
       go (Err g) later = refl
-      go (Ok x) later = later (took s p x.0 (front b x.1)) x.1 ∙ ap (λ vs. read_entries read y (i + 1) ps (vs, x.1)) (values_last s.fields (y, i, x.0))
+      go (Ok x) later = later (with_value s p x.0 (front b x.1)) x.1 ∙ ap (λ vs. read_entries read y (i + 1) ps (vs, x.1)) (values_last s.fields (y, i, x.0))
   parts_kept y i (part.Fixed name id v ∷ ps) s b h = absurd h.0
   parts_kept y i (part.Pad n ∷ ps) s b h = absurd h.0
   parts_kept y i (part.List name id z j ∷ ps) s b h = absurd h.0
   parts_kept y i (part.Length name id c0 c1 ∷ ps) s b h = absurd h.0
   parts_kept y i (part.Check name id k ∷ ps) s b h = absurd h.0
 
-  octets_kept : (y i : ℕ) (ps : List Part) (s : State) (b : Bits) → AllByRecursion (IsScalarEntry t) ps → HasOctets s.octets (read_parts read (placed_from y i ps) s b)
+  octets_kept : (y i : ℕ) (ps : List Part) (s : Progress) (b : Bits) → AllByRecursion (IsScalarEntry t) ps → HasOctets s.octets (read_parts read (placed_from y i ps) s b)
   unfolding read_parts
   octets_kept y i [] s b h = refl
   octets_kept y i (part.Plain name id ∷ ps) s b h = go (read id.0 b) (λ u d. octets_kept y (i + 1) ps u d h.1)
@@ -143,9 +143,9 @@ module _ (t : Table) (read : ℕ → Bits → Read Plain) where
       p : Placed
       p = record { container = y; place = i; part = part.Plain name id }
 
-      go : (r : Read Plain) → ((u : State) (d : Bits) → HasOctets u.octets (read_parts read (placed_from y (i + 1) ps) u d)) → HasOctets s.octets (inside (step.Part (id_of y) i) (advance (took s p) b r) >>= λ v. read_parts read (placed_from y (i + 1) ps) v.0 v.1)
+      go : (r : Read Plain) → ((u : Progress) (d : Bits) → HasOctets u.octets (read_parts read (placed_from y (i + 1) ps) u d)) → HasOctets s.octets (inside (step.Part (id_of y) i) (advance (with_value s p) b r) >>= λ v. read_parts read (placed_from y (i + 1) ps) v.0 v.1)
       go (Err g) later = tt
-      go (Ok x) later = later (took s p x.0 (front b x.1)) x.1
+      go (Ok x) later = later (with_value s p x.0 (front b x.1)) x.1
   octets_kept y i (part.Fixed name id v ∷ ps) s b h = absurd h.0
   octets_kept y i (part.Pad n ∷ ps) s b h = absurd h.0
   octets_kept y i (part.List name id z j ∷ ps) s b h = absurd h.0
@@ -155,22 +155,22 @@ module _ (t : Table) (read : ℕ → Bits → Read Plain) where
   -- ---- the whole container
 
   module _ (rules : KeepsRules t) (flat : IsFlatTable t) (id : ℕ) (c : Container) (e : container_of t id ≡ Some c) where
-    own_is : (s : State) (b : Bits) → read_own t read id s b ≡ read_parts read (placed_entries t id) s b
+    own_is : (s : Progress) (b : Bits) → read_own t read id s b ≡ read_parts read (placed_entries t id) s b
     unfolding check_all
     own_is s b = ap (λ cs. check_all t cs s.fields >>= λ u. read_parts read (placed_entries t id) s b) (rules.root_constraints id (flat_container t id c flat e).root)
 
-    chain_is : (s : State) (b : Bits) → read_chain t read (chain t id) s b ≡ read_parts read (placed_entries t id) s b
+    chain_is : (s : Progress) (b : Bits) → read_chain t read (chain t id) s b ≡ read_parts read (placed_entries t id) s b
     unfolding read_chain
     chain_is s b = ap (λ ys. read_chain t read ys s b) (flat_chain t id c flat e) ∙ ap (λ r. r >>= λ v. read_chain t read [] v.0 v.1) (own_is s b) ∙ go (read_parts read (placed_entries t id) s b)
       where
-        go : (r : Read State) → (r >>= λ v. read_chain t read [] v.0 v.1) ≡ r
+        go : (r : Read Progress) → (r >>= λ v. read_chain t read [] v.0 v.1) ≡ r
         go (Ok u) = refl
         go (Err g) = refl
 
     no_trailers : flat_map (placed_trailers t) (reverse (chain t id)) ≡ []
     no_trailers = ap (λ ys. flat_map (placed_trailers t) (reverse ys)) (flat_chain t id c flat e) ∙ ap (λ ps. placed_from id (length (entries_of t id)) ps ++ []) (flat_trailers t id c flat e)
 
-    under_is : (s : State) (b : Bits) → s.octets ≡ None → read_under t read id 16 id s b ≡ Ok (id, s, b)
+    under_is : (s : Progress) (b : Bits) → s.octets ≡ None → read_under t read id 16 id s b ≡ Ok (id, s, b)
     unfolding read_under read_parts
     under_is s b none =
         ap (go_on t read id (read_under t read id 15) id s b) (stays t id c s.fields flat e)
@@ -184,7 +184,7 @@ module _ (t : Table) (read : ℕ → Bits → Read Plain) where
         ∙ go (read_parts read (placed_entries t id) started b) (octets_kept id 0 (entries_of t id) started b (flat_entries t flat id))
         ∙ ap (λ r. r >>= λ s. Ok (as_fields id s)) (parts_kept id 0 (entries_of t id) started b (flat_entries t flat id))
       where
-        go : (r : Read State) → HasOctets None r → ended t read (r >>= λ v. read_under t read id 16 id v.0 v.1) ≡ (kept r >>= λ s. Ok (as_fields id s))
+        go : (r : Read Progress) → HasOctets None r → ended t read (r >>= λ v. read_under t read id 16 id v.0 v.1) ≡ (kept r >>= λ s. Ok (as_fields id s))
         go (Err g) h = refl
         go (Ok u) h = ap (ended t read) (under_is u.0 u.1 h)
 

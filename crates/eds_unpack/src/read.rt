@@ -67,7 +67,7 @@ fn read_row(
         Kind::Enum(form, listing) => read_label(alloc, *form, listing, reader),
         Kind::Bool(form) => read_truth(*form, reader),
         Kind::Str(_) => unreachable!(),
-        Kind::Bin(_) => unreachable!(),
+        Kind::Bin(_, _) => unreachable!(),
         Kind::Arr(_, _) => unreachable!(),
         Kind::Con(_) => read_container(alloc, table, depth, id, path, reader),
     }

@@ -14,7 +14,7 @@ use Rattle.eds_types.specs.FlatTables.{IsScalarEntry, IsFlatTable}
 use Rattle.eds_types.specs.Plain.{Plain}
 use Rattle.eds_types.specs.Rows.{Table, address, container_of, entries_of, trailers_of, id_of, Placed, placed_from}
 use Rattle.eds_types.specs.Rules.{HasKind, KeepsRules, name_of}
-use Rattle.eds_types.specs.Spelling.{State, PartsPass, SpellsWithin}
+use Rattle.eds_types.specs.Spelling.{Progress, PartsPass, SpellsWithin}
 use Rattle.eds_value.specs.Entries.{Entry, entry_at, entries_along}
 use Rattle.eds_value.specs.Shown.{IsHeld}
 use Rattle.eds_value.proofs.FlatFacts.{flat_sequence}
@@ -85,15 +85,15 @@ values_more [] y i v vs = refl
 values_more (f ∷ fs) y i v vs = ap (λ l. f.2 ∷ l) (values_more fs y i v vs)
 
 -- what the parts add to the values
-pub parts_values : (t : Table) (n k i : ℕ) (ps : List Part) (s u : State) (b : Bits) → KeepsRules t → AllByRecursion (IsScalarEntry t) ps → PartsPass canonical t (SpellsWithin n canonical t) s (placed_from k i ps) u b
+pub parts_values : (t : Table) (n k i : ℕ) (ps : List Part) (s u : Progress) (b : Bits) → KeepsRules t → AllByRecursion (IsScalarEntry t) ps → PartsPass canonical t (SpellsWithin n canonical t) s (placed_from k i ps) u b
     → (vs : List Plain) × (values_of u.fields ≡ values_of s.fields ++ vs) × AreValues t (entries_from k i ps) vs
-parts_values t n k i [] s u b rules h p = ([], ap (λ (x : State). values_of x.fields) p.0 ∙ sym (append-nil (values_of s.fields)), tt)
+parts_values t n k i [] s u b rules h p = ([], ap (λ (x : Progress). values_of x.fields) p.0 ∙ sym (append-nil (values_of s.fields)), tt)
 parts_values t n k i (part.Plain name id ∷ ps) s u b rules h p =
     let m = p.0 in
     let passed = p.4 in
     let v = passed.0 in
     let later = parts_values t n k (i + 1) ps m u p.2 rules h.1 p.5 in
-    let fields : values_of m.fields ++ later.0 ≡ values_of s.fields ++ v ∷ later.0 = ap (λ (x : State). values_of x.fields ++ later.0) passed.2 ∙ values_more s.fields k i v later.0 in
+    let fields : values_of m.fields ++ later.0 ≡ values_of s.fields ++ v ∷ later.0 = ap (λ (x : Progress). values_of x.fields ++ later.0) passed.2 ∙ values_more s.fields k i v later.0 in
     (v ∷ later.0, later.1 ∙ fields, (scalar_value t n id.0 v p.1 rules h.0 passed.1, later.2))
 parts_values t n k i (part.Fixed name id v ∷ ps) s u b rules h p = absurd h.0
 parts_values t n k i (part.Pad n' ∷ ps) s u b rules h p = absurd h.0

@@ -10,13 +10,13 @@ use Rattle.eds_bits.specs.IntForms.{IsNumber}
 use Rattle.eds_bits.specs.Lists.{Has}
 use Rattle.eds_bits.specs.Scalars.{IsBool}
 use Rattle.eds_bits.specs.Style.{canonical}
-use Rattle.eds_types.specs.Fields.{Field, IsCandidate, IsUnder}
+use Rattle.eds_types.specs.Fields.{Field, IsCandidate, IsAtOrUnder}
 use Rattle.eds_types.specs.Plain.{Plain, num, label, truth, fields, none, more}
 use Rattle.eds_types.specs.Rows.{Table, chain_within, Placed, sequence}
 use Rattle.eds_types.specs.FlatTables.{IsFlatTable}
 use Rattle.eds_types.specs.FlatSample.{IsFlatSample, flat_sample}
 use Rattle.eds_types.specs.Sample.{IsFormOf, plain_part}
-use Rattle.eds_types.specs.Spelling.{ContainerSpells, PartsPass, SpellsWithin, State, started, took}
+use Rattle.eds_types.specs.Spelling.{ContainerSpells, PartsPass, SpellsWithin, Progress, started, with_value}
 use Rattle.eds_value.specs.Laws.{IsOfType}
 use Rattle.eds_types.proofs.FlatSampleKeeps.{sample_flat}
 use Rattle.eds_value.proofs.FlatFacts.{flat_chain}
@@ -37,7 +37,7 @@ alone l x (b ∷ []) after e = absurd cc
 alone l x (b ∷ d ∷ before) after e = absurd cc
 
 -- nothing derives in a flat table
-none_derives : (t : Table) → IsFlatTable t → (k l : ℕ) (fs : List Field) → (l ≡ k → ⊥) → IsUnder t k l → IsCandidate t k l fs → ⊥
+none_derives : (t : Table) → IsFlatTable t → (k l : ℕ) (fs : List Field) → (l ≡ k → ⊥) → IsAtOrUnder t k l → IsCandidate t k l fs → ⊥
 none_derives t flat k l fs other under candidate =
     let c = concrete_container t l candidate.concrete in
     let h = subst (λ (ys : List ℕ). Has ys k) (flat_chain t l c.0 flat c.1) under in
@@ -61,14 +61,14 @@ on_part = record { container = 17; place = 1; part = plain_part (codes "on") 12 
 abbrev mode_part : Placed
 mode_part = record { container = 17; place = 2; part = plain_part (codes "Mode") 14 }
 
-abbrev after_level : State
-after_level = took started level_part (num (pos 7)) seven
+abbrev after_level : Progress
+after_level = with_value started level_part (num (pos 7)) seven
 
-abbrev after_on : State
-after_on = took after_level on_part (truth true) on
+abbrev after_on : Progress
+after_on = with_value after_level on_part (truth true) on
 
-abbrev after_mode : State
-after_mode = took after_on mode_part (label (codes "LAST")) last
+abbrev after_mode : Progress
+after_mode = with_value after_on mode_part (label (codes "LAST")) last
 
 -- the level 7, on, in the mode LAST
 abbrev status : Plain

@@ -59,14 +59,14 @@ IsScalarOf (kind.Bin n) v = ⊥
 IsScalarOf (kind.Arr item n) v = ⊥
 IsScalarOf (kind.Con c) v = ⊥
 
-pub kind_value : (t : Table) (Each : ℕ → Plain → Bits → Type 0) (id : ℕ) (k : Kind) (v : Plain) (b : Bits) → KindKeeps k → IsScalarKind k → KindSpells canonical t Each id k v b → IsScalarOf k v
-kind_value t Each id (kind.Int form spans) v b keeps s h = (h.0, h.1, number_held form h.0 (keeps.of_form h.0 h.2))
-kind_value t Each id (kind.Enum form listing) v b keeps s h = (h.0, h.2)
-kind_value t Each id (kind.Bool form) v b keeps s h = (h.0, h.1)
-kind_value t Each id (kind.Str form) v b keeps s h = absurd s
-kind_value t Each id (kind.Bin n) v b keeps s h = absurd s
-kind_value t Each id (kind.Arr item n) v b keeps s h = absurd s
-kind_value t Each id (kind.Con c) v b keeps s h = absurd s
+pub kind_value : (t : Table) (SpellsInner : ℕ → Plain → Bits → Type 0) (id : ℕ) (k : Kind) (v : Plain) (b : Bits) → KindKeeps k → IsScalarKind k → KindSpells canonical t SpellsInner id k v b → IsScalarOf k v
+kind_value t SpellsInner id (kind.Int form spans) v b keeps s h = (h.0, h.1, number_held form h.0 (keeps.of_form h.0 h.2))
+kind_value t SpellsInner id (kind.Enum form listing) v b keeps s h = (h.0, h.2)
+kind_value t SpellsInner id (kind.Bool form) v b keeps s h = (h.0, h.1)
+kind_value t SpellsInner id (kind.Str form) v b keeps s h = absurd s
+kind_value t SpellsInner id (kind.Bin n) v b keeps s h = absurd s
+kind_value t SpellsInner id (kind.Arr item n) v b keeps s h = absurd s
+kind_value t SpellsInner id (kind.Con c) v b keeps s h = absurd s
 
 some_same : {A : Type 0} (o : Option A) (x y : A) → o ≡ Some x → o ≡ Some y → x ≡ y
 some_same o x y e f = let h : Some x ≡ Some y = sym e ∙ f in cc

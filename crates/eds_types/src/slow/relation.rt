@@ -26,6 +26,11 @@ struct Piece<'w> {
     value: Option<&'w Value>,
 }
 
+// A binary of so many bits, or an open one of at most so many, has this number of bits.
+fn fits_binary(size: u32, open: bool, count: u32) -> bool {
+    if open { count <= size && count % 8 == 0 } else { count == size }
+}
+
 impl<'a> Slow<'a> {
     /// Whether the bits spell the value.
     pub fn spells(&self, id: TypeId, value: &Value, bits: &[bool]) -> Result<bool, Memory> {
@@ -72,9 +77,9 @@ impl<'a> Slow<'a> {
             (Kind::Str(form), Value::Text(text)) => {
                 is_text(self.spelling, form, text.as_str().as_bytes(), bits)
             }
-            (Kind::Bin(size), Value::Bits(count, octets)) => {
-                *size == *count
-                    && bits.len() == *size as usize
+            (Kind::Bin(size, open), Value::Bits(count, octets)) => {
+                fits_binary(*size, *open, *count)
+                    && bits.len() == *count as usize
                     && are_octets_of(octets.as_slice(), bits)
             }
             _ => false,

@@ -182,7 +182,12 @@ impl<'a> Slow<'a> {
                 values.push(Value::Bool(true))?;
             }
             Kind::Str(_) => push_texts(self.alloc, &mut values)?,
-            Kind::Bin(size) => push_patterns(self.alloc, *size, &mut values)?,
+            Kind::Bin(size, false) => push_patterns(self.alloc, *size, &mut values)?,
+            Kind::Bin(most, true) => {
+                for octets in 0..(*most / 8).saturating_add(1) {
+                    push_patterns(self.alloc, octets.wrapping_mul(8), &mut values)?;
+                }
+            }
             Kind::Arr(item, count) => {
                 let items = self.values_within(depth - 1, *item)?;
                 let lists = lists_of(self.alloc, items.as_slice(), *count as usize)?;

@@ -313,7 +313,7 @@ fn push_scalars(alloc: Global, rows: &mut TypeRows) -> Result<(), Fail> {
     push_labels(alloc, rows)?;
     unnamed(alloc, rows, None, Kind::Str(octet_or_none(true, 0)))?;
     unnamed(alloc, rows, None, Kind::Str(octet_or_none(false, 13)))?;
-    unnamed(alloc, rows, None, Kind::Bin(3))?;
+    unnamed(alloc, rows, None, Kind::Bin(3, false))?;
     unnamed(alloc, rows, None, Kind::Arr(TypeId(0), 2))
 }
 
@@ -387,6 +387,18 @@ fn push_checked(alloc: Global, rows: &mut TypeRows) -> Result<(), Fail> {
     unnamed(alloc, rows, None, kind)
 }
 
+// A length entry, an open binary of at most one octet, and a truth value.
+fn push_tailed(alloc: Global, rows: &mut TypeRows) -> Result<(), Fail> {
+    unnamed(alloc, rows, None, Kind::Bin(8, true))?;
+    let mut parts = Parts::new(alloc);
+    parts.push(Part::Length(Text::new(alloc), TypeId(0), 1, 1))?;
+    parts.push(Part::Plain(Text::new(alloc), TypeId(24)))?;
+    let mut trailers = Parts::new(alloc);
+    trailers.push(Part::Plain(Text::new(alloc), TypeId(23)))?;
+    let kind = container(alloc, false, parts, trailers);
+    unnamed(alloc, rows, None, kind)
+}
+
 fn small_rows(alloc: Global) -> Result<TypeRows, Fail> {
     let mut rows = TypeRows::new(alloc);
     let integers = [
@@ -404,6 +416,7 @@ fn small_rows(alloc: Global) -> Result<TypeRows, Fail> {
     push_checked(alloc, &mut rows)?;
     push_integers(alloc, &mut rows, &[(8, Encoding::Unsigned, 0, 255)])?;
     push_truth(alloc, &mut rows, 1, true)?;
+    push_tailed(alloc, &mut rows)?;
     Ok(rows)
 }
 
@@ -530,6 +543,9 @@ fn bits_spell_one_value_at_most_and_values_have_one_canonical_spelling(
         (19, 6, 1 + 2 + 4 + 8, 1 + 2 + 4 + 8),
         (20, 8, 2, 4),
         (21, 10, 4, 4),
+        // an open binary of no octet or one; one between a length entry and a truth value
+        (24, 8, 1 + 256, 1 + 256),
+        (25, 11, 2 * (1 + 256), 2 * (1 + 256)),
     ] {
         let found = census(&rt, rows.as_slice(), alloc, TypeId(id), most)?;
         assert_eq!(rt; found, (values, strings), "{id}");
