@@ -12,7 +12,5 @@ pub mod Rules
 pub mod Sizes
 pub mod Stored
 pub mod Tables
-pub mod Sample
 pub mod FlatTables
-pub mod FlatSample
 pub mod Reasons
