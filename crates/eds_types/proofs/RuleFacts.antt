@@ -105,7 +105,7 @@ unplaced P y i (p ∷ ps) h = (h.0, unplaced P y (i + 1) ps h.1)
 
 module _ (t : Table) where
   -- what holds of each container's own parts, holds along a sequence
-  on_sequence : (P : Placed → Type 0) → ((y : ℕ) → AllByRecursion P (own_parts t y)) → (k : ℕ) → AllByRecursion P (sequence t k)
+  pub on_sequence : (P : Placed → Type 0) → ((y : ℕ) → AllByRecursion P (own_parts t y)) → (k : ℕ) → AllByRecursion P (sequence t k)
   on_sequence P h k =
       All-both P (flat_map (placed_entries t) (chain t k)) (flat_map (placed_trailers t) (reverse (chain t k)))
       (All-flat P (λ y. Unit {0}) (placed_entries t) (λ y _. All-front P (placed_entries t y) (placed_trailers t y) (h y)) (chain t k) (all_units (chain t k)))
