@@ -1,11 +1,11 @@
 -- The types that are spelled by no bits.
-use Rattle.std.proofs.Common.{◌≡◌, ℕ, zero, suc, ◌<◌, ◌≤◌, List, [], ◌∷◌, ◌++◌, length, reverse, Bool, true, false, cond, Option, Some, None, refl, sym, ap, subst, ◌∙◌, append_assoc, ◌⊎◌, inl, inr, arith}
+use Rattle.std.proofs.Common.{◌≡◌, ℕ, zero, suc, ◌*◌, ◌<◌, ◌≤◌, List, [], ◌∷◌, ◌++◌, length, reverse, Bool, true, false, cond, Option, Some, None, refl, sym, ap, subst, ◌∙◌, append_assoc, ◌⊎◌, inl, inr, arith}
 use Rattle.std.specs.Prelude.{slice_get, IsSome, IfSome, IsTrue}
 use Rattle.std.specs.List.{AllByRecursion, flat_map}
 use Rattle.std.proofs.lemmas.Bool.{cases_eq}
 use Rattle.std.proofs.lemmas.List.{length-append}
 use Rattle.eds_base.specs.declared.ids.TypeId.{TypeId}
-use Rattle.eds_bits.specs.Bits.{Bits}
+use Rattle.eds_bits.specs.Bits.{Bits, first_pieces}
 use Rattle.eds_bits.specs.Lists.{Has, HasOne}
 use Rattle.eds_bits.specs.Style.{any}
 use Rattle.eds_types.specs.declared.row.TypeRow.{TypeRow}
@@ -99,7 +99,7 @@ module _ (t : Table) (keeps : KeepsRules t) where
   -- no path starts in the entries of a container without parts
   none_starts : (k : ℕ) → sequence t k ≡ [] → (path : List (TypeId × ℕ)) → StartsInEntries t k path → ⊥
   none_starts k e [] h = h
-  none_starts k e (p ∷ path) h = let none = no_entries in let lt = h.1 in omega (arith, ap length none)
+  none_starts k e (p ∷ path) h = let lt = h.1 in omega (arith, ap length no_entries)
     where
       first_nil : (xs zs : List Placed) → xs ++ zs ≡ [] → xs ≡ []
       first_nil [] zs e = refl
@@ -110,34 +110,34 @@ module _ (t : Table) (keeps : KeepsRules t) where
 
   -- ---- what is spelled by no bits is hollow, or an open binary
 
+  int_within : (n x : ℕ) (v : Plain) → IsIntRow (slice_get t x) → SpellsWithin n any t x v [] → ⊥
+  unfolding SpellsWithin
+  int_within zero x v i h = h
+  int_within (suc n) x v i h = int_bits t (SpellsWithin n any t) x (h.0).kind v (subst IsIntRow h.1 i) h.2
+
+  value_within : (n x : ℕ) (v : Plain) → HasKind t x (λ k. IsValueOf k v) → SpellsWithin n any t x v [] → ⊥
+  unfolding SpellsWithin
+  value_within zero x v i h = h
+  value_within (suc n) x v i h = scalar_bits t (SpellsWithin n any t) x (h.0).kind v (keeps.kinds x h.0 h.1) (subst (λ (r : TypeRow). IsValueOf r.kind v) (same_row t x i.0 h.0 i.1 h.1) i.2) h.2
+
   module _ (n : ℕ) (ih : (x : ℕ) (v : Plain) → SpellsWithin n any t x v [] → IsHollow t x ⊎ IsSome (open_of t x)) where
-    E : ℕ → Plain → Bits → Type 0
+    abbrev E : ℕ → Plain → Bits → Type 0
     E x v b = SpellsWithin n any t x v b
 
     no_int : (x : ℕ) (v : Plain) → IsIntRow (slice_get t x) → E x v [] → ⊥
-    no_int x v i h = inner n h
-      where
-        inner : (m : ℕ) → SpellsWithin m any t x v [] → ⊥
-        unfolding SpellsWithin
-        inner zero h = h
-        inner (suc m) h = int_bits t (SpellsWithin m any t) x (h.0).kind v (subst IsIntRow h.1 i) h.2
+    no_int x v i h = int_within n x v i h
 
     no_value : (x : ℕ) (v : Plain) → HasKind t x (λ k. IsValueOf k v) → E x v [] → ⊥
-    no_value x v i h = inner n h
-      where
-        inner : (m : ℕ) → SpellsWithin m any t x v [] → ⊥
-        unfolding SpellsWithin
-        inner zero h = h
-        inner (suc m) h = scalar_bits t (SpellsWithin m any t) x (h.0).kind v (keeps.kinds x h.0 h.1) (subst (λ (r : TypeRow). IsValueOf r.kind v) (same_row t x i.0 h.0 i.1 h.1) i.2) h.2
+    no_value x v i h = value_within n x v i h
 
     none_none : (o : Option ℕ) → o ≡ None → IsSome o → ⊥
-    none_none o e h = let q : IsSome {A = ℕ} None = subst IsSome e h in cc
+    none_none o e h = let q : false ≡ true = subst IsSome e h in cc
 
     -- the first part of a container has bits
     first_part : (p : Placed) (q : Part) (ps : List Placed) (s u : Progress) → p.part ≡ q → AllByRecursion (λ (p : Placed). PartKeeps t p p.part) (p ∷ ps) → (k : ℕ) → sequence t k ≡ p ∷ ps → PartPasses any t E s p q u [] → ⊥
     first_part p (part.Plain name id) ps s u e keep k is_seq h = elim (ih id.0 h.0 h.1) [
       | inl hollow ↦ (subst (PartKeeps t p) e keep.0).0 hollow
-      | inr open ↦ no_tail (open_of t id.0) open (subst (λ (r : Part). IfTold r) e first_tail)
+      | inr free ↦ no_tail (open_of t id.0) free (subst (λ (r : Part). IfTold r) e first_tail)
     ]
       where
         IfTold : Part → Type 0
@@ -163,15 +163,15 @@ module _ (t : Table) (keeps : KeepsRules t) where
 
     hollow_at : (id k : ℕ) (f : List Plain) → ContainerSpells any t E id k f [] → IsHollow t id
     hollow_at id k f sp =
-        let none = no_parts k sp.end (sequence t k) refl sp.parts in
+        let bare = no_parts k sp.end (sequence t k) refl sp.parts in
         record {
           hollow = k;
           concrete = sp.concrete;
           under = sp.under;
-          no_parts = none;
+          no_parts = bare;
           last = λ l concrete under. elim (cases_eq l k) [
             | inl e ↦ e
-            | inr ne ↦ absurd (sp.most_derived l ne under (record { concrete = concrete; under = under; holds = All-each (λ (c : Constraint). StartsInEntries t k c.path → Holds t (sp.end).fields c) (λ c st. absurd (none_starts k none c.path st)) (constraints_along t l) }))
+            | inr ne ↦ absurd (sp.most_derived l ne under (record { concrete = concrete; under = under; holds = All-each (λ (c : Constraint). StartsInEntries t k c.path → Holds t (sp.end).fields c) (λ c st. absurd (none_starts k bare c.path st)) (constraints_along t l) }))
           ];
         }
 
@@ -190,7 +190,7 @@ module _ (t : Table) (keeps : KeepsRules t) where
         let rule : ItemsNest t keeps.rank id (kind.Arr item m) = subst (ItemsNest t keeps.rank id) e (keeps.items_nest id row r) in
         elim (some_items id item (list_of h.0) m (subst KindKeeps e (keeps.kinds id row r)).0 h.2 h.3) [
           | inl hollow ↦ absurd (rule.1 hollow)
-          | inr open ↦ absurd (none_none (open_of t item.0) rule.2 open)
+          | inr free ↦ absurd (none_none (open_of t item.0) rule.2 free)
         ]
     kind_empty id row r (kind.Con c) e v h = inl (hollow_at id h.0 (list_of h.1) h.3)
 
@@ -262,7 +262,7 @@ module _ (t : Table) (keeps : KeepsRules t) where
 
   -- no constraint stands along a chain without parts
   unconstrained : (k y : ℕ) → sequence t k ≡ [] → Has (chain t k) y → AllByRecursion (Holds t []) (constraints_of t y)
-  unconstrained k y none h = go (base_of t y) refl
+  unconstrained k y bare h = go (base_of t y) refl
     where
       own : chain t y ≡ h.before ++ y ∷ []
       own = chain_front t is 16 k (is.low k) (base_of t k) refl h.before y h.after h.is
@@ -278,7 +278,7 @@ module _ (t : Table) (keeps : KeepsRules t) where
 
       go : (o : Option ℕ) → base_of t y ≡ o → AllByRecursion (Holds t []) (constraints_of t y)
       go None e = rw (keeps.root_constraints y e) tt
-      go (Some base) e = All-weaker (ConstraintKeeps t base y) (Holds t []) (λ c q. absurd (none_starts k none c.path (starts base e c.path q.starts))) (constraints_of t y) (keeps.constraints y base e)
+      go (Some base) e = All-weaker (ConstraintKeeps t base y) (Holds t []) (λ c q. absurd (none_starts k bare c.path (starts base e c.path q.starts))) (constraints_of t y) (keeps.constraints y base e)
 
   hollow_spells : (n id : ℕ) → id < length t → (h : IsHollow t id) → SpellsWithin (suc n) any t id (fields h.hollow none) []
   unfolding SpellsWithin
@@ -297,6 +297,7 @@ module _ (t : Table) (keeps : KeepsRules t) where
       }))
 
   open_spells : (n id : ℕ) → IsSome (open_of t id) → SpellsWithin (suc n) any t id (bits 0 []) []
+  unfolding first_pieces
   open_spells n id i = go (open_of t id) refl i
     where
       go : (o : Option ℕ) → open_of t id ≡ o → IsSome o → SpellsWithin (suc n) any t id (bits 0 []) []
@@ -308,6 +309,6 @@ empty_types t id h = (
   (λ s. to_empty t h.rules 32 id s.0 s.1),
   (λ e. elim e [
     | inl hollow ↦ (fields hollow.hollow none, hollow_spells t h.rules 31 id h.there hollow)
-    | inr open ↦ (bits 0 [], open_spells t h.rules 31 id open)
+    | inr free ↦ (bits 0 [], open_spells t h.rules 31 id free)
   ]),
 )
