@@ -3,7 +3,6 @@ use Rattle.std.proofs.Common.{◌≡◌, ℕ, zero, suc, ◌+◌, ◌-◌, ℤ, 
 use Rattle.std.specs.Prelude.{slice_get, not}
 use Rattle.std.specs.List.{AllByRecursion, flat_map}
 use Rattle.std.proofs.lemmas.List.{length-append}
-use Rattle.eds_base.specs.declared.ids.TypeId.{TypeId}
 use Rattle.eds_base.specs.declared.fault.Step.TheVariants as step
 use Rattle.eds_base.specs.declared.fault.Reason.TheVariants.{Short, LengthDiffers}
 use Rattle.eds_bits.specs.Bits.{Bits}
@@ -148,13 +147,13 @@ scalar_closed (kind.Arr item n) s = absurd s
 scalar_closed (kind.Con c) s = absurd s
 
 module _ (t : Table) (read : ℕ → Bits → Read Plain) where
-  scalar_no_tail : {id : TypeId} → HasKind t id.0 IsScalarKind → open_of t id.0 ≡ None
-  scalar_no_tail h = ap open_in h.1 ∙ scalar_closed (h.0).kind h.2
+  scalar_no_tail : (id : ℕ) → HasKind t id IsScalarKind → open_of t id ≡ None
+  scalar_no_tail id h = ap open_in h.1 ∙ scalar_closed (h.0).kind h.2
 
   parts_kept : (y i : ℕ) (ps : List Part) (s : Progress) (b : Bits) → AllByRecursion (IsScalarEntry t) ps → kept (read_parts t read (placed_from y i ps) s b) ≡ read_entries read y i ps (values_of s.fields, b)
   unfolding kept read_parts
   parts_kept y i [] s b h = refl
-  parts_kept y i (part.Plain name id ∷ ps) s b h = ap (λ o. kept (read_entry_by t read o s p b >>= λ v. read_parts t read (placed_from y (i + 1) ps) v.0 v.1)) (scalar_no_tail h.0) ∙ go (read id.0 b) (λ u d. parts_kept y (i + 1) ps u d h.1)
+  parts_kept y i (part.Plain name id ∷ ps) s b h = ap (λ o. kept (read_entry_by t read o s p b >>= λ v. read_parts t read (placed_from y (i + 1) ps) v.0 v.1)) (scalar_no_tail id.0 h.0) ∙ go (read id.0 b) (λ u d. parts_kept y (i + 1) ps u d h.1)
     where
       p : Placed
       p = record { container = y; place = i; part = part.Plain name id }
@@ -171,7 +170,7 @@ module _ (t : Table) (read : ℕ → Bits → Read Plain) where
   octets_kept : (y i : ℕ) (ps : List Part) (s : Progress) (b : Bits) → AllByRecursion (IsScalarEntry t) ps → HasOctets s.octets (read_parts t read (placed_from y i ps) s b)
   unfolding read_parts
   octets_kept y i [] s b h = refl
-  octets_kept y i (part.Plain name id ∷ ps) s b h = subst (λ o. HasOctets s.octets (read_entry_by t read o s p b >>= λ v. read_parts t read (placed_from y (i + 1) ps) v.0 v.1)) (sym (scalar_no_tail h.0)) (go (read id.0 b) (λ u d. octets_kept y (i + 1) ps u d h.1))
+  octets_kept y i (part.Plain name id ∷ ps) s b h = subst (λ o. HasOctets s.octets (read_entry_by t read o s p b >>= λ v. read_parts t read (placed_from y (i + 1) ps) v.0 v.1)) (sym (scalar_no_tail id.0 h.0)) (go (read id.0 b) (λ u d. octets_kept y (i + 1) ps u d h.1))
     where
       p : Placed
       p = record { container = y; place = i; part = part.Plain name id }
