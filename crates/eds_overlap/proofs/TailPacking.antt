@@ -86,12 +86,21 @@ nine = 0 ∷ 0 ∷ 0 ∷ 0 ∷ 0 ∷ 0 ∷ 0 ∷ 0 ∷ 0 ∷ []
 
 pub too_many : PackFailsAt tailed 2 (packet_of 2 nine) (reason.WrongSize, step.Part (id_of 2) 2 ∷ [])
 unfolding PackFailsWithin chain_within
-too_many = inl (_, refl, inr (2, _, refl, inr (inr (inr (
-  record { container = refl; count = refl },
-  record { before = []; after = []; is = refl },
+too_many = inl (
+  _,
   refl,
-  inr ((λ w f. one_fits 31 (f.1).0 f.0 (some_plain (num (pos 1)) (f.1).0 (f.1).1) (f.1).2), inr ((λ w f. f.1), inl ((reason.WrongSize, []), (bits 72 nine, refl, (_, refl, inr (72, nine, refl, (λ h. let l = (h.0).0 in omega arith), refl))), refl))),
-)))))
+  inr (
+    2,
+    _,
+    refl,
+    inr (inr (inr (
+      record { container = refl; count = refl },
+      record { before = []; after = []; is = refl },
+      refl,
+      inr ((λ w f. one_fits 31 (f.1).0 f.0 (some_plain (num (pos 1)) (f.1).0 (f.1).1) (f.1).2), inr ((λ w f. f.1), inl ((reason.WrongSize, []), (bits 72 nine, refl, (_, refl, inr (72, nine, refl, (λ h. let l = (h.0).0 in omega arith), refl))), refl))),
+    ))),
+  ),
+)
 
 -- ---- a number of octets that the length entry can't tell
 
@@ -116,16 +125,25 @@ no_size u b h e fits =
     let p1 = h.4 in let h2 = h.5 in let p2 = h2.4 in let h3 = h2.5 in let p3 = h3.4 in let h4 = h3.5 in let p4 = h4.4 in let last = h4.5 in
     let field : bin_bits p3.0 ≡ 16 = ap tail_in (sym (ap (λ (z : Progress). z.fields) (last.0 ∙ p4.1) ∙ ap (λ (z : Progress). z.fields) p3.2 ∙ ap (λ (z : Progress). z.fields ++ (3, 2, p3.0) ∷ []) p2.2 ∙ ap (λ (z : Progress). z.fields ++ (3, 2, p3.0) ∷ []) p1.2)) ∙ ap tail_in e in
     let size : length u.before ≡ 40 =
-        ap (λ (z : Progress). length z.before) (last.0 ∙ p4.1) ∙ length-append (h3.0).before h4.1 ∙ ap (λ m. m + length h4.1) (ap (λ (z : Progress). length z.before) p3.2 ∙ length-append (h2.0).before h3.1 ∙ ap (λ m. m + length h3.1) (ap (λ (z : Progress). length z.before) p2.2 ∙ length-append (h.0).before h2.1 ∙ ap (λ m. m + length h2.1) (ap (λ (z : Progress). length z.before) p1.2)))
-        ∙ omega (arith, octet p1.0 h.1 p1.1, octet (num p2.0) h2.1 p2.1, blob p3.0 h3.1 p3.1, field, octet _ h4.1 p4.0) in
+    ap (λ (z : Progress). length z.before) (last.0 ∙ p4.1) ∙ length-append (h3.0).before h4.1 ∙ ap (λ m. m + length h4.1) (ap (λ (z : Progress). length z.before) p3.2 ∙ length-append (h2.0).before h3.1 ∙ ap (λ m. m + length h3.1) (ap (λ (z : Progress). length z.before) p2.2 ∙ length-append (h.0).before h2.1 ∙ ap (λ m. m + length h2.1) (ap (λ (z : Progress). length z.before) p1.2)))
+    ∙ omega (arith, octet p1.0 h.1 p1.1, octet (num p2.0) h2.1 p2.1, blob p3.0 h3.1 p3.1, field, octet _ h4.1 p4.0) in
     let told : u.octets ≡ Some (pos 0 +ℤ (pos 2 *ℤ p2.0)) = ap (λ (z : Progress). z.octets) (last.0 ∙ p4.1) ∙ ap (λ (z : Progress). z.octets) p3.2 ∙ ap (λ (z : Progress). z.octets) p2.2 in
     five_or_even p2.0 (subst (λ o. IfSome o (λ n. n ≡ pos (octets_for (length u.before)))) told fits ∙ ap (λ m. pos (octets_for m)) size)
 
 pub odd : PackFailsAt tailed 3 (packet_of 3 (0xAA ∷ 0xBB ∷ [])) (reason.LengthField, step.Part (id_of 3) 1 ∷ [])
 unfolding PackFailsWithin chain_within
-odd = inl (_, refl, inr (3, _, refl, inr (inr (inr (
-  record { container = refl; count = refl },
-  record { before = []; after = []; is = refl },
+odd = inl (
+  _,
   refl,
-  inr ((λ w f. one_fits 31 (f.1).0 f.0 (some_plain (num (pos 1)) (f.1).0 (f.1).1) (f.1).2), inr ((λ w f. f.1), inr ((λ w f. two_fit 31 (f.1).0 f.0 (some_plain (bits 16 (0xAA ∷ 0xBB ∷ [])) (f.1).0 (f.1).1) (f.1).2), inr ((λ w f. f.1 (under_itself 3 f.0 f.2)), inr ((λ w f. f.1), inl (no_size, refl)))))),
-)))))
+  inr (
+    3,
+    _,
+    refl,
+    inr (inr (inr (
+      record { container = refl; count = refl },
+      record { before = []; after = []; is = refl },
+      refl,
+      inr ((λ w f. one_fits 31 (f.1).0 f.0 (some_plain (num (pos 1)) (f.1).0 (f.1).1) (f.1).2), inr ((λ w f. f.1), inr ((λ w f. two_fit 31 (f.1).0 f.0 (some_plain (bits 16 (0xAA ∷ 0xBB ∷ [])) (f.1).0 (f.1).1) (f.1).2), inr ((λ w f. f.1 (under_itself 3 f.0 f.2)), inr ((λ w f. f.1), inl (no_size, refl)))))),
+    ))),
+  ),
+)

@@ -284,17 +284,25 @@ module _ (t : Table) (keeps : KeepsRules t) where
   unfolding SpellsWithin
   hollow_spells n id there h =
       let r = row_there t is id there in
-      let c = is_container (r.0).kind (subst (λ o. IsSome (container_in o)) r.1 (up_container 16 h.hollow id h.under (concrete_container h.hollow h.concrete))) in
-      (r.0, r.1, subst (λ k. KindSpells any t (SpellsWithin n any t) id k (fields h.hollow none) []) (sym c.1) (h.hollow, none, refl, record {
-        concrete = h.concrete;
-        under = h.under;
-        end = started;
-        parts = subst (λ ps. PartsPass any t (SpellsWithin n any t) started ps started []) (sym h.no_parts) (refl, refl);
-        values = refl;
-        size = tt;
-        constraints = All-flat (Holds t []) (Has (chain t h.hollow)) (constraints_of t) (λ y q. unconstrained h.hollow y h.no_parts q) (chain t h.hollow) (All-has [] (chain t h.hollow));
-        most_derived = λ l ne under k. ne (h.last l k.concrete under);
-      }))
+      let c = is_container (r.0).kind (subst (λ o. IsSome (container_in o)) r.1 (up_container 16 h.hollow id h.under (concrete_container h.hollow h.concrete))) in (
+        r.0,
+        r.1,
+        subst (λ k. KindSpells any t (SpellsWithin n any t) id k (fields h.hollow none) []) (sym c.1) (
+          h.hollow,
+          none,
+          refl,
+          record {
+            concrete = h.concrete;
+            under = h.under;
+            end = started;
+            parts = subst (λ ps. PartsPass any t (SpellsWithin n any t) started ps started []) (sym h.no_parts) (refl, refl);
+            values = refl;
+            size = tt;
+            constraints = All-flat (Holds t []) (Has (chain t h.hollow)) (constraints_of t) (λ y q. unconstrained h.hollow y h.no_parts q) (chain t h.hollow) (All-has [] (chain t h.hollow));
+            most_derived = λ l ne under k. ne (h.last l k.concrete under);
+          },
+        ),
+      )
 
   open_spells : (n id : ℕ) → IsSome (open_of t id) → SpellsWithin (suc n) any t id (bits 0 []) []
   unfolding first_pieces
