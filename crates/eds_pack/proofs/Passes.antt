@@ -109,8 +109,8 @@ module _ (t : Table) (rules : KeepsRules t) (flat : IsFlatTable t) (m : ℕ) whe
       has_fields vs l,
       under_self t rules k c there is_flat,
       concrete_is t rules k c there is_flat,
-      subst (λ ss. FirstFails t F fs NoSize (course t k k) k ss g) (sym course_is)
-          (first_fails t rules m fs NoSize (course t k k) k (entries_of t k) vs k 0 0 [] rest g scalars l tt (ap (λ ps. paired ps vs) (sequence_is t rules k c there is_flat)) e),
+      subst (λ ss. FirstFails t F fs NoSize k ss g) (sym course_is)
+          (first_fails t rules m fs NoSize k (entries_of t k) vs k 0 0 [] rest g scalars l tt (ap (λ ps. paired ps vs) (sequence_is t rules k c there is_flat)) e),
     )))
       where
         fs : List Field

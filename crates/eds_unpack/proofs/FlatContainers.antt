@@ -3,7 +3,6 @@ use Rattle.std.proofs.Common.{◌≡◌, ℕ, zero, suc, ◌+◌, ◌-◌, ℤ, 
 use Rattle.std.specs.Prelude.{slice_get, not}
 use Rattle.std.specs.List.{AllByRecursion, flat_map}
 use Rattle.std.proofs.lemmas.List.{length-append}
-use Rattle.eds_base.specs.declared.ids.TypeId.{TypeId}
 use Rattle.eds_base.specs.declared.fault.Step.TheVariants as step
 use Rattle.eds_base.specs.declared.fault.Reason.TheVariants.{Short, LengthDiffers}
 use Rattle.eds_bits.specs.Bits.{Bits}
@@ -148,13 +147,13 @@ scalar_closed (kind.Arr item n) s = absurd s
 scalar_closed (kind.Con c) s = absurd s
 
 module _ (t : Table) (read : ℕ → Bits → Read Plain) where
-  scalar_no_tail : {id : TypeId} → HasKind t id.0 IsScalarKind → open_of t id.0 ≡ None
-  scalar_no_tail h = ap open_in h.1 ∙ scalar_closed (h.0).kind h.2
+  scalar_no_tail : (id : ℕ) → HasKind t id IsScalarKind → open_of t id ≡ None
+  scalar_no_tail id h = ap open_in h.1 ∙ scalar_closed (h.0).kind h.2
 
   parts_kept : (y i : ℕ) (ps : List Part) (s : Progress) (b : Bits) → AllByRecursion (IsScalarEntry t) ps → kept (read_parts t read (placed_from y i ps) s b) ≡ read_entries read y i ps (values_of s.fields, b)
   unfolding kept read_parts
   parts_kept y i [] s b h = refl
-  parts_kept y i (part.Plain name id ∷ ps) s b h = ap (λ o. kept (read_entry_by t read o s p b >>= λ v. read_parts t read (placed_from y (i + 1) ps) v.0 v.1)) (scalar_no_tail h.0) ∙ go (read id.0 b) (λ u d. parts_kept y (i + 1) ps u d h.1)
+  parts_kept y i (part.Plain name id ∷ ps) s b h = ap (λ o. kept (read_entry_by t read o s p b >>= λ v. read_parts t read (placed_from y (i + 1) ps) v.0 v.1)) (scalar_no_tail id.0 h.0) ∙ go (read id.0 b) (λ u d. parts_kept y (i + 1) ps u d h.1)
     where
       p : Placed
       p = record { container = y; place = i; part = part.Plain name id }
@@ -171,7 +170,7 @@ module _ (t : Table) (read : ℕ → Bits → Read Plain) where
   octets_kept : (y i : ℕ) (ps : List Part) (s : Progress) (b : Bits) → AllByRecursion (IsScalarEntry t) ps → HasOctets s.octets (read_parts t read (placed_from y i ps) s b)
   unfolding read_parts
   octets_kept y i [] s b h = refl
-  octets_kept y i (part.Plain name id ∷ ps) s b h = subst (λ o. HasOctets s.octets (read_entry_by t read o s p b >>= λ v. read_parts t read (placed_from y (i + 1) ps) v.0 v.1)) (sym (scalar_no_tail h.0)) (go (read id.0 b) (λ u d. octets_kept y (i + 1) ps u d h.1))
+  octets_kept y i (part.Plain name id ∷ ps) s b h = subst (λ o. HasOctets s.octets (read_entry_by t read o s p b >>= λ v. read_parts t read (placed_from y (i + 1) ps) v.0 v.1)) (sym (scalar_no_tail id.0 h.0)) (go (read id.0 b) (λ u d. octets_kept y (i + 1) ps u d h.1))
     where
       p : Placed
       p = record { container = y; place = i; part = part.Plain name id }
@@ -203,21 +202,21 @@ module _ (t : Table) (read : ℕ → Bits → Read Plain) where
     no_trailers : flat_map (placed_trailers t) (reverse (chain t id)) ≡ []
     no_trailers = ap (λ ys. flat_map (placed_trailers t) (reverse ys)) (flat_chain t id c flat e) ∙ ap (λ ps. placed_from id (length (entries_of t id)) ps ++ []) (flat_trailers t id c flat e)
 
-    under_is : (s : Progress) (b : Bits) → s.octets ≡ None → read_under t read id 16 id s b ≡ Ok (id, s, b)
+    under_is : (s : Progress) (b : Bits) → s.octets ≡ None → read_under t read 16 id s b ≡ Ok (id, s, b)
     unfolding read_under read_parts
     under_is s b none =
-        ap (go_on t read id (read_under t read id 15) id s b) (stays t id c s.fields flat e)
+        ap (go_on t read (read_under t read 15) id s b) (stays t id c s.fields flat e)
         ∙ ap (λ ps. read_parts t read ps s b >>= finish id (length_path t id)) no_trailers
         ∙ ap (λ o. cond (size_fits o s.before) (Ok (id, s, b)) (Err (LengthDiffers, length_path t id))) none
 
     pub flat_read : (b : Bits) → ended t read (read_to_end t read id b) ≡ read_flat read id (entries_of t id) b
     unfolding kept
     flat_read b =
-        ap (λ r. ended t read (r >>= λ v. read_under t read id 16 id v.0 v.1)) (chain_is started b)
+        ap (λ r. ended t read (r >>= λ v. read_under t read 16 id v.0 v.1)) (chain_is started b)
         ∙ go (read_parts t read (placed_entries t id) started b) (octets_kept id 0 (entries_of t id) started b (flat_entries t flat id))
         ∙ ap (λ r. r >>= λ s. Ok (as_fields id s)) (parts_kept id 0 (entries_of t id) started b (flat_entries t flat id))
       where
-        go : (r : Read Progress) → HasOctets None r → ended t read (r >>= λ v. read_under t read id 16 id v.0 v.1) ≡ (kept r >>= λ s. Ok (as_fields id s))
+        go : (r : Read Progress) → HasOctets None r → ended t read (r >>= λ v. read_under t read 16 id v.0 v.1) ≡ (kept r >>= λ s. Ok (as_fields id s))
         go (Err g) h = refl
         go (Ok u) h = ap (ended t read) (under_is u.0 u.1 h)
 
