@@ -34,3 +34,5 @@ pub mod RuleFacts
 pub mod ByRows
 pub mod SampleFacts
 pub mod TailSizes
+pub mod TypeLaws
+pub mod EmptyTypes

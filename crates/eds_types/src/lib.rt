@@ -2,6 +2,7 @@
 #![tactic(auto)]
 
 mod chain;
+pub mod law;
 mod look;
 mod reason;
 mod row;
