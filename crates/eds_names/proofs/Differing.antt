@@ -107,3 +107,6 @@ by_itself trees text names node h =
     let parts = not_refused trees names h in
     let count : length names.arounds ≤ length trees = omega (arith, ap (λ (n : Names). length n.arounds) parts.1, length-map trees arounds_of) in
     rw (slice_get_past names.arounds (length trees) count) (or_else-none (item_named names.declared text))
+
+pub declared_of : (trees : List (List Node)) (names : Names) → names_in trees ≡ Ok names → declared_in trees ≡ names.declared
+declared_of trees names h = ap (λ (n : Names). n.declared) (not_refused trees names h).1
