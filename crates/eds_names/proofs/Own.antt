@@ -78,9 +78,10 @@ own-from : (t : List Node) (ss : List Standing) (low : ℕ) (table : List (Optio
     → AllByRecursion (λ s. name_at (written table (entries t ss)) s.node ≡ around t s) ss
 own-from t [] low table h k = tt
 own-from t (s ∷ ss) low table h k =
-    let next : List (Option (List ℕ)) = set table s.node (around t s) in
-    (ap name_held (written-other t ss next s.node (rise-others ss (s.node + 1) s.node (omega arith) h.1) ∙ get-set table s.node (around t s) k.0),
-      own-from t ss (s.node + 1) next h.1 (same-length table s.node (around t s) ss k.1))
+    let next : List (Option (List ℕ)) = set table s.node (around t s) in (
+      ap name_held (written-other t ss next s.node (rise-others ss (s.node + 1) s.node (omega arith) h.1) ∙ get-set table s.node (around t s) k.0),
+      own-from t ss (s.node + 1) next h.1 (same-length table s.node (around t s) ss k.1),
+    )
 
 length-none : (n : ℕ) → length (replicate {A = Option (List ℕ)} n None) ≡ n
 length-none zero = refl
@@ -90,7 +91,7 @@ pub own : (file : ℕ) (octets : List ℕ) (t : List Node) → tree_in file octe
 own file octets t h =
     own-from t (standings_of t) 0 (replicate (length t) None) (subst (RiseFrom 0) (sym (numbers-are t)) (once file octets t h))
     (subst (λ k. AllByRecursion (λ s. s.node < k) (standings_of t)) (sym (length-none (length t)))
-      (below-all (length t) (standings_of t) (subst (AllByRecursion (λ n. n < length t)) (sym (numbers-are t)) (within file octets t h))))
+    (below-all (length t) (standings_of t) (subst (AllByRecursion (λ n. n < length t)) (sym (numbers-are t)) (within file octets t h))))
 
 none-held : (k n : ℕ) → name_held (slice_get (replicate k None) n) ≡ None
 none-held zero n = refl

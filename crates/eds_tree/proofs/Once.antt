@@ -168,9 +168,12 @@ within-tree t h = subst (λ n. Within 0 n (numbers (links_from t (length t) (rec
     stand (suc depth) =
         let rest = rise-items t depth 0 (name_in h.items) (first ∷ []) [] 1 h.items refl (h.is ∙ ap (λ ns. first ∷ ns) (sym (append-nil later))) in
         let low : 1 ≡ 0 + 1 = omega arith in
-        let high : 1 + items_size h.items ≡ size (array h.items) = omega arith in
-        (omega arith, omega arith, same-ends 1 (1 + items_size h.items) (0 + 1) (size (array h.items)) _ low high
-          (subst (λ cs. Within 1 (1 + items_size h.items) (numbers (flat_map (λ child. links_from t depth (record { parent = 0; node = child })) cs))) (sym children) rest))
+        let high : 1 + items_size h.items ≡ size (array h.items) = omega arith in (
+          omega arith,
+          omega arith,
+          same-ends 1 (1 + items_size h.items) (0 + 1) (size (array h.items)) _ low high
+              (subst (λ cs. Within 1 (1 + items_size h.items) (numbers (flat_map (λ child. links_from t depth (record { parent = 0; node = child })) cs))) (sym children) rest),
+        )
 
 pub once : (file : ℕ) (octets : List ℕ) (t : List Node) → tree_in file octets ≡ Ok t → RiseFrom 0 (map (λ l. l.node) (links_of t))
 once file octets t h = rise 0 (length t) (numbers (links_of t)) (within-tree t (tree-read file octets t h))

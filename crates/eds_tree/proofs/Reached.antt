@@ -101,7 +101,7 @@ children-behind t h p = go (slice_get os p) refl
     go (Some o) e =
         let here = placed-get (length t) 0 p os o (placed (length t) 0 [] (array h.items) (omega (arith, long))) e in
         subst (λ n. AllByRecursion (IsBetween (p + 1) (length t)) (node_children n)) (sym (there ∙ ap (option_map node_of) e))
-          (wider (o.number + 1) (o.number + 1 + items_size o.items) (p + 1) (length t) (child_numbers (o.number + 1) o.items) (omega (arith, here.numbered)) here.holds (numbers-between (o.number + 1) o.items))
+        (wider (o.number + 1) (o.number + 1 + items_size o.items) (p + 1) (length t) (child_numbers (o.number + 1) o.items) (omega (arith, here.numbered)) here.holds (numbers-between (o.number + 1) o.items))
 
 among-all : (P : ℕ → Type 0) (xs : List ℕ) (n : ℕ) → AllByRecursion P xs → IsAmong xs n → P n
 among-all P [] n h k = absurd (omega (arith, k.1.0))
@@ -175,9 +175,9 @@ reach t deep n (parent ∷ above) depth d e some =
       before = up.before ++ up.link ∷ p.before;
       after = p.after ++ up.after;
       there = up.there
-        ∙ ap (λ ys. up.before ++ (up.link ∷ ys ++ up.after)) p.there
-        ∙ ap (λ ys. up.before ++ up.link ∷ ys) (append_assoc p.before (F n ++ p.after) up.after ∙ ap (λ ys. p.before ++ ys) (append_assoc (F n) p.after up.after))
-        ∙ sym (append_assoc up.before (up.link ∷ p.before) (F n ++ (p.after ++ up.after)));
+          ∙ ap (λ ys. up.before ++ (up.link ∷ ys ++ up.after)) p.there
+          ∙ ap (λ ys. up.before ++ up.link ∷ ys) (append_assoc p.before (F n ++ p.after) up.after ∙ ap (λ ys. p.before ++ ys) (append_assoc (F n) p.after up.after))
+          ∙ sym (append_assoc up.before (up.link ∷ p.before) (F n ++ (p.after ++ up.after)));
     }
 
 among-behind : (xs ys : List ℕ) (n : ℕ) → IsAmong (xs ++ n ∷ ys) n
