@@ -1,5 +1,5 @@
 -- Declared items have the numbers of their positions, and are found by them.
-use Rattle.std.proofs.Common.{◌≡◌, ℕ, zero, suc, ◌+◌, Bool, true, false, List, [], ◌∷◌, map, Option, Some, None, Ok, unwrap_or, refl, sym, ap, ◌∙◌, subst, slice_get, arith}
+use Rattle.std.proofs.Common.{◌≡◌, ℕ, zero, suc, ◌+◌, Bool, true, false, List, [], ◌∷◌, map, Some, Ok, unwrap_or, refl, sym, ap, ◌∙◌, subst, slice_get, arith}
 use Rattle.std.specs.Prelude.{filter, IsSomeAnd}
 use Rattle.std.proofs.lemmas.Slice.Eq.{bytes_eq-Decides}
 use Rattle.eds_base.specs.declared.ids.Place.{Place}
@@ -12,8 +12,8 @@ use Rattle.eds_names.specs.declared.declared.Item.TheVariants as item
 use Rattle.eds_names.specs.declared.declared.Counts.{Counts}
 use Rattle.eds_names.specs.declared.declared.Declared.{Declared}
 use Rattle.eds_names.specs.Repeats.{is_among}
-use Rattle.eds_names.specs.Declarations.{Declaration, item_of, counted, numbered, none_counted, declared_in, declarations_from, is_sort, is_face, is_comp, types_in, faces_in, comps_in, IsByPosition, type_at, face_at, comp_at}
-use Rattle.eds_names.specs.LookUp.{Names, AreApart, NamesDiffer, or_else, entry_named, item_named, names_in, AreFound, LeadsToRow}
+use Rattle.eds_names.specs.Declarations.{Declaration, item_of, counted, numbered, none_counted, declarations_from, is_sort, is_face, is_comp, types_in, faces_in, comps_in, IsByPosition, type_at, face_at, comp_at}
+use Rattle.eds_names.specs.LookUp.{Names, NamesDiffer, item_named, names_in, AreFound, LeadsToRow}
 use Rattle.eds_names.proofs.Differing.{differ, declared_of}
 use Rattle.eds_names.proofs.LookUpLemmas.{bytes_eq-sym}
 

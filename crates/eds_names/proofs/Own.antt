@@ -1,5 +1,5 @@
 -- In a file that was read the name around an element is that of its own standing.
-use Rattle.std.proofs.Common.{◌≡◌, ◌≢◌, ℕ, zero, suc, ◌+◌, ◌<◌, ◌≤◌, List, [], ◌∷◌, ◌++◌, length, map, set, replicate, Option, Some, None, Ok, refl, sym, ap, ◌∙◌, subst, slice_get, length-set, arith}
+use Rattle.std.proofs.Common.{◌≡◌, ◌≢◌, ℕ, zero, suc, ◌+◌, ◌<◌, List, [], ◌∷◌, ◌++◌, length, map, set, replicate, Option, Some, None, Ok, refl, sym, ap, ◌∙◌, subst, slice_get, length-set, arith}
 use Rattle.std.specs.List.{AllByRecursion, flat_map}
 use Rattle.std.proofs.lemmas.List.{map-append}
 use Rattle.eds_tree.specs.declared.tree.Node.{Node}

@@ -1,5 +1,5 @@
 -- The types, interfaces and components that a sheet declares.
-use Rattle.std.specs.Prelude.{◌≡◌, ℕ, ◌+◌, List, [], ◌∷◌, ◌++◌, map, filter, slice_get, codes, if◌then◌else◌, nat_eq, Bool, true, false, Option, Some, None}
+use Rattle.std.specs.Prelude.{◌≡◌, ℕ, ◌+◌, List, [], ◌∷◌, ◌++◌, filter, slice_get, codes, if◌then◌else◌, nat_eq, Bool, true, false, Option, Some, None}
 use Rattle.std.specs.List.{flat_map, ends_with}
 use Rattle.eds_base.specs.Reading.{same}
 use Rattle.eds_base.specs.declared.ids.Place.{Place}

@@ -1,12 +1,12 @@
 -- The first in order of some texts is the least of them.
-use Rattle.std.proofs.Common.{Ordering, Less, Equal, Greater, ◌≡◌, ℕ, zero, suc, ◌<◌, Bool, true, false, List, [], ◌∷◌, length, Option, Some, None, unwrap_or, inl, inr, refl, sym, ap, ◌∙◌, subst, arith}
+use Rattle.std.proofs.Common.{Ordering, Less, Equal, Greater, ◌≡◌, ℕ, suc, Bool, true, false, List, [], ◌∷◌, Some, None, unwrap_or, inl, inr, refl, sym, ap, ◌∙◌, subst, arith}
 use Rattle.std.specs.Prelude.{All, ◌↔◌, ◌⊎◌}
 use Rattle.std.specs.List.{IsAmong}
 use Rattle.std.specs.Ordering.{nat_cmp, is_lt, ordering_reverse}
 use Rattle.std.specs.Cmp.Lexicographic.{slice_cmp}
 use Rattle.std.proofs.lemmas.Cmp.{nat_list_cmp_total}
 use Rattle.std.proofs.lemmas.List.Elements.{All-cons, All-nil}
-use Rattle.eds_tree.specs.ByteOrder.{precedes, first_of, first_from, first_in_order}
+use Rattle.eds_tree.specs.ByteOrder.{precedes, first_from, first_in_order}
 
 less : (o : Ordering) → is_lt o ≡ true → o ≡ Less
 less Less h = refl

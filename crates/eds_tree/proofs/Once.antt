@@ -1,19 +1,17 @@
 -- In a file that was read the numbers of the elements rise, so that each stands once.
-use Rattle.std.proofs.Common.{◌≡◌, ℕ, zero, suc, ◌+◌, ◌<◌, ◌≤◌, Bool, true, false, not, List, [], ◌∷◌, ◌++◌, length, map, Option, Some, None, Result, Ok, refl, sym, ap, ◌∙◌, subst, slice_get, append_assoc, append-nil, length-append, arith}
-use Rattle.std.specs.Prelude.{filter}
+use Rattle.std.proofs.Common.{◌≡◌, ℕ, zero, suc, ◌+◌, ◌<◌, ◌≤◌, Bool, true, false, not, List, [], ◌∷◌, ◌++◌, length, map, Option, Some, None, Ok, refl, sym, ap, ◌∙◌, subst, slice_get, append_assoc, append-nil, length-append, arith}
 use Rattle.std.specs.List.{AllByRecursion, flat_map}
 use Rattle.std.proofs.lemmas.Grind.{flat_map-append}
 use Rattle.std.proofs.lemmas.List.{map-append, length-map}
 use Rattle.std.proofs.lemmas.List.Elements.{filter-append}
 use Rattle.serde_json.specs.Data.{Data, null, boolean, number, string, array, object, Items, no_items, item}
-use Rattle.eds_base.specs.declared.refusal.Refusal.{Refusal}
 use Rattle.eds_tree.specs.declared.tree.Node.{Node}
 use Rattle.eds_tree.specs.declared.link.Link.{Link}
-use Rattle.eds_tree.specs.Elements.{Opening, size, items_size, openings, openings_in, child_number, child_numbers, node_of, name_in, tree_of, not_elements}
+use Rattle.eds_tree.specs.Elements.{size, items_size, openings, openings_in, child_number, child_numbers, node_of, name_in, tree_of, not_elements}
 use Rattle.eds_tree.specs.Reading.{tree_in, tree_of_data, tree_from, tree_unless, data_in}
 use Rattle.eds_tree.specs.Trees.{name_at, node_children, children_of, counted, is_passed_over, links_from, links_of}
 use Rattle.eds_tree.specs.Walks.{RiseFrom}
-use Rattle.eds_tree.proofs.Growing.{length-openings, length-openings_in}
+use Rattle.eds_tree.proofs.Growing.{length-openings}
 
 -- ---- what was read is the tree of an array
 

@@ -1,15 +1,15 @@
 -- In a file that was read no element that is not passed over is left out: none stands deeper than there are elements.
-use Rattle.std.proofs.Common.{◌≡◌, ℕ, zero, suc, ◌+◌, ◌-◌, ◌<◌, ◌≤◌, Bool, true, false, not, List, [], ◌∷◌, ◌++◌, length, map, Option, Some, None, option_map, Ok, refl, sym, ap, ◌∙◌, subst, slice_get, append_assoc, get_or, length-append, arith}
+use Rattle.std.proofs.Common.{◌≡◌, ℕ, zero, suc, ◌+◌, ◌-◌, ◌<◌, ◌≤◌, Bool, true, false, not, List, [], ◌∷◌, ◌++◌, length, map, Option, Some, None, option_map, Ok, refl, sym, ap, ◌∙◌, subst, slice_get, append_assoc, arith}
 use Rattle.std.specs.Prelude.{filter}
 use Rattle.std.specs.List.{AllByRecursion, IsAmong, flat_map}
 use Rattle.std.proofs.lemmas.List.{map-append, length-map}
-use Rattle.std.proofs.lemmas.Option.{slice_get-map, slice_get_within}
+use Rattle.std.proofs.lemmas.Option.{slice_get-map}
 use Rattle.serde_json.specs.Data.{Data, null, boolean, number, string, array, object, Items, no_items, item}
 use Rattle.eds_tree.specs.declared.tree.Node.{Node}
 use Rattle.eds_tree.specs.declared.link.Link.{Link}
-use Rattle.eds_tree.specs.Elements.{Opening, size, items_size, openings, openings_in, child_number, child_numbers, node_of, name_in, tree_of}
+use Rattle.eds_tree.specs.Elements.{Opening, size, items_size, openings, openings_in, child_number, child_numbers, node_of, name_in}
 use Rattle.eds_tree.specs.Reading.{tree_in}
-use Rattle.eds_tree.specs.Trees.{name_at, node_children, children_at, children_of, counted, is_passed_over, links_from, links_of}
+use Rattle.eds_tree.specs.Trees.{name_at, node_children, children_at, children_of, is_passed_over, links_from, links_of}
 use Rattle.eds_tree.proofs.Growing.{length-openings}
 use Rattle.eds_tree.specs.Walks.{Descends}
 use Rattle.eds_tree.proofs.Once.{IsTreeOf, tree-read}
