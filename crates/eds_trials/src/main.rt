@@ -1,11 +1,14 @@
-//! Tries small types: the plain program of the definitions against what is known of them.
+//! Tries small types: the plain program of the definitions against what is known of them, and reader and packer against
+//! the plain program.
 //!
 //! Each line of `data/trials` is one trial, as `trial::Trial` says. What differs is printed, and last how many trials
 //! passed and failed.
 #![tactic(auto)]
 
+mod agreement;
 mod census;
 mod known;
+mod sheet;
 mod slow;
 mod small;
 mod trial;
@@ -32,9 +35,18 @@ impl Tally {
     }
 }
 
+// What the trial of a line comes to. A line of `small` has no file.
+fn try_line(rt: &HostRuntime, line: &str) -> Result<Outcome, Memory> {
+    let file = line.split(' ').next().unwrap_or("");
+    match fs::read_to_string(rt, file) {
+        Ok(text) => outcome_of(rt.alloc(), Some(text.as_str()), line),
+        Err(_) => outcome_of(rt.alloc(), None, line),
+    }
+}
+
 fn try_lines(rt: &HostRuntime, lines: &str, tally: &mut Tally) -> Result<(), Memory> {
     for line in lines.lines() {
-        let outcome = outcome_of(rt.alloc(), line)?;
+        let outcome = try_line(rt, line)?;
         tally.count(outcome.passes());
         if !outcome.passes() {
             let _ = println!(rt; "{line}: {outcome}");

@@ -1,14 +1,17 @@
 //! One trial of a type.
 
+use crate::agreement::agreement;
 use crate::census::{Found, census};
+use crate::sheet::sheet_of;
 use crate::small::small_rows;
-use eds_base::{Memory, TypeId};
+use eds_base::{Fail, Memory, TypeId};
 use eds_types::TypeRow;
 use std::alloc::Global;
 use std::fmt;
 
-/// A trial, as a line says it by four words: the name of a type, how many bits at most are tried, how many values have
-/// spellings of so few bits, and how many lists of bits spell one.
+/// A trial, as a line says it by five words: the file of a sheet, or `small` for the rows of `small`; a type's qualified
+/// name; how many bits at most are tried; how many values have spellings of so few bits; and how many lists of bits spell
+/// one.
 #[derive(Clone, Copy)]
 struct Trial<'a> {
     name: &'a str,
@@ -23,10 +26,12 @@ pub(crate) enum Outcome {
     Passes,
     /// The line isn't a trial.
     NoTrial,
-    /// There is no such type.
+    /// The sheet is refused, or has no such type.
     Refused,
     /// Other values or spellings were found, or the plain program contradicts itself.
     Found(Found),
+    /// Reader or packer and the plain program disagree: how many lists are read, how many should be, and what else differs.
+    Disagrees(u32, u32, u32),
 }
 
 impl Outcome {
@@ -50,6 +55,9 @@ impl fmt::Display for Outcome {
                 } = found;
                 write!(f, "{values} values, {spellings} spellings, {faults} faults")
             }
+            Outcome::Disagrees(reads, fronts, faults) => {
+                write!(f, "{reads} of {fronts} are read, {faults} faults")
+            }
         }
     }
 }
@@ -60,7 +68,7 @@ fn number(word: &str) -> Option<u32> {
 
 fn trial_of<'a>(alloc: Global, line: &'a str) -> Result<Option<Trial<'a>>, Memory> {
     let words: Vec<&str> = line.split(' ').collect(alloc)?;
-    let [name, bits, values, spellings] = words.as_slice() else {
+    let [_, name, bits, values, spellings] = words.as_slice() else {
         return Ok(None);
     };
     match (number(bits), number(values), number(spellings)) {
@@ -95,6 +103,27 @@ impl<'a> Trial<'a> {
             None => Ok(Outcome::Refused),
         }
     }
+
+    // The trial of a type of a sheet.
+    fn of_sheet(&self, alloc: Global, text: &str) -> Result<Outcome, Memory> {
+        let sheet = match sheet_of(alloc, text, self.name) {
+            Ok(sheet) => sheet,
+            Err(Fail::Named(_)) => return Ok(Outcome::Refused),
+            Err(Fail::Memory) => return Err(Memory),
+        };
+        let Some(id) = sheet.word else {
+            return Ok(Outcome::Refused);
+        };
+        let found = census(alloc, sheet.table.rows(), id, self.bits)?;
+        let agreed = agreement(alloc, &sheet.table, id, self.bits)?;
+        if let Some(missed) = self.misses(found) {
+            Ok(missed)
+        } else if agreed.reads == found.fronts && agreed.faults == 0 {
+            Ok(Outcome::Passes)
+        } else {
+            Ok(Outcome::Disagrees(agreed.reads, found.fronts, agreed.faults))
+        }
+    }
 }
 
 fn id_of(rows: &[TypeRow], name: &str) -> Option<TypeId> {
@@ -102,10 +131,17 @@ fn id_of(rows: &[TypeRow], name: &str) -> Option<TypeId> {
     Some(TypeId(u32::try_from(place).ok()?))
 }
 
-/// What the trial of a line comes to.
-pub(crate) fn outcome_of(alloc: Global, line: &str) -> Result<Outcome, Memory> {
-    match trial_of(alloc, line)? {
-        Some(trial) => trial.of_small(alloc),
-        None => Ok(Outcome::NoTrial),
+/// What the trial of a line comes to, with the text of its sheet where it names one.
+pub(crate) fn outcome_of(
+    alloc: Global,
+    sheet: Option<&str>,
+    line: &str,
+) -> Result<Outcome, Memory> {
+    let Some(trial) = trial_of(alloc, line)? else {
+        return Ok(Outcome::NoTrial);
+    };
+    match sheet {
+        Some(text) => trial.of_sheet(alloc, text),
+        None => trial.of_small(alloc),
     }
 }
