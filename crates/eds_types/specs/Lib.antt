@@ -10,9 +10,8 @@ pub mod Overlap
 pub mod Reading
 pub mod Rules
 pub mod Sizes
+pub mod Laws
 pub mod Stored
 pub mod Tables
-pub mod Sample
 pub mod FlatTables
-pub mod FlatSample
 pub mod Reasons
