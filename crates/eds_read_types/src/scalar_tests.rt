@@ -1,7 +1,8 @@
-use crate::{
-    bad_encoding, bad_enumeration, bool_form_of, domain_of, empty_range, int_form_of, listing_of,
-    narrowed, range_in, range_of,
-};
+use crate::bad_encoding::bad_encoding;
+use crate::bad_enumeration::bad_enumeration;
+use crate::empty_range::empty_range;
+use crate::range::range_in;
+use crate::{bool_form_of, domain_of, int_form_of, listing_of, narrowed, range_of};
 use eds_base::{Memory, Place, Spans};
 use eds_bits::{BoolForm, ByteOrder, Encoding, IntForm};
 use eds_tree::{Tree, read_tree};

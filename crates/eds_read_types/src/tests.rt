@@ -1,8 +1,8 @@
 use crate::scalar_tests::{form_text, intervals, labels, truth_text};
-use crate::{Typed, read_types};
+use crate::{SheetTypes, read_types};
 use eds_base::{Fail, Items, Kept, Memory, Refusal, TypeId};
 use eds_names::Space;
-use eds_tree::{Trees, read_tree};
+use eds_tree::{Trees, read_tree, shape_check};
 use eds_types::{Kind, Part, TypeRow};
 use std::alloc::Global;
 
@@ -16,11 +16,16 @@ fn trees_of(alloc: Global, files: &[&str]) -> Result<Trees, Fail<Refusal>> {
     Ok(trees)
 }
 
-fn typed_in(alloc: Global, files: &[&str], word: Option<&str>) -> Result<Typed, Fail<Refusal>> {
+fn typed_in(
+    alloc: Global,
+    files: &[&str],
+    word: Option<&str>,
+) -> Result<SheetTypes, Fail<Refusal>> {
     let trees = trees_of(alloc, files)?;
     if trees.len() > 64 {
         return Err(Fail::Memory);
     }
+    shape_check(alloc, &trees)?;
     let space = Space::build(alloc, &trees)?;
     read_types(alloc, &trees, &space, word)
 }
@@ -84,7 +89,7 @@ fn push_row(text: &mut String, alloc: Global, row: &TypeRow) -> Result<(), Memor
 }
 
 // All types, those that are used, and that of the TYPE word.
-fn typed_text(alloc: Global, typed: &Typed) -> Result<String, Memory> {
+fn typed_text(alloc: Global, typed: &SheetTypes) -> Result<String, Memory> {
     let mut text = String::new(alloc);
     for id in 0..typed.table.len() {
         push_row(&mut text, alloc, typed.table.row(TypeId(id)))?;
@@ -92,7 +97,7 @@ fn typed_text(alloc: Global, typed: &Typed) -> Result<String, Memory> {
     for id in typed.used.as_slice() {
         push_id(&mut text, alloc, "+", Some(*id))?;
     }
-    push_id(&mut text, alloc, " word ", typed.word)?;
+    push_id(&mut text, alloc, " word ", typed.asked_type)?;
     Ok(text)
 }
 
