@@ -1,19 +1,18 @@
 -- The rules of a table that is written out, by tests that compute.
-use Rattle.std.proofs.Common.{◌≡◌, ℕ, zero, suc, ◌+◌, ◌<◌, ◌≤◌, ℤ, Bool, true, false, cond, List, [], ◌∷◌, ◌++◌, length, filter, reverse, Option, Some, None, refl, sym, ap, subst, ◌∙◌, arith, inl, inr, int_eq}
-use Rattle.std.specs.Prelude.{slice_get, slice_index, nat_lt, not, ◌&&◌, ◌==◌}
-use Rattle.std.specs.List.{AllByRecursion, flat_map, filter_map, list_all, range_with_len}
-use Rattle.std.proofs.lemmas.Bool.{and_parts, both_ways, cases_lt, eqb-true, ltb-true, leb-true, not-true}
+use Rattle.std.proofs.Common.{◌≡◌, ℕ, zero, suc, ◌<◌, ℤ, Bool, true, false, cond, List, [], ◌∷◌, ◌++◌, length, filter, Option, Some, None, refl, sym, ap, subst, ◌∙◌, arith, inl, inr, int_eq}
+use Rattle.std.specs.Prelude.{slice_get, slice_index, nat_lt, ◌&&◌, ◌==◌}
+use Rattle.std.specs.List.{AllByRecursion, filter_map, list_all}
+use Rattle.std.proofs.lemmas.Bool.{and_parts, cases_lt, eqb-true, ltb-true, leb-true}
 use Rattle.std.specs.Prelude.{nat_le}
 use Rattle.std.proofs.lemmas.Bool.Decides.{Decides-int_eq}
 use Rattle.std.proofs.lemmas.Option.{slice_get_past}
 use Rattle.eds_base.specs.Reading.{same as same_text}
 use Rattle.eds_types.specs.declared.row.TypeRow.{TypeRow}
 use Rattle.eds_types.specs.Fields.{type_by}
-use Rattle.eds_types.specs.Rows.{Table, numbers, base_of, base_in, container_in, entries_in, trailers_in, entries_of, trailers_of, chain, chain_before, chain_within, list_has, derived, is_concrete, Placed, placed_from, placed_entries, placed_trailers, own_parts, sequence}
-use Rattle.eds_types.specs.Rules.{AreDistinct, IsHollow, IsNested, name_of, is_length, SequenceKeeps}
+use Rattle.eds_types.specs.Rows.{Table, base_of, base_in, container_in, entries_in, trailers_in, entries_of, trailers_of, list_has, Placed, placed_from, own_parts, sequence}
+use Rattle.eds_types.specs.Rules.{AreDistinct, IsNested, name_of, is_length, SequenceKeeps}
 use Rattle.eds_types.proofs.ByRows.{AllFrom, by_row, sequence_past, distinct, distinct_is}
 use Rattle.eds_types.proofs.SameValues.{text_same}
-use Rattle.eds_types.proofs.ReadingTests.{has_in}
 
 -- ---- rows and numbers
 

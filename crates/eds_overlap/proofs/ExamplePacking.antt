@@ -1,21 +1,20 @@
 -- Where and why some values of the table of the examples don't pack.
-use Rattle.std.proofs.Common.{◌≡◌, ℕ, suc, zero, ◌+◌, ◌*◌, ◌<◌, ◌≤◌, ℤ, pos, ◌≤ℤ◌, Bool, true, false, List, [], ◌∷◌, ◌++◌, length, replicate, Option, Some, None, refl, sym, ap, subst, ◌∙◌, append-nil, arith, ◌⊎◌, inl, inr, lit<, lit≤}
-use Rattle.std.specs.Prelude.{codes, slice_get, IsSome, IsTrue, IfSome, ◌+ℤ◌, ◌*ℤ◌, ◌≢◌}
+use Rattle.std.proofs.Common.{◌≡◌, ℕ, suc, zero, ◌+◌, ◌<◌, ◌≤◌, ℤ, pos, ◌≤ℤ◌, true, false, List, [], ◌∷◌, ◌++◌, length, replicate, Option, Some, None, refl, sym, ap, subst, ◌∙◌, append-nil, arith, ◌⊎◌, inl, inr, lit<, lit≤}
+use Rattle.std.specs.Prelude.{codes, IsSome, IfSome, ◌+ℤ◌, ◌*ℤ◌}
 use Rattle.std.proofs.lemmas.Bool.{both_ways}
 use Rattle.std.proofs.lemmas.Int.{ints}
 use Rattle.std.proofs.lemmas.List.{length-append}
 use Rattle.eds_base.specs.declared.fault.Step.TheVariants as step
 use Rattle.eds_base.specs.Spans.{IsWithin}
 use Rattle.eds_bits.proofs.FormLaws.{has_canonical}
-use Rattle.eds_bits.specs.Bits.{Bits, octets_of, octets_for, bits_of, low_bits, first_pieces}
+use Rattle.eds_bits.specs.Bits.{Bits, octets_for, bits_of, low_bits, first_pieces}
 use Rattle.eds_bits.specs.IntForms.{IsNumber}
-use Rattle.eds_bits.specs.Lists.{Has}
 use Rattle.eds_bits.specs.Style.{canonical, is_zero}
 use Rattle.eds_types.specs.declared.reason.PackReason.TheVariants as reason
 use Rattle.eds_types.specs.declared.row.Kind.{Kind}
 use Rattle.eds_types.specs.declared.row.Kind.TheVariants as kind
 use Rattle.eds_types.specs.declared.row.TypeRow.{TypeRow}
-use Rattle.eds_types.specs.Fields.{Field, value_at, listed, IsAtOrUnder}
+use Rattle.eds_types.specs.Fields.{Field, listed, IsAtOrUnder}
 use Rattle.eds_types.specs.Packing.{Where, here, NoSizeFits, IsFilled, TextFits, shape, KindPackFails, PackFailsWithin, PackFailsAt}
 use Rattle.eds_types.specs.Plain.{Plain, num, label, text, bits, items, fields, none, plains_of}
 use Rattle.eds_types.specs.Rows.{Table, id_of, chain, chain_within, list_has}
@@ -29,7 +28,7 @@ use Rattle.eds_types.proofs.RuleFacts.{table_of, facts_of}
 use Rattle.eds_types.proofs.SameValues.{bin_bits}
 use Rattle.eds_types.proofs.SpellingSizes.{canon_spells, same_row}
 use Rattle.eds_types.proofs.TailSizes.{size_is, open_to}
-use Rattle.eds_overlap.specs.Example.{example, any_number, scalar, unsigned_form, tail_packet, WorkedPacking}
+use Rattle.eds_overlap.specs.Example.{example, any_number, unsigned_form, tail_packet, WorkedPacking}
 use Rattle.eds_overlap.proofs.Concrete.{index_small}
 use Rattle.eds_overlap.proofs.ExampleRules.{keeps_rules, last_of, row}
 
@@ -154,48 +153,87 @@ item = inl (_, refl, inr (_, refl, inr (refl, inr ((λ w f. fits 31 13 (num (pos
 
 count : PackFailsAt example 14 (fields 14 (plains_of (num (pos 3) ∷ items (plains_of (num (pos 1) ∷ [])) ∷ []))) (reason.CountWrong, step.Part (id_of 14) 1 ∷ [])
 unfolding PackFailsWithin chain_within
-count = inl (_, refl, inr (14, _, refl, inr (inr (inr (
-  record { container = refl; count = refl },
-  record { before = []; after = []; is = refl },
+count = inl (
+  _,
   refl,
-  inr ((λ w f. entry_fits 8 (num (pos 3)) (octet 3 (lit≤ tt)) (f.1).0 (f.1).1 f.0 (f.1).2), inl ((reason.CountWrong, []), inl ((λ e. absurd (let q : ◌≡◌ {A = Option Plain} (Some (num (pos 3))) (Some (num (pos 1))) = e in cc)), refl), refl)),
-)))))
+  inr (
+    14,
+    _,
+    refl,
+    inr (inr (inr (
+      record { container = refl; count = refl },
+      record { before = []; after = []; is = refl },
+      refl,
+      inr ((λ w f. entry_fits 8 (num (pos 3)) (octet 3 (lit≤ tt)) (f.1).0 (f.1).1 f.0 (f.1).2), inl ((reason.CountWrong, []), inl ((λ e. absurd (let q : ◌≡◌ {A = Option Plain} (Some (num (pos 3))) (Some (num (pos 1))) = e in cc)), refl), refl)),
+    ))),
+  ),
+)
 
 list_item : PackFailsAt example 14 (fields 14 (plains_of (num (pos 2) ∷ items (plains_of (num (pos 1) ∷ num (pos 99) ∷ [])) ∷ []))) (reason.OutOfRange, step.Part (id_of 14) 1 ∷ step.Item 1 ∷ [])
 unfolding PackFailsWithin chain_within
-list_item = inl (_, refl, inr (14, _, refl, inr (inr (inr (
-  record { container = refl; count = refl },
-  record { before = []; after = []; is = refl },
+list_item = inl (
+  _,
   refl,
-  inr ((λ w f. entry_fits 8 (num (pos 2)) (octet 2 (lit≤ tt)) (f.1).0 (f.1).1 f.0 (f.1).2), inl ((reason.OutOfRange, step.Item 1 ∷ []), inr (refl, inr ((λ w f. fits 31 13 (num (pos 1)) (nibble 1 (lit≤ tt)) w f), inl ((reason.OutOfRange, []), too_great, refl))), refl)),
-)))))
+  inr (
+    14,
+    _,
+    refl,
+    inr (inr (inr (
+      record { container = refl; count = refl },
+      record { before = []; after = []; is = refl },
+      refl,
+      inr ((λ w f. entry_fits 8 (num (pos 2)) (octet 2 (lit≤ tt)) (f.1).0 (f.1).1 f.0 (f.1).2), inl ((reason.OutOfRange, step.Item 1 ∷ []), inr (refl, inr ((λ w f. fits 31 13 (num (pos 1)) (nibble 1 (lit≤ tt)) w f), inl ((reason.OutOfRange, []), too_great, refl))), refl)),
+    ))),
+  ),
+)
 
 asked : PackFailsAt example 15 (fields 16 (plains_of (num (pos 15) ∷ []))) (reason.Constraint, step.Part (id_of 15) 0 ∷ [])
 unfolding PackFailsWithin chain_within
-asked = inl (_, refl, inr (16, _, refl, inr (inr (inr (
-  record { container = refl; count = refl },
-  record { before = []; after = 16 ∷ []; is = refl },
+asked = inl (
+  _,
   refl,
-  inr ((λ w f. entry_fits 8 (num (pos 15)) (octet 15 (lit≤ tt)) (f.1).0 (f.1).1 f.0 (f.1).2), inl ((λ h. outside 15 10 (lit< tt) (subst (IsWithin (record { low = pos 0; high = pos 10 } ∷ [])) (sym (same_number (pos 15) h.number h.is)) h.within)), refl)),
-)))))
+  inr (
+    16,
+    _,
+    refl,
+    inr (inr (inr (
+      record { container = refl; count = refl },
+      record { before = []; after = 16 ∷ []; is = refl },
+      refl,
+      inr ((λ w f. entry_fits 8 (num (pos 15)) (octet 15 (lit≤ tt)) (f.1).0 (f.1).1 f.0 (f.1).2), inl ((λ h. outside 15 10 (lit< tt) (subst (IsWithin (record { low = pos 0; high = pos 10 } ∷ [])) (sym (same_number (pos 15) h.number h.is)) h.within)), refl)),
+    ))),
+  ),
+)
   where
     same_number : (n m : ℤ) → Some n ≡ Some m → n ≡ m
     same_number n m e = cc
 
 derived : PackFailsAt example 30 (fields 30 (plains_of (num (pos 1) ∷ []))) (reason.NotMostDerived, step.Choice (id_of 30) ∷ [])
 unfolding PackFailsWithin chain_within
-derived = inl (_, refl, inr (30, _, refl, inr (inr (inr (
-  record { container = refl; count = refl },
-  record { before = []; after = []; is = refl },
+derived = inl (
+  _,
   refl,
-  inr ((λ w f. entry_fits 8 (num (pos 1)) (octet 1 (lit≤ tt)) (f.1).0 (f.1).1 f.0 (f.1).2), inl (
-    31,
-    (λ e. absurd (let q : 31 ≡ 30 = e in omega arith)),
-    record { before = []; after = 31 ∷ []; is = refl },
-    record { concrete = refl; under = record { before = []; after = 31 ∷ []; is = refl }; holds = ((λ s. record { number = pos 1; is = refl; within = inl (omega (arith, ints), omega (arith, ints)) }), tt) },
+  inr (
+    30,
+    _,
     refl,
-  )),
-)))))
+    inr (inr (inr (
+      record { container = refl; count = refl },
+      record { before = []; after = []; is = refl },
+      refl,
+      inr (
+        (λ w f. entry_fits 8 (num (pos 1)) (octet 1 (lit≤ tt)) (f.1).0 (f.1).1 f.0 (f.1).2),
+        inl (
+          31,
+          (λ e. absurd (let q : 31 ≡ 30 = e in omega arith)),
+          record { before = []; after = 31 ∷ []; is = refl },
+          record { concrete = refl; under = record { before = []; after = 31 ∷ []; is = refl }; holds = ((λ s. record { number = pos 1; is = refl; within = inl (omega (arith, ints), omega (arith, ints)) }), tt) },
+          refl,
+        ),
+      ),
+    ))),
+  ),
+)
 
 -- ---- tails
 
@@ -219,12 +257,21 @@ nine = 0 ∷ 0 ∷ 0 ∷ 0 ∷ 0 ∷ 0 ∷ 0 ∷ 0 ∷ 0 ∷ []
 
 too_many : PackFailsAt example 19 (tail_packet 19 nine) (reason.WrongSize, step.Part (id_of 19) 2 ∷ [])
 unfolding PackFailsWithin chain_within
-too_many = inl (_, refl, inr (19, _, refl, inr (inr (inr (
-  record { container = refl; count = refl },
-  record { before = []; after = []; is = refl },
+too_many = inl (
+  _,
   refl,
-  inr ((λ w f. entry_fits 8 (num (pos 1)) (octet 1 (lit≤ tt)) (f.1).0 (f.1).1 f.0 (f.1).2), inr ((λ w f. f.1), inl ((reason.WrongSize, []), (bits 72 nine, refl, (_, refl, inr (72, nine, refl, (λ h. let l = (h.0).0 in omega arith), refl))), refl))),
-)))))
+  inr (
+    19,
+    _,
+    refl,
+    inr (inr (inr (
+      record { container = refl; count = refl },
+      record { before = []; after = []; is = refl },
+      refl,
+      inr ((λ w f. entry_fits 8 (num (pos 1)) (octet 1 (lit≤ tt)) (f.1).0 (f.1).1 f.0 (f.1).2), inr ((λ w f. f.1), inl ((reason.WrongSize, []), (bits 72 nine, refl, (_, refl, inr (72, nine, refl, (λ h. let l = (h.0).0 in omega arith), refl))), refl))),
+    ))),
+  ),
+)
 
 abbrev C : ℕ → Plain → Bits → Type 0
 C x v b = SpellsWithin 31 canonical example x v b
@@ -250,19 +297,28 @@ no_pairs u b h e fits =
     let p1 = h.4 in let h2 = h.5 in let p2 = h2.4 in let h3 = h2.5 in let p3 = h3.4 in let h4 = h3.5 in let p4 = h4.4 in let last = h4.5 in
     let field : bin_bits p3.0 ≡ 16 = ap tail_in (sym (ap (λ (z : Progress). z.fields) (last.0 ∙ p4.1) ∙ ap (λ (z : Progress). z.fields) p3.2 ∙ ap (λ (z : Progress). z.fields ++ (20, 2, p3.0) ∷ []) p2.2 ∙ ap (λ (z : Progress). z.fields ++ (20, 2, p3.0) ∷ []) p1.2)) ∙ ap tail_in e in
     let size : length u.before ≡ 40 =
-        ap (λ (z : Progress). length z.before) (last.0 ∙ p4.1) ∙ length-append (h3.0).before h4.1 ∙ ap (λ m. m + length h4.1) (ap (λ (z : Progress). length z.before) p3.2 ∙ length-append (h2.0).before h3.1 ∙ ap (λ m. m + length h3.1) (ap (λ (z : Progress). length z.before) p2.2 ∙ length-append (h.0).before h2.1 ∙ ap (λ m. m + length h2.1) (ap (λ (z : Progress). length z.before) p1.2)))
-        ∙ omega (arith, octet_size p1.0 h.1 p1.1, octet_size (num p2.0) h2.1 p2.1, blob_size p3.0 h3.1 p3.1, field, octet_size _ h4.1 p4.0) in
+    ap (λ (z : Progress). length z.before) (last.0 ∙ p4.1) ∙ length-append (h3.0).before h4.1 ∙ ap (λ m. m + length h4.1) (ap (λ (z : Progress). length z.before) p3.2 ∙ length-append (h2.0).before h3.1 ∙ ap (λ m. m + length h3.1) (ap (λ (z : Progress). length z.before) p2.2 ∙ length-append (h.0).before h2.1 ∙ ap (λ m. m + length h2.1) (ap (λ (z : Progress). length z.before) p1.2)))
+    ∙ omega (arith, octet_size p1.0 h.1 p1.1, octet_size (num p2.0) h2.1 p2.1, blob_size p3.0 h3.1 p3.1, field, octet_size _ h4.1 p4.0) in
     let told : u.octets ≡ Some (pos 0 +ℤ (pos 2 *ℤ p2.0)) = ap (λ (z : Progress). z.octets) (last.0 ∙ p4.1) ∙ ap (λ (z : Progress). z.octets) p3.2 ∙ ap (λ (z : Progress). z.octets) p2.2 in
     five_or_even p2.0 (subst (λ o. IfSome o (λ n. n ≡ pos (octets_for (length u.before)))) told fits ∙ ap (λ m. pos (octets_for m)) size)
 
 odd : PackFailsAt example 20 (tail_packet 20 (0xAA ∷ 0xBB ∷ [])) (reason.LengthField, step.Part (id_of 20) 1 ∷ [])
 unfolding PackFailsWithin chain_within
-odd = inl (_, refl, inr (20, _, refl, inr (inr (inr (
-  record { container = refl; count = refl },
-  record { before = []; after = []; is = refl },
+odd = inl (
+  _,
   refl,
-  inr ((λ w f. entry_fits 8 (num (pos 1)) (octet 1 (lit≤ tt)) (f.1).0 (f.1).1 f.0 (f.1).2), inr ((λ w f. f.1), inr ((λ w f. two_fit 31 (f.1).0 f.0 (some_plain (bits 16 (0xAA ∷ 0xBB ∷ [])) (f.1).0 (f.1).1) (f.1).2), inr ((λ w f. f.1 (last_of 20 refl f.0 f.2)), inr ((λ w f. f.1), inl (no_pairs, refl)))))),
-)))))
+  inr (
+    20,
+    _,
+    refl,
+    inr (inr (inr (
+      record { container = refl; count = refl },
+      record { before = []; after = []; is = refl },
+      refl,
+      inr ((λ w f. entry_fits 8 (num (pos 1)) (octet 1 (lit≤ tt)) (f.1).0 (f.1).1 f.0 (f.1).2), inr ((λ w f. f.1), inr ((λ w f. two_fit 31 (f.1).0 f.0 (some_plain (bits 16 (0xAA ∷ 0xBB ∷ [])) (f.1).0 (f.1).1) (f.1).2), inr ((λ w f. f.1 (last_of 20 refl f.0 f.2)), inr ((λ w f. f.1), inl (no_pairs, refl)))))),
+    ))),
+  ),
+)
 
 -- ---- padding of the most bits
 
@@ -287,19 +343,28 @@ unfolding chain_within
 untellable u b h e fits =
     let length_part = h.4 in let h2 = h.5 in let pad = h2.4 in let last = h2.5 in
     let size : length u.before ≡ 524296 =
-        ap (λ (z : Progress). length z.before) (last.0 ∙ pad.2) ∙ length-append (h.0).before h2.1 ∙ ap (λ m. m + length h2.1) (ap (λ (z : Progress). length z.before) length_part.2)
-        ∙ omega (arith, octet_size (num length_part.0) h.1 length_part.1, pad.0) in
+    ap (λ (z : Progress). length z.before) (last.0 ∙ pad.2) ∙ length-append (h.0).before h2.1 ∙ ap (λ m. m + length h2.1) (ap (λ (z : Progress). length z.before) length_part.2)
+    ∙ omega (arith, octet_size (num length_part.0) h.1 length_part.1, pad.0) in
     let told : u.octets ≡ Some (pos 0 +ℤ (pos 1 *ℤ length_part.0)) = ap (λ (z : Progress). z.octets) (last.0 ∙ pad.2) ∙ ap (λ (z : Progress). z.octets) length_part.2 in
     few_told length_part.0 (octet_within 31 length_part.0 h.1 length_part.1) (subst (λ o. IfSome o (λ n. n ≡ pos (octets_for (length u.before)))) told fits ∙ ap (λ m. pos (octets_for m)) size)
 
 untold : PackFailsAt example 33 (fields 33 (plains_of [])) (reason.LengthField, step.Part (id_of 33) 0 ∷ [])
 unfolding PackFailsWithin chain_within
-untold = inl (_, refl, inr (33, _, refl, inr (inr (inr (
-  record { container = refl; count = refl },
-  record { before = []; after = []; is = refl },
+untold = inl (
+  _,
   refl,
-  inr ((λ w f. f.1), inr ((λ w f. f.1), inr ((λ w f. f.1 (last_of 33 refl f.0 f.2)), inl (untellable, refl)))),
-)))))
+  inr (
+    33,
+    _,
+    refl,
+    inr (inr (inr (
+      record { container = refl; count = refl },
+      record { before = []; after = []; is = refl },
+      refl,
+      inr ((λ w f. f.1), inr ((λ w f. f.1), inr ((λ w f. f.1 (last_of 33 refl f.0 f.2)), inl (untellable, refl)))),
+    ))),
+  ),
+)
 
 -- where 32 bits tell the octets, the padding alone has the most bits
 told_by : (bs : Bits) × IsNumber canonical (unsigned_form 32 refl refl) (pos 65540) bs
@@ -325,16 +390,25 @@ number_told = (row 32, refl, (pos 65540, refl, inl (omega (arith, ints), omega (
 
 long_spelling : Canon example 34 (fields 34 none) (told_by.0 ++ padding)
 unfolding SpellsWithin chain_within
-long_spelling = (row 34, refl, (34, none, refl, record {
-  concrete = refl;
-  under = record { before = []; after = []; is = refl };
-  end = with_bits (with_octets started (pos 65540) told_by.0) padding;
-  parts = (with_octets started (pos 65540) told_by.0, told_by.0, padding, refl, (pos 65540, number_told, refl), (with_bits (with_octets started (pos 65540) told_by.0) padding, padding, [], sym (append-nil padding), (padding_size, padding_zero, refl), (refl, refl)));
-  values = refl;
-  size = sym (ap (λ m. pos (octets_for m)) whole_size);
-  constraints = tt;
-  most_derived = λ l ne under c. ne (last_of 34 refl l under);
-}))
+long_spelling = (
+  row 34,
+  refl,
+  (
+    34,
+    none,
+    refl,
+    record {
+      concrete = refl;
+      under = record { before = []; after = []; is = refl };
+      end = with_bits (with_octets started (pos 65540) told_by.0) padding;
+      parts = (with_octets started (pos 65540) told_by.0, told_by.0, padding, refl, (pos 65540, number_told, refl), (with_bits (with_octets started (pos 65540) told_by.0) padding, padding, [], sym (append-nil padding), (padding_size, padding_zero, refl), (refl, refl)));
+      values = refl;
+      size = sym (ap (λ m. pos (octets_for m)) whole_size);
+      constraints = tt;
+      most_derived = λ l ne under c. ne (last_of 34 refl l under);
+    },
+  ),
+)
 
 too_long : PackFailsAt example 34 (fields 34 (plains_of [])) (reason.TooLong, [])
 too_long = inr (

@@ -1,8 +1,8 @@
 -- The table of the examples keeps the rules, and no two of its containers overlap.
 use Rattle.std.proofs.Common.{◌≡◌, ℕ, suc, ◌-◌, ◌^◌, ◌<◌, ◌≤◌, ℤ, pos, Bool, true, false, List, [], ◌∷◌, ◌++◌, length, map, Option, Some, None, refl, sym, ap, subst, ◌∙◌, arith, ◌⊎◌, inl, inr, lit<, lit≤, rules}
-use Rattle.std.specs.Prelude.{nat_le, nat_lt, ◌≤ℤ◌, ◌&&◌, ◌||◌, ◌==◌, not, codes, slice_get, slice_index, IsTrue}
+use Rattle.std.specs.Prelude.{nat_le, ◌≤ℤ◌, ◌&&◌, ◌||◌, ◌==◌, not, codes, slice_get, slice_index, IsTrue}
 use Rattle.std.specs.List.{AllByRecursion, list_all}
-use Rattle.std.proofs.lemmas.Bool.{and_parts, cases_Bool, cases_lt, eqb-true, eq-eqb, ne_eqb}
+use Rattle.std.proofs.lemmas.Bool.{and_parts, cases_lt, eqb-true, eq-eqb, ne_eqb}
 use Rattle.std.proofs.lemmas.Int.{ints}
 use Rattle.std.proofs.lemmas.Nat.{pow_pos}
 use Rattle.std.proofs.lemmas.Option.{slice_get_past}
@@ -27,7 +27,6 @@ use Rattle.eds_types.specs.Tables.{IsTable}
 use Rattle.eds_types.proofs.AllOf.{All-at, All-both, All-front, All-back}
 use Rattle.eds_types.proofs.ByRows.{AllFrom, by_row, chain_past, derived-le, none_hollow, not_hollow}
 use Rattle.eds_types.proofs.ChainLaws.{child_is}
-use Rattle.eds_types.proofs.LeastBound.{there}
 use Rattle.eds_types.proofs.ReadingTests.{has_in}
 use Rattle.eds_types.proofs.RuleFacts.{table_of}
 use Rattle.eds_overlap.specs.Example.{example, flags, unsigned_form, any_number, mode_path, kind_path}
@@ -296,7 +295,6 @@ on path on_kind low high = record { path = path; set = record { low = pos low; h
 -- the number lies in the interval from low to high
 lies : (n low high : ℕ) → low ≤ n → n ≤ high → IsWithin (record { low = pos low; high = pos high } ∷ []) (pos n)
 lies n low high l h = inl (omega (arith, ints), omega (arith, ints))
-
 
 of_hk : ConstraintKeeps example 6 7 (on (path_to 6 3) false 291 291)
 unfolding chain_within
