@@ -41,7 +41,7 @@ impl<'a> Case<'a> {
     /// The text of its words.
     pub(crate) fn line(&self, alloc: Global, parts: &Parts) -> Result<String> {
         let line = self.member("words").context("no words")?;
-        text_of(line, alloc, parts)
+        text_of(alloc, parts, line)
     }
 
     /// Its files: those of its group that it has none of its own for, and its own.
@@ -79,7 +79,7 @@ impl<'a> Case<'a> {
             Some(number) => number.as_u64().context("status is a number")?,
         };
         let report = match self.wanted("written") {
-            Some(written) => text_of(written, alloc, parts)?,
+            Some(written) => text_of(alloc, parts, written)?,
             None => lines(alloc, parts, self.wanted("report").context("no report")?)?,
         };
         Ok(Answer {
@@ -103,7 +103,7 @@ fn push_files(
     for (name, content) in members {
         let name = name.as_str();
         if but.and_then(|but| but.get(name)).is_none() {
-            let octets = octets(alloc, parts, content).with_context(|| format_args!("file {name}"))?;
+            let octets = octets(alloc, parts, content).context(format_args!("file {name}"))?;
             let octets = Octets::from_vec(octets);
             let name = Text::from_string(String::from_str(alloc, name)?);
             let pushed = files.push(NamedFile { name, octets });
@@ -119,12 +119,12 @@ fn lines(alloc: Global, parts: &Parts, report: &Value) -> Result<String> {
     match report {
         Value::Array(lines) => {
             for line in lines {
-                text.push_str(text_of(line, alloc, parts)?.as_str())?;
+                text.push_str(text_of(alloc, parts, line)?.as_str())?;
                 text.push_str("\n")?;
             }
         }
         line => {
-            text.push_str(text_of(line, alloc, parts)?.as_str())?;
+            text.push_str(text_of(alloc, parts, line)?.as_str())?;
             text.push_str("\n")?;
         }
     }

@@ -14,6 +14,7 @@ pub(crate) fn printed(alloc: Global, parts: &Parts, value: &Value) -> Result<Str
     Ok(text)
 }
 
+#[cycle(printing)]
 fn push_printed(value: &Value, alloc: Global, parts: &Parts, text: &mut String) -> Result<()> {
     match value {
         Value::String(word) => match word.as_str().strip_prefix('@') {
@@ -22,7 +23,7 @@ fn push_printed(value: &Value, alloc: Global, parts: &Parts, text: &mut String) 
         },
         Value::Array(items) => {
             text.push_str("[")?;
-            push_items(items.as_slice(), alloc, parts, text)?;
+            push_items(items, alloc, parts, text)?;
             text.push_str("]")?;
         }
         Value::Object(members) => push_object(members, alloc, parts, text)?,
@@ -32,44 +33,56 @@ fn push_printed(value: &Value, alloc: Global, parts: &Parts, text: &mut String) 
 }
 
 // Items side by side. What prints nothing is no item.
-fn push_items(items: &[Value], alloc: Global, parts: &Parts, text: &mut String) -> Result<()> {
-    let mut separator = "";
+#[cycle(printing)]
+fn push_items(items: &Vec<Value>, alloc: Global, parts: &Parts, text: &mut String) -> Result<()> {
+    let mut is_first = true;
     for item in items {
         let mut piece = String::new(alloc);
         push_printed(item, alloc, parts, &mut piece)?;
         if !piece.is_empty() {
-            text.push_str(separator)?;
+            if !is_first {
+                text.push_str(",")?;
+            }
             text.push_str(piece.as_str())?;
-            separator = ",";
+            is_first = false;
         }
     }
     Ok(())
 }
 
+// An object, or what stands for items.
+#[cycle(printing)]
 fn push_object(
     members: &Map<String, Value>,
     alloc: Global,
     parts: &Parts,
     text: &mut String,
 ) -> Result<()> {
-    if let Some(items) = members.get("@items") {
-        let items = items.as_array().context("@items is a list")?;
-        return push_items(items.as_slice(), alloc, parts, text);
+    let mut is_first = true;
+    for (name, value) in members {
+        match (name.as_str(), value) {
+            ("@items", Value::Array(items)) => return push_items(items, alloc, parts, text),
+            ("@repeat", Value::Array(copies)) => return push_repeat(copies, alloc, parts, text),
+            _ => {}
+        }
+        text.push_str(if is_first { "{" } else { "," })?;
+        push_name(alloc, text, name.as_str())?;
+        push_printed(value, alloc, parts, text)?;
+        is_first = false;
     }
-    if let Some(copies) = members.get("@repeat") {
-        let (piece, count) = repeated(copies)?;
+    text.push_str(if is_first { "{}" } else { "}" })?;
+    Ok(())
+}
+
+// What is repeated, and then how many times.
+#[cycle(printing)]
+fn push_repeat(copies: &Vec<Value>, alloc: Global, parts: &Parts, text: &mut String) -> Result<()> {
+    let count = count_in(copies.as_slice())?;
+    for piece in copies {
         let mut one = String::new(alloc);
         push_printed(piece, alloc, parts, &mut one)?;
         return push_copies(alloc, text, one.as_str(), count, ",");
     }
-    let mut separator = "{";
-    for (name, value) in members {
-        text.push_str(separator)?;
-        push_name(alloc, text, name.as_str())?;
-        push_printed(value, alloc, parts, text)?;
-        separator = ",";
-    }
-    text.push_str(if separator == "{" { "{}" } else { "}" })?;
     Ok(())
 }
 
@@ -80,11 +93,10 @@ fn push_name(alloc: Global, text: &mut String, name: &str) -> Result<()> {
     Ok(())
 }
 
-// What is repeated, and how many times.
-fn repeated(copies: &Value) -> Result<(&Value, u64)> {
-    let piece = copies.get(0).context("@repeat has what is repeated")?;
+// How many copies are wanted.
+fn count_in(copies: &[Value]) -> Result<u64> {
     let count = copies.get(1).and_then(Value::as_u64);
-    Ok((piece, count.context("@repeat has a number of copies")?))
+    count.context("@repeat has a number of copies")
 }
 
 // Copies of a piece, in which `#` stands for the number of the copy, from 0, and `%` for the next number.
@@ -123,8 +135,35 @@ fn push_numbered(alloc: Global, text: &mut String, piece: &str, i: u64) -> Resul
     Ok(())
 }
 
-/// The octets of a file: a text as it is, `{"@hex": ".."}` the octets of these digits, `{"@join": [..]}` the contents one after
-/// the other, `{"@repeat": [X, n]}` n copies one after the other, and any other JSON its printed text.
+/// A text: that of a string as it is, unless it names a part; `{"@join": [..]}` its pieces one after the other, of which
+/// `{"@repeat": [X, n]}` is n copies of the text X; and any other JSON printed.
+pub(crate) fn text_of(alloc: Global, parts: &Parts, content: &Value) -> Result<String> {
+    let mut text = String::new(alloc);
+    match content.get("@join").and_then(Value::as_array) {
+        Some(pieces) => {
+            for piece in pieces {
+                push_piece(alloc, parts, &mut text, piece)?;
+            }
+        }
+        None => push_piece(alloc, parts, &mut text, content)?,
+    }
+    Ok(text)
+}
+
+fn push_piece(alloc: Global, parts: &Parts, text: &mut String, piece: &Value) -> Result<()> {
+    if let Some(copies) = piece.get("@repeat").and_then(Value::as_array) {
+        let count = count_in(copies.as_slice())?;
+        let one = copies.get(0).and_then(Value::as_str);
+        return push_copies(alloc, text, one.context("@repeat has a text")?, count, "");
+    }
+    match piece.as_str() {
+        Some(word) if !word.starts_with('@') => text.push_str(word)?,
+        _ => push_printed(piece, alloc, parts, text)?,
+    }
+    Ok(())
+}
+
+/// The octets of a file: those of `{"@hex": ".."}`, or those of a text.
 pub(crate) fn octets(alloc: Global, parts: &Parts, content: &Value) -> Result<Vec<u8>> {
     if let Some(digits) = content.get("@hex") {
         let digits = digits.as_str().context("@hex is a text")?;
@@ -133,30 +172,6 @@ pub(crate) fn octets(alloc: Global, parts: &Parts, content: &Value) -> Result<Ve
             Err(_) => bail!("@hex has an odd number of digits or another octet"),
         };
     }
-    let text = text_of(content, alloc, parts)?;
+    let text = text_of(alloc, parts, content)?;
     Ok(text.as_bytes().to_vec(alloc)?)
-}
-
-/// The text of a file that is no `@hex`, or of a line.
-pub(crate) fn text_of(content: &Value, alloc: Global, parts: &Parts) -> Result<String> {
-    let mut text = String::new(alloc);
-    if let Some(copies) = content.get("@repeat") {
-        let (piece, count) = repeated(copies)?;
-        let one = text_of(piece, alloc, parts)?;
-        push_copies(alloc, &mut text, one.as_str(), count, "")?;
-        return Ok(text);
-    }
-    if let Some(pieces) = content.get("@join").and_then(Value::as_array) {
-        for piece in pieces {
-            text.push_str(text_of(piece, alloc, parts)?.as_str())?;
-        }
-        return Ok(text);
-    }
-    match content {
-        Value::String(word) if !word.as_str().starts_with('@') => {
-            text.push_str(word.as_str())?;
-        }
-        _ => push_printed(content, alloc, parts, &mut text)?,
-    }
-    Ok(text)
 }

@@ -10,7 +10,7 @@ mod parts;
 mod run;
 
 use anyhow::{Context, Result};
-use case::Case;
+use case::{Answer, Case};
 use parts::Parts;
 use run::{Difference, difference_of};
 use serde_json::Value;
@@ -36,8 +36,8 @@ impl Tally {
 }
 
 fn read_json(rt: &HostRuntime, path: &str) -> Result<Value> {
-    let text = fs::read(rt, path).with_context(|| format_args!("reading {path}"))?;
-    Value::from_slice(rt.alloc(), text.as_slice()).with_context(|| format_args!("reading {path}"))
+    let text = fs::read(rt, path).context(format_args!("reading {path}"))?;
+    Value::from_slice(rt.alloc(), text.as_slice()).context(format_args!("reading {path}"))
 }
 
 // The names of the files of cases, in order.
@@ -51,11 +51,15 @@ fn case_files(rt: &HostRuntime) -> Result<Vec<String>> {
     Ok(names)
 }
 
-fn print_answer(rt: &HostRuntime, title: &str, answer: &case::Answer) -> Result<()> {
+// The most octets of a report that are printed.
+const SHOWN: usize = 2000;
+
+fn print_answer(rt: &HostRuntime, title: &str, answer: &Answer) -> Result<()> {
     let status = answer.status;
+    let octets = answer.report.len();
     match str::from_utf8(answer.report.as_slice()) {
-        Ok(report) => println!(rt; "  {title} status {status}, report\n{report}")?,
-        Err(_) => println!(rt; "  {title} status {status}, a report that is no text")?,
+        Ok(report) if octets <= SHOWN => println!(rt; "  {title} status {status}, report\n{report}")?,
+        _ => println!(rt; "  {title} status {status}, a report of {octets} octets")?,
     }
     Ok(())
 }
@@ -86,7 +90,7 @@ fn run_case(rt: &HostRuntime, file: &str, case: Case<'_>, parts: &Parts) -> Resu
 
 fn list_in<'a>(value: &'a Value, name: &str) -> Result<&'a [Value]> {
     let list = value.get(name).and_then(Value::as_array);
-    let list = list.with_context(|| format_args!("no list {name}"))?;
+    let list = list.context(format_args!("no list {name}"))?;
     Ok(list.as_slice())
 }
 
@@ -103,7 +107,7 @@ fn run_group(
     for (place, own) in list_in(group, "cases")?.iter().enumerate() {
         parts.add(own.get("parts"))?;
         let ran = run_case(rt, file, Case { group, own }, parts);
-        tally.count(ran.with_context(|| format_args!("case {place}, from 0"))?);
+        tally.count(ran.context(format_args!("case {place}, from 0"))?);
         parts.truncate(outer);
     }
     Ok(())
@@ -116,7 +120,7 @@ fn run_file(rt: &HostRuntime, file: &str, parts: &mut Parts, tally: &mut Tally) 
     let outer = parts.len();
     for (place, group) in list_in(&cases, "groups")?.iter().enumerate() {
         let ran = run_group(rt, file, group, parts, tally);
-        ran.with_context(|| format_args!("{file}, group {place}, from 0"))?;
+        ran.context(format_args!("{file}, group {place}, from 0"))?;
         parts.truncate(outer);
     }
     Ok(())

@@ -45,7 +45,7 @@ impl Parts {
             .rev()
             .find(|part| part.name.as_str() == name)
             .map(|part| part.text.as_str())
-            .with_context(|| format_args!("no part {name}"))
+            .context(format_args!("no part {name}"))
     }
 
     /// Adds the members of an object, each of which may name parts that were added before.

@@ -55,7 +55,7 @@ fn sink_of(alloc: Global, writes: Calls) -> Result<MemSink> {
     sink.ok().context("no memory")
 }
 
-fn outcome(alloc: Global, case: Case<'_>, parts: &Parts, reads: Calls, writes: Calls) -> Result<Outcome> {
+fn run_once(alloc: Global, case: Case<'_>, parts: &Parts, reads: Calls, writes: Calls) -> Result<Outcome> {
     let words = words_of(alloc, case.line(alloc, parts)?.as_str())?;
     let mut shelf = NotedShelf::new(alloc, shelf_of(alloc, case, parts, reads)?);
     let mut sink = NotedSink::new(sink_of(alloc, writes)?);
@@ -109,13 +109,14 @@ fn each_read(
     writes: Calls,
 ) -> Result<Option<Difference>> {
     for failing in 1..TURNS {
-        let run = outcome(alloc, case, parts, reads.with_failing(failing), writes)?;
-        let Some(name) = run.unread else {
+        let calls = reads.with_failing(failing);
+        let Outcome { answer, unread, .. } = run_once(alloc, case, parts, calls, writes)?;
+        let Some(name) = unread else {
             ensure!(failing > 1, "no read is made");
-            return Ok(compared(case.answer(alloc, parts)?, run.answer, 0));
+            return Ok(compared(case.answer(alloc, parts)?, answer, 0));
         };
         let wanted = read_fault(alloc, name.as_str())?;
-        if let Some(found) = compared(wanted, run.answer, failing) {
+        if let Some(found) = compared(wanted, answer, failing) {
             return Ok(Some(found));
         }
     }
@@ -132,7 +133,7 @@ fn each_write(
 ) -> Result<Option<Difference>> {
     let whole = case.answer(alloc, parts)?;
     for failing in 1..TURNS {
-        let run = outcome(alloc, case, parts, reads, writes.with_failing(failing))?;
+        let run = run_once(alloc, case, parts, reads, writes.with_failing(failing))?;
         if !run.unwritten {
             ensure!(failing > 1, "no write is made");
             return Ok(compared(whole, run.answer, 0));
@@ -159,6 +160,6 @@ pub(crate) fn difference_of(
     if writes.each {
         return each_write(alloc, case, parts, reads, writes);
     }
-    let run = outcome(alloc, case, parts, reads, writes)?;
+    let run = run_once(alloc, case, parts, reads, writes)?;
     Ok(compared(case.answer(alloc, parts)?, run.answer, 0))
 }
