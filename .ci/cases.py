@@ -14,6 +14,7 @@ import tempfile
 from concurrent.futures import ThreadPoolExecutor
 
 ROOT = pathlib.Path(__file__).resolve().parent.parent
+PROGRAM = os.environ.get("EDS", ROOT / "eds")  # another build of the program, where it is named
 DATA = ROOT / "crates" / "eds_cases" / "data"
 
 
@@ -94,7 +95,7 @@ def run(case):
         for name, content in case["files"].items():
             pathlib.Path(folder, name).write_bytes(octets_of(content, parts))
         words = line.split(" ") if line else []
-        ran = subprocess.run([ROOT / "eds", *words], cwd=folder, stdin=subprocess.DEVNULL, capture_output=True, timeout=60)
+        ran = subprocess.run([PROGRAM, *words], cwd=folder, stdin=subprocess.DEVNULL, capture_output=True, timeout=60)
     return (wanted.get("status", 0), report.encode(), b""), (ran.returncode, ran.stdout, ran.stderr)
 
 
@@ -105,7 +106,7 @@ def main(words):
         if "reads" not in case and "writes" not in case
         and (not words or any(word in f"{file} {case['words']}" for word in words))
     ]
-    subprocess.run([ROOT / "eds"], stdout=subprocess.DEVNULL, check=False)  # builds the program once, where it isn't built
+    subprocess.run([PROGRAM], stdout=subprocess.DEVNULL, check=False)  # builds the program once, where it isn't built
     failed = 0
     with ThreadPoolExecutor(os.cpu_count()) as pool:
         for (file, case), (wanted, got) in zip(chosen, pool.map(lambda pair: run(pair[1]), chosen)):
