@@ -320,7 +320,7 @@ module _ (trees : List (List Node)) (names : Names) (u : IsUnbroken trees names)
   flat_scalar base (kind.Enum form listing) s = tt
   flat_scalar base (kind.Bool form) s = tt
   flat_scalar base (kind.Str form) s = absurd s
-  flat_scalar base (kind.Bin n) s = absurd s
+  flat_scalar base (kind.Bin n free) s = absurd s
   flat_scalar base (kind.Arr item n) s = absurd s
   flat_scalar base (kind.Con c) s = absurd s
 

@@ -62,7 +62,7 @@ chosen_rows bit octet mode = row (codes "Sc/Bit") (kind.Bool bit) ∷ row (codes
 abbrev pub container_rows : Table
 container_rows =
     row (codes "Flat/Word") (container false (plain_part (codes "a") 7 ∷ plain_part (codes "b") 8 ∷ []) [])
-    ∷ row (codes "Flat/Progress") (container false (plain_part (codes "mode") 14 ∷ plain_part (codes "level") 0 ∷ []) [])
+    ∷ row (codes "Flat/State") (container false (plain_part (codes "mode") 14 ∷ plain_part (codes "level") 0 ∷ []) [])
     ∷ row (codes "Flat/Status") (container false (plain_part (codes "level") 11 ∷ plain_part (codes "on") 12 ∷ plain_part (codes "Mode") 14 ∷ []) [])
     ∷ row (codes "A/B/T") (container false (plain_part (codes "b") 6 ∷ []) [])
     ∷ []
