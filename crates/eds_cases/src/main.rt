@@ -58,7 +58,9 @@ fn print_answer(rt: &HostRuntime, title: &str, answer: &Answer) -> Result<()> {
     let status = answer.status;
     let octets = answer.report.len();
     match str::from_utf8(answer.report.as_slice()) {
-        Ok(report) if octets <= SHOWN => println!(rt; "  {title} status {status}, report\n{report}")?,
+        Ok(report) if octets <= SHOWN => println!(rt;
+            "  {title} status {status}, report\n{report}"
+        )?,
         _ => println!(rt; "  {title} status {status}, a report of {octets} octets")?,
     }
     Ok(())

@@ -55,7 +55,13 @@ fn sink_of(alloc: Global, writes: Calls) -> Result<MemSink> {
     sink.ok().context("no memory")
 }
 
-fn run_once(alloc: Global, case: Case<'_>, parts: &Parts, reads: Calls, writes: Calls) -> Result<Outcome> {
+fn run_once(
+    alloc: Global,
+    case: Case<'_>,
+    parts: &Parts,
+    reads: Calls,
+    writes: Calls,
+) -> Result<Outcome> {
     let words = words_of(alloc, case.line(alloc, parts)?.as_str())?;
     let mut shelf = NotedShelf::new(alloc, shelf_of(alloc, case, parts, reads)?);
     let mut sink = NotedSink::new(sink_of(alloc, writes)?);
