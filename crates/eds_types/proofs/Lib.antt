@@ -37,3 +37,5 @@ pub mod SampleKeeps
 pub mod FlatSampleKeeps
 pub mod Appended
 pub mod TailSizes
+pub mod TypeLaws
+pub mod EmptyTypes

@@ -3,6 +3,7 @@
 
 mod chain;
 mod flat_sample;
+pub mod law;
 mod look;
 mod reason;
 mod row;

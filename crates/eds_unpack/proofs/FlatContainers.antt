@@ -202,21 +202,21 @@ module _ (t : Table) (read : ℕ → Bits → Read Plain) where
     no_trailers : flat_map (placed_trailers t) (reverse (chain t id)) ≡ []
     no_trailers = ap (λ ys. flat_map (placed_trailers t) (reverse ys)) (flat_chain t id c flat e) ∙ ap (λ ps. placed_from id (length (entries_of t id)) ps ++ []) (flat_trailers t id c flat e)
 
-    under_is : (s : Progress) (b : Bits) → s.octets ≡ None → read_under t read id 16 id s b ≡ Ok (id, s, b)
+    under_is : (s : Progress) (b : Bits) → s.octets ≡ None → read_under t read 16 id s b ≡ Ok (id, s, b)
     unfolding read_under read_parts
     under_is s b none =
-        ap (go_on t read id (read_under t read id 15) id s b) (stays t id c s.fields flat e)
+        ap (go_on t read (read_under t read 15) id s b) (stays t id c s.fields flat e)
         ∙ ap (λ ps. read_parts t read ps s b >>= finish id (length_path t id)) no_trailers
         ∙ ap (λ o. cond (size_fits o s.before) (Ok (id, s, b)) (Err (LengthDiffers, length_path t id))) none
 
     pub flat_read : (b : Bits) → ended t read (read_to_end t read id b) ≡ read_flat read id (entries_of t id) b
     unfolding kept
     flat_read b =
-        ap (λ r. ended t read (r >>= λ v. read_under t read id 16 id v.0 v.1)) (chain_is started b)
+        ap (λ r. ended t read (r >>= λ v. read_under t read 16 id v.0 v.1)) (chain_is started b)
         ∙ go (read_parts t read (placed_entries t id) started b) (octets_kept id 0 (entries_of t id) started b (flat_entries t flat id))
         ∙ ap (λ r. r >>= λ s. Ok (as_fields id s)) (parts_kept id 0 (entries_of t id) started b (flat_entries t flat id))
       where
-        go : (r : Read Progress) → HasOctets None r → ended t read (r >>= λ v. read_under t read id 16 id v.0 v.1) ≡ (kept r >>= λ s. Ok (as_fields id s))
+        go : (r : Read Progress) → HasOctets None r → ended t read (r >>= λ v. read_under t read 16 id v.0 v.1) ≡ (kept r >>= λ s. Ok (as_fields id s))
         go (Err g) h = refl
         go (Ok u) h = ap (ended t read) (under_is u.0 u.1 h)
 
