@@ -35,8 +35,3 @@ pub use form::{bool_form_of, int_form_of};
 pub use listing::{is_listing, listing_of};
 pub use range::{End, Range, range_of};
 pub use table::{SheetTypes, read_types};
-
-#[cfg(test)]
-mod scalar_tests;
-#[cfg(test)]
-mod tests;
