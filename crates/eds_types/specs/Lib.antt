@@ -13,7 +13,5 @@ pub mod Sizes
 pub mod Laws
 pub mod Stored
 pub mod Tables
-pub mod Sample
 pub mod FlatTables
-pub mod FlatSample
 pub mod Reasons

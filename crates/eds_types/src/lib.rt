@@ -2,29 +2,21 @@
 #![tactic(auto)]
 
 mod chain;
-mod flat_sample;
 pub mod law;
 mod look;
 mod reason;
 mod row;
-mod sample;
 mod sequence;
 mod sizes;
-pub mod slow;
 mod table;
 mod value;
 
 pub use chain::Chain;
-pub use flat_sample::flat_table;
 pub use reason::PackReason;
 pub use row::{
     Constraint, Constraints, Container, EntryPath, Kind, Listing, Part, Parts, TypeRow, TypeRows,
     Used,
 };
-pub use sample::sample_table;
 pub use sequence::Sequence;
 pub use table::TypeTable;
 pub use value::Value;
-
-#[cfg(test)]
-mod tests;
