@@ -27,8 +27,3 @@ pub use listing::{is_listing, listing_of};
 pub use range::{End, Range, range_in, range_of};
 pub use scalar_rules::{bad_encoding, bad_enumeration, empty_range};
 pub use table::{Typed, read_types};
-
-#[cfg(test)]
-mod scalar_tests;
-#[cfg(test)]
-mod tests;
