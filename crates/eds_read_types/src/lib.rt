@@ -30,8 +30,5 @@ mod unresolved;
 mod unsupported_entry;
 mod wrong_kind;
 
-pub use domain::{domain_of, is_empty_domain, narrowed};
-pub use form::{bool_form_of, int_form_of};
-pub use listing::{is_listing, listing_of};
-pub use range::{End, Range, range_of};
+pub use range::{End, Range};
 pub use table::{SheetTypes, read_types};

@@ -136,7 +136,7 @@ pub(crate) fn range_in(tree: &Tree, node: u32) -> Range
 }
 
 /// The range of an integer type or sub-range, which admits any number where the type has none.
-pub fn range_of(tree: &Tree, node: u32) -> Range
+pub(crate) fn range_of(tree: &Tree, node: u32) -> Range
     ensures { result ≡ range_of tree.now node }
 {
     match child_named(tree, node, "Range") {
