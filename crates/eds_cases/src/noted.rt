@@ -28,6 +28,8 @@ impl<S: Shelf> Shelf for NotedShelf<S> {
 
     ghost faults = { λ noted. S.faults noted.shelf };
 
+    ghost gives = { λ before name from given after. S.gives before.shelf name from given after.shelf };
+
     fn read_at(&mut self, name: &str, from: u64, room: &mut [u8]) -> Got {
         let got = self.shelf.read_at(name, from, room);
         if got == Got::Failed && self.failed.is_none() {
