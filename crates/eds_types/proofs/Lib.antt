@@ -34,5 +34,10 @@ pub mod RuleFacts
 pub mod ByRows
 pub mod SampleFacts
 pub mod TailSizes
+pub mod PackedSizes
+pub mod PackedFields
+pub mod PackedLaws
+pub mod Binaries
+pub mod SameLists
 pub mod TypeLaws
 pub mod EmptyTypes

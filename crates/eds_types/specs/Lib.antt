@@ -15,3 +15,5 @@ pub mod Stored
 pub mod Tables
 pub mod FlatTables
 pub mod Reasons
+pub mod PackedSizes
+pub mod PlainCode

@@ -1,16 +1,22 @@
 //! The types of a sheet and their values: rows, the table of all types, and what it says of each.
 #![tactic(auto)]
 
+mod binary;
 mod chain;
+mod copy;
 pub mod law;
 mod look;
+pub mod packs;
 mod reason;
 mod row;
+mod same;
 mod sequence;
 mod sizes;
 mod table;
 mod value;
+mod values;
 
+pub use binary::is_binary;
 pub use chain::Chain;
 pub use reason::PackReason;
 pub use row::{
@@ -20,3 +26,4 @@ pub use row::{
 pub use sequence::Sequence;
 pub use table::TypeTable;
 pub use value::Value;
+pub use values::Values;
