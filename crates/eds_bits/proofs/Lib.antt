@@ -8,3 +8,4 @@ pub mod PatternLaws
 pub mod FormLaws
 pub mod CheckLaws
 pub mod Shifts
+pub mod TextLaws

@@ -102,7 +102,7 @@ three_pieces at p q r bs one two three h e f g =
     ∙ with_piece-append at (p ++ q) r bs (omega (arith, length-append p q))
 
 -- the highest bits of the first octet
-first_bits : (os : List ℕ) (k m : ℕ) → k + m ≡ 8 → 0 < length os → low_bits k (get_or os 0 0 / 2 ^ m) ≡ take k (bits_of os)
+pub first_bits : (os : List ℕ) (k m : ℕ) → k + m ≡ 8 → 0 < length os → low_bits k (get_or os 0 0 / 2 ^ m) ≡ take k (bits_of os)
 first_bits os k m e h =
     let o : ℕ = get_or os 0 0 in
     let tail : List ℕ = drop 1 os in

@@ -51,6 +51,7 @@ impl<'a> BitView<'a> {
 
 impl<'a> BitReader<'a> {
     ghost use Rattle.eds_bits.specs.Reader.{view_bits, bits_left};
+    ghost use Rattle.eds_bits.specs.Texts.{front_octets};
 
     /// A reader before the first bit of a view.
     pub fn new(view: BitView<'a>) -> BitReader<'a>
@@ -117,7 +118,7 @@ impl<'a> BitReader<'a> {
     #[tactic(auto, using(crate::proofs::OctetLaws::length_after))]
     pub fn take_octets(&mut self, room: &mut [u8]) -> bool
         ensures enough { IsTrue result ↔ (8 * length room.old ≤ length (bits_left self.old)) }
-        ensures value { OnTrue result (bits_of room.new ≡ take (8 * length room.old) (bits_left self.old)) }
+        ensures value { OnTrue result (room.new ≡ front_octets (length room.old) (bits_left self.old)) }
         ensures after { OnTrue result (bits_left self.new ≡ drop (8 * length room.old) (bits_left self.old)) }
         ensures few { OnFalse result (length (bits_left self.old) < 8 * length room.old) }
         ensures same { OnFalse result (bits_left self.new ≡ bits_left self.old) }
