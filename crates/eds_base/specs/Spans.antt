@@ -1,5 +1,5 @@
 -- Sets of whole numbers, as intervals.
-use Rattle.std.specs.Prelude.{ℕ, ℤ, pos, ◌+ℤ◌, ◌≤ℤ◌, ◌^◌, List, [], ◌∷◌, ◌⊎◌}
+use Rattle.std.specs.Prelude.{ℤ, pos, ◌+ℤ◌, ◌≤ℤ◌, ◌^◌, List, [], ◌∷◌, ◌⊎◌}
 use Rattle.std.proofs.Math.IntN.{neg_ℤ}
 use Rattle.eds_base.specs.declared.spans.Span.{Span}
 

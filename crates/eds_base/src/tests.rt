@@ -1,4 +1,6 @@
-use crate::{Fail, Items, Kept, Memory, Path, Place, Reason, Refusal, Rule, Step, Text, TypeId};
+use crate::{
+    Fail, Items, Kept, Memory, Path, Place, Queue, Reason, Refusal, Rule, Step, Text, TypeId,
+};
 use std::alloc::Global;
 use std::test::Fail as TestFail;
 
@@ -80,6 +82,18 @@ fn lists_texts_and_paths_keep_what_is_put_in(rt: HostRuntime) -> Result<(), Test
     assert_eq!(rt; items.as_slice(), [3u8, 1, 4].as_slice());
     assert_eq!(rt; items.get(2), Some(&4));
     assert_eq!(rt; items.get(3), None);
+    items.set(1, 9);
+    assert_eq!(rt; items.as_slice(), [3u8, 9, 4].as_slice());
+    let mut waiting = Queue::new(alloc);
+    for octet in [3u8, 1] {
+        assert!(rt; waiting.push(octet).is_ok());
+    }
+    assert_eq!(rt; waiting.pop(), Some(3));
+    assert!(rt; waiting.push(4).is_ok());
+    assert_eq!(rt; waiting.len(), 2);
+    assert_eq!(rt; waiting.pop(), Some(1));
+    assert_eq!(rt; waiting.pop(), Some(4));
+    assert_eq!(rt; waiting.pop(), None);
     let mut path = Path::root();
     path.put_first(Step::Item(5));
     path.put_first(Step::Part(TypeId(2), 1));

@@ -4,9 +4,12 @@ pub mod CourseSpelling
 pub mod ContainerReading
 pub mod Choices
 pub mod ReadingLaws
+pub mod CourseLaws
 pub mod Theorems
 pub mod Concrete
 pub mod ExampleRules
 pub mod ExampleReading
 pub mod ExampleFrames
-pub mod TailExample
+pub mod WhatIsRead
+pub mod TailReading
+pub mod ExamplePacking

@@ -22,7 +22,7 @@ kind_is (kind.Int form spans) c e = absurd cc
 kind_is (kind.Enum form listing) c e = absurd cc
 kind_is (kind.Bool form) c e = absurd cc
 kind_is (kind.Str form) c e = absurd cc
-kind_is (kind.Bin n) c e = absurd cc
+kind_is (kind.Bin n free) c e = absurd cc
 kind_is (kind.Arr item n) c e = absurd cc
 kind_is (kind.Con d) c e = let q : d ≡ c = cc in ap kind.Con q
 

@@ -109,8 +109,8 @@ module _ (t : Table) (rules : KeepsRules t) (flat : IsFlatTable t) (m : ℕ) whe
       has_fields vs l,
       under_self t rules k c there is_flat,
       concrete_is t rules k c there is_flat,
-      subst (λ ss. FirstFails t F fs NoSize (course t k k) k ss g) (sym course_is)
-          (first_fails t rules m fs NoSize (course t k k) k (entries_of t k) vs k 0 0 [] rest g scalars l tt (ap (λ ps. paired ps vs) (sequence_is t rules k c there is_flat)) e),
+      subst (λ ss. FirstFails t F fs NoSize k ss g) (sym course_is)
+          (first_fails t rules m fs NoSize k (entries_of t k) vs k 0 0 [] rest g scalars l tt (ap (λ ps. paired ps vs) (sequence_is t rules k c there is_flat)) e),
     )))
       where
         fs : List Field
@@ -219,7 +219,7 @@ module _ (t : Table) (rules : KeepsRules t) (flat : IsFlatTable t) (m : ℕ) whe
     kind_spells (kind.Enum form listing) is f v n b e s = (s, scalar_long (kind.Enum form listing) v b n tt s (whole_ok (scalar_size (kind.Enum form listing) v) n e))
     kind_spells (kind.Bool form) is f v n b e s = (s, scalar_long (kind.Bool form) v b n tt s (whole_ok (scalar_size (kind.Bool form) v) n e))
     kind_spells (kind.Str form) is f v n b e s = absurd f
-    kind_spells (kind.Bin z) is f v n b e s = absurd f
+    kind_spells (kind.Bin z free) is f v n b e s = absurd f
     kind_spells (kind.Arr item z) is f v n b e s = absurd f
     kind_spells (kind.Con c) is f v n b e s = container_spells id c (is c refl) v n b e s
 
@@ -228,7 +228,7 @@ module _ (t : Table) (rules : KeepsRules t) (flat : IsFlatTable t) (m : ℕ) whe
     kind_exists (kind.Enum form listing) is f h v n e = scalar_exists (kind.Enum form listing) v n tt h (whole_ok (scalar_size (kind.Enum form listing) v) n e)
     kind_exists (kind.Bool form) is f h v n e = scalar_exists (kind.Bool form) v n tt h (whole_ok (scalar_size (kind.Bool form) v) n e)
     kind_exists (kind.Str form) is f h v n e = absurd f
-    kind_exists (kind.Bin z) is f h v n e = absurd f
+    kind_exists (kind.Bin z free) is f h v n e = absurd f
     kind_exists (kind.Arr item z) is f h v n e = absurd f
     kind_exists (kind.Con c) is f h v n e = container_exists id c (is c refl) v n e
 
@@ -240,7 +240,7 @@ module _ (t : Table) (rules : KeepsRules t) (flat : IsFlatTable t) (m : ℕ) whe
     kind_faults (kind.Enum form listing) is f v g e = scalar_fault (kind.Enum form listing) v g tt e
     kind_faults (kind.Bool form) is f v g e = scalar_fault (kind.Bool form) v g tt e
     kind_faults (kind.Str form) is f v g e = absurd f
-    kind_faults (kind.Bin z) is f v g e = absurd f
+    kind_faults (kind.Bin z free) is f v g e = absurd f
     kind_faults (kind.Arr item z) is f v g e = absurd f
     kind_faults (kind.Con c) is f v g e = container_faults id c (is c refl) v g e
 

@@ -75,7 +75,7 @@ scalar_long (kind.Int form spans) v b n i s e = s.3.is.size ∙ number_bits form
 scalar_long (kind.Enum form listing) v b n i s e = s.4.is.size ∙ label_bits form listing v n e
 scalar_long (kind.Bool form) v b n i s e = s.2.size ∙ truth_bits form v n e
 scalar_long (kind.Str form) v b n i s e = absurd i
-scalar_long (kind.Bin m) v b n i s e = absurd i
+scalar_long (kind.Bin m free) v b n i s e = absurd i
 scalar_long (kind.Arr item m) v b n i s e = absurd i
 scalar_long (kind.Con c) v b n i s e = absurd i
 
@@ -106,7 +106,7 @@ scalar_exists (kind.Int form spans) v n i h e = number_exists form spans v n h e
 scalar_exists (kind.Enum form listing) v n i h e = label_exists form listing v n h e
 scalar_exists (kind.Bool form) v n i h e = truth_exists form v n e
 scalar_exists (kind.Str form) v n i h e = absurd i
-scalar_exists (kind.Bin m) v n i h e = absurd i
+scalar_exists (kind.Bin m free) v n i h e = absurd i
 scalar_exists (kind.Arr item m) v n i h e = absurd i
 scalar_exists (kind.Con c) v n i h e = absurd i
 
@@ -118,7 +118,7 @@ module _ (t : Table) (E : ℕ → Plain → Bits → Type 0) (F : ℕ → Plain 
   scalar_spells (kind.Enum form listing) v b i s = s
   scalar_spells (kind.Bool form) v b i s = s
   scalar_spells (kind.Str form) v b i s = absurd i
-  scalar_spells (kind.Bin m) v b i s = absurd i
+  scalar_spells (kind.Bin m free) v b i s = absurd i
   scalar_spells (kind.Arr item m) v b i s = absurd i
   scalar_spells (kind.Con c) v b i s = absurd i
 
@@ -128,7 +128,7 @@ module _ (t : Table) (E : ℕ → Plain → Bits → Type 0) (F : ℕ → Plain 
   scalar_fine (kind.Enum form listing) v b g i h s f = (enum_decided t E F id form listing h v).apart b g s f
   scalar_fine (kind.Bool form) v b g i h s f = (bool_decided t E F id form v).apart b g s f
   scalar_fine (kind.Str form) v b g i h s f = absurd i
-  scalar_fine (kind.Bin m) v b g i h s f = absurd i
+  scalar_fine (kind.Bin m free) v b g i h s f = absurd i
   scalar_fine (kind.Arr item m) v b g i h s f = absurd i
   scalar_fine (kind.Con c) v b g i h s f = absurd i
 
@@ -158,7 +158,7 @@ module _ (t : Table) (E : ℕ → Plain → Bits → Type 0) (F : ℕ → Plain 
   scalar_faults (kind.Enum form listing) v r i e = label_faults form listing v r e
   scalar_faults (kind.Bool form) v r i e = truth_faults form v r e
   scalar_faults (kind.Str form) v r i e = absurd i
-  scalar_faults (kind.Bin m) v r i e = absurd i
+  scalar_faults (kind.Bin m free) v r i e = absurd i
   scalar_faults (kind.Arr item m) v r i e = absurd i
   scalar_faults (kind.Con c) v r i e = absurd i
 

@@ -143,9 +143,9 @@ module _ (t : Table) (rules : KeepsRules t) where
 
     -- ---- the first entry that fails
 
-    module _ (fs : List Field) (NoSize : Type 0) (all : List Station) (x : ℕ) where
+    module _ (fs : List Field) (NoSize : Type 0) (x : ℕ) where
       abbrev Stops : Station → Where → Type 0
-      Stops s g = StationFails t F fs NoSize all x s g
+      Stops s g = StationFails t F fs NoSize x s g
 
       -- all fields so far stand before the place
       abbrev IsBefore : ℕ → Field → Type 0
@@ -181,7 +181,7 @@ module _ (t : Table) (rules : KeepsRules t) where
       fields_next y i l v before = All-both (IsBefore (i + 1)) l ((y, i, v) ∷ []) (All-weaker (IsBefore i) (IsBefore (i + 1)) (λ f low. omega arith) l before) (omega arith, tt)
 
       pub first_fails : (ps : List Part) (vs : List Plain) (y i before : ℕ) (l : List Field) (rest : List Station) (g : Where) → AllByRecursion (IsScalarEntry t) ps → length vs ≡ length ps → AllByRecursion (IsBefore i) l
-          → fs ≡ l ++ paired (placed_from y i ps) vs → fields_size t y i before ps vs ≡ Err g → FirstFails t F fs NoSize all x (map entry (placed_from y i ps) ++ rest) g
+          → fs ≡ l ++ paired (placed_from y i ps) vs → fields_size t y i before ps vs ≡ Err g → FirstFails t F fs NoSize x (map entry (placed_from y i ps) ++ rest) g
       first_fails [] vs y i before l rest g h n low is e = ok_err before g e
       first_fails (p ∷ ps) [] y i before l rest g h n low is e = absurd (omega arith)
       first_fails (part.Plain name id ∷ ps) (v ∷ vs) y i before l rest g h n low is e =
@@ -191,8 +191,8 @@ module _ (t : Table) (rules : KeepsRules t) where
           there = found y i l v (paired (placed_from y (i + 1) ps) vs) low is
 
           go : (r : Result ℕ PackReason) → entry_size t (part.Plain name id) v ≡ r → in_part (step.Part (id_of y) i) r (λ m. fields_size t y (i + 1) (before + m) ps vs) ≡ Err g
-              → ((m : ℕ) → fields_size t y (i + 1) (before + m) ps vs ≡ Err g → FirstFails t F fs NoSize all x (map entry (placed_from y (i + 1) ps) ++ rest) g)
-              → FirstFails t F fs NoSize all x (map entry (placed_from y i (part.Plain name id ∷ ps)) ++ rest) g
+              → ((m : ℕ) → fields_size t y (i + 1) (before + m) ps vs ≡ Err g → FirstFails t F fs NoSize x (map entry (placed_from y (i + 1) ps) ++ rest) g)
+              → FirstFails t F fs NoSize x (map entry (placed_from y i (part.Plain name id ∷ ps)) ++ rest) g
           go (Ok m) k e ih = inr ((λ w. goes_on name id.0 y i v m w h.0 there k), ih m e)
           go (Err r) k e ih = inl (subst (Stops (entry (record { container = y; place = i; part = part.Plain name id }))) (err_same (r, step.Part (id_of y) i ∷ []) g e) (stops_here name id.0 y i v r h.0 there k))
       first_fails (part.Fixed name id w ∷ ps) (v ∷ vs) y i before l rest g h n low is e = absurd h.0

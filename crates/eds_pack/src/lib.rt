@@ -8,10 +8,8 @@ mod room;
 mod scalar;
 mod size;
 
+pub use eds_types::PackReason;
 pub use fail::PackFail;
 pub use octets::pack;
 pub use room::pack_into;
 pub use size::{conforms, packed_bits};
-
-#[cfg(test)]
-mod tests;

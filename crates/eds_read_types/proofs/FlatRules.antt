@@ -1,6 +1,6 @@
 -- Scalar types and flat containers that keep the rules one by one make a table that keeps them all.
 use Rattle.std.proofs.Common.{◌≡◌, ℕ, zero, suc, ◌+◌, ◌<◌, ◌≤◌, ◌==◌, Bool, true, false, cond, List, [], ◌∷◌, ◌++◌, map, length, filter, reverse, slice_get, Option, Some, None, refl, sym, ap, subst, ◌∙◌, arith, lit<, lit≤}
-use Rattle.std.specs.Prelude.{IsTrue, IsSome}
+use Rattle.std.specs.Prelude.{IsTrue, IsSome, IfSome}
 use Rattle.std.specs.List.{AllByRecursion, filter_map, flat_map, range_with_len}
 use Rattle.std.proofs.lemmas.Bool.{eqb-true, eq-eqb}
 use Rattle.std.proofs.lemmas.Grind.{flat_map-append}
@@ -16,8 +16,9 @@ use Rattle.eds_types.specs.declared.row.Kind.{Kind}
 use Rattle.eds_types.specs.declared.row.Kind.TheVariants as kind
 use Rattle.eds_types.specs.Fields.{type_by}
 use Rattle.eds_types.specs.FlatTables.{IsScalarEntry, IsFlat, IsFlatKind, IsFlatTable}
+use Rattle.eds_types.specs.Sizes.{open_by, open_in, open_of}
 use Rattle.eds_types.specs.Rows.{Table, base_in, base_of, container_by, container_in, container_of, concrete_in, entries_in, trailers_in, constraints_in, constraints_of, own_parts, Placed, placed_from, placed_entries, placed_trailers, sequence, chain, chain_before, chain_within, list_has, derived}
-use Rattle.eds_types.specs.Rules.{AreDistinct, KindKeeps, HasKind, IsContainer, IsScalarKind, IsHollow, DerivesFrom, IsNested, ItemsNest, PartKeeps, name_of, is_length, ConstraintKeeps, SequenceKeeps, KeepsRules}
+use Rattle.eds_types.specs.Rules.{AreDistinct, KindKeeps, HasKind, IsContainer, IsScalarKind, IsHollow, DerivesFrom, IsNested, ItemsNest, TailKeeps, PartKeeps, name_of, is_length, ConstraintKeeps, SequenceKeeps, KeepsRules}
 
 -- what a row keeps by itself
 pub record KeepsRow (t : Table) (row : TypeRow) : Type 0 where
@@ -50,7 +51,7 @@ container_by_kind t base (kind.Int form spans) flat bare names c e = absurd cc
 container_by_kind t base (kind.Enum form listing) flat bare names c e = absurd cc
 container_by_kind t base (kind.Bool form) flat bare names c e = absurd cc
 container_by_kind t base (kind.Str form) flat bare names c e = absurd cc
-container_by_kind t base (kind.Bin n) flat bare names c e = absurd cc
+container_by_kind t base (kind.Bin n free) flat bare names c e = absurd cc
 container_by_kind t base (kind.Arr item n) flat bare names c e = absurd cc
 container_by_kind t base (kind.Con d) flat bare names c e = let q : d ≡ c = cc in subst (IsFlatContainer t base) q (record { flat = flat; bare = bare; names = names })
 
@@ -60,15 +61,25 @@ neither_by_kinds t base (kind.Int form spans) (kind.Int f s) flat d = (refl, ref
 neither_by_kinds t base (kind.Int form spans) (kind.Enum f s) flat d = absurd d
 neither_by_kinds t base (kind.Int form spans) (kind.Bool f) flat d = absurd d
 neither_by_kinds t base (kind.Int form spans) (kind.Str f) flat d = absurd d
-neither_by_kinds t base (kind.Int form spans) (kind.Bin n) flat d = absurd d
+neither_by_kinds t base (kind.Int form spans) (kind.Bin n free) flat d = absurd d
 neither_by_kinds t base (kind.Int form spans) (kind.Arr i n) flat d = absurd d
 neither_by_kinds t base (kind.Int form spans) (kind.Con c) flat d = absurd d
 neither_by_kinds t base (kind.Enum form listing) l flat d = absurd d
 neither_by_kinds t base (kind.Bool form) l flat d = absurd d
 neither_by_kinds t base (kind.Str form) l flat d = absurd d
-neither_by_kinds t base (kind.Bin n) l flat d = absurd d
+neither_by_kinds t base (kind.Bin n free) l flat d = absurd d
 neither_by_kinds t base (kind.Arr item n) l flat d = absurd d
 neither_by_kinds t base (kind.Con c) l flat d = let no = flat.root in absurd cc
+
+-- a scalar type is no open binary
+scalar_closed : (k : Kind) → IsScalarKind k → open_by k ≡ None
+scalar_closed (kind.Int form spans) s = refl
+scalar_closed (kind.Enum form listing) s = refl
+scalar_closed (kind.Bool form) s = refl
+scalar_closed (kind.Str form) s = absurd s
+scalar_closed (kind.Bin n free) s = absurd s
+scalar_closed (kind.Arr item n) s = absurd s
+scalar_closed (kind.Con c) s = absurd s
 
 -- a scalar type is no container
 pub scalar_by_kind : (k : Kind) → IsScalarKind k → container_by k ≡ None
@@ -76,7 +87,7 @@ scalar_by_kind (kind.Int form spans) s = refl
 scalar_by_kind (kind.Enum form listing) s = refl
 scalar_by_kind (kind.Bool form) s = refl
 scalar_by_kind (kind.Str form) s = refl
-scalar_by_kind (kind.Bin n) s = refl
+scalar_by_kind (kind.Bin n free) s = refl
 scalar_by_kind (kind.Arr item n) s = refl
 scalar_by_kind (kind.Con c) s = absurd s
 
@@ -243,8 +254,15 @@ module _ (t : Table) (f : AreFlatRows t) where
           no_scalar : Has (h.hollow ∷ []) id → ⊥
           no_scalar w = let is = only_item h.hollow id w.before w.after w.is in some_none (container_of t h.hollow) c e (subst (λ m. container_of t m ≡ None) (sym is) (scalar_is id s))
 
+  closed : (id : ℕ) → HasKind t id IsScalarKind → open_of t id ≡ None
+  closed id h = ap open_in h.1 ∙ scalar_closed (h.0).kind h.2
+
+  no_tail : (p : Placed) (o : Option ℕ) → o ≡ None → IfSome o (λ n. TailKeeps t p)
+  no_tail p None e = tt
+  no_tail p (Some n) e = absurd cc
+
   parts : (y : ℕ) → AllByRecursion (λ (p : Placed). PartKeeps t p p.part) (own_parts t y)
-  parts y = over_parts (λ (p : Placed). PartKeeps t p p.part) y (λ c e i name id h. solid id.0 h)
+  parts y = over_parts (λ (p : Placed). PartKeeps t p p.part) y (λ c e i name id h. let p : Placed = record { container = y; place = i; part = part.Plain name id } in (solid id.0 h, no_tail p (open_of t id.0) (closed id.0 h)))
 
   -- ---- sequences
 
@@ -290,7 +308,7 @@ module _ (t : Table) (f : AreFlatRows t) where
   items_by_kind base id (kind.Enum form listing) h = tt
   items_by_kind base id (kind.Bool form) h = tt
   items_by_kind base id (kind.Str form) h = absurd h
-  items_by_kind base id (kind.Bin n) h = absurd h
+  items_by_kind base id (kind.Bin n free) h = absurd h
   items_by_kind base id (kind.Arr item n) h = absurd h
   items_by_kind base id (kind.Con c) h = tt
 

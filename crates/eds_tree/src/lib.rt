@@ -7,6 +7,7 @@ mod build;
 mod element;
 mod groups;
 mod halves;
+pub mod law;
 mod link;
 mod order;
 mod read;
@@ -32,6 +33,3 @@ pub use shape_rules::shape_check;
 pub use table::{ELEMENTS, element_rows};
 pub use texts::{flag_value, whole_number};
 pub use tree::{Node, Tree, Trees};
-
-#[cfg(test)]
-mod tests;

@@ -33,7 +33,11 @@ pub mod LeastBound
 pub mod RuleFacts
 pub mod ByRows
 pub mod SampleFacts
-pub mod SampleKeeps
-pub mod FlatSampleKeeps
-pub mod Appended
 pub mod TailSizes
+pub mod PackedSizes
+pub mod PackedFields
+pub mod PackedLaws
+pub mod Binaries
+pub mod SameLists
+pub mod TypeLaws
+pub mod EmptyTypes

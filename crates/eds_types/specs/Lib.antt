@@ -10,9 +10,10 @@ pub mod Overlap
 pub mod Reading
 pub mod Rules
 pub mod Sizes
+pub mod Laws
 pub mod Stored
 pub mod Tables
-pub mod Sample
 pub mod FlatTables
-pub mod FlatSample
 pub mod Reasons
+pub mod PackedSizes
+pub mod PlainCode

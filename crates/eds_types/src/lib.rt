@@ -1,29 +1,29 @@
 //! The types of a sheet and their values: rows, the table of all types, and what it says of each.
 #![tactic(auto)]
 
+mod binary;
 mod chain;
-mod flat_sample;
+mod copy;
+pub mod law;
 mod look;
+pub mod packs;
 mod reason;
 mod row;
-mod sample;
+mod same;
 mod sequence;
 mod sizes;
-pub mod slow;
 mod table;
 mod value;
+mod values;
 
+pub use binary::is_binary;
 pub use chain::Chain;
-pub use flat_sample::flat_table;
 pub use reason::PackReason;
 pub use row::{
     Constraint, Constraints, Container, EntryPath, Kind, Listing, Part, Parts, TypeRow, TypeRows,
     Used,
 };
-pub use sample::sample_table;
 pub use sequence::Sequence;
 pub use table::TypeTable;
 pub use value::Value;
-
-#[cfg(test)]
-mod tests;
+pub use values::Values;

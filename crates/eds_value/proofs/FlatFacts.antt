@@ -17,7 +17,7 @@ flat_container t id c flat e = go (slice_get t id) refl e
     kinds (kind.Enum form listing) f h = absurd cc
     kinds (kind.Bool form) f h = absurd cc
     kinds (kind.Str form) f h = absurd cc
-    kinds (kind.Bin n) f h = absurd cc
+    kinds (kind.Bin n free) f h = absurd cc
     kinds (kind.Arr item n) f h = absurd cc
     kinds (kind.Con d) f h = let q : d ≡ c = cc in subst (IsFlat t (base_of t id)) q f
 

@@ -12,4 +12,3 @@ pub mod ShownIsRead
 pub mod Named
 pub mod Plains
 pub mod Depths
-pub mod SampleValue

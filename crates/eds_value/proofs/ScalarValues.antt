@@ -55,7 +55,7 @@ IsScalarOf (kind.Int form spans) v = (n : ℤ) × (v ≡ num n) × IsHeld (num n
 IsScalarOf (kind.Enum form listing) v = (l : List ℕ) × (v ≡ label l)
 IsScalarOf (kind.Bool form) v = (b : Bool) × (v ≡ truth b)
 IsScalarOf (kind.Str form) v = ⊥
-IsScalarOf (kind.Bin n) v = ⊥
+IsScalarOf (kind.Bin n free) v = ⊥
 IsScalarOf (kind.Arr item n) v = ⊥
 IsScalarOf (kind.Con c) v = ⊥
 
@@ -64,7 +64,7 @@ kind_value t SpellsInner id (kind.Int form spans) v b keeps s h = (h.0, h.1, num
 kind_value t SpellsInner id (kind.Enum form listing) v b keeps s h = (h.0, h.2)
 kind_value t SpellsInner id (kind.Bool form) v b keeps s h = (h.0, h.1)
 kind_value t SpellsInner id (kind.Str form) v b keeps s h = absurd s
-kind_value t SpellsInner id (kind.Bin n) v b keeps s h = absurd s
+kind_value t SpellsInner id (kind.Bin n free) v b keeps s h = absurd s
 kind_value t SpellsInner id (kind.Arr item n) v b keeps s h = absurd s
 kind_value t SpellsInner id (kind.Con c) v b keeps s h = absurd s
 
@@ -84,6 +84,6 @@ scalar_held (kind.Int form spans) v h = subst IsHeld (sym h.1) h.2
 scalar_held (kind.Enum form listing) v h = subst IsHeld (sym h.1) tt
 scalar_held (kind.Bool form) v h = subst IsHeld (sym h.1) tt
 scalar_held (kind.Str form) v h = absurd h
-scalar_held (kind.Bin n) v h = absurd h
+scalar_held (kind.Bin n free) v h = absurd h
 scalar_held (kind.Arr item n) v h = absurd h
 scalar_held (kind.Con c) v h = absurd h

@@ -44,7 +44,7 @@ scalar_read (kind.Int form spans) v h = ap (λ (w : Plain). scalar_by (kind.Int 
 scalar_read (kind.Enum form listing) v h = ap (λ (w : Plain). scalar_by (kind.Enum form listing) (scalar_data w)) h.1 ∙ ap Some (sym h.1)
 scalar_read (kind.Bool form) v h = ap (λ (w : Plain). scalar_by (kind.Bool form) (scalar_data w)) h.1 ∙ ap Some (sym h.1)
 scalar_read (kind.Str form) v h = absurd h
-scalar_read (kind.Bin n) v h = absurd h
+scalar_read (kind.Bin n free) v h = absurd h
 scalar_read (kind.Arr item n) v h = absurd h
 scalar_read (kind.Con c) v h = absurd h
 
@@ -176,7 +176,7 @@ scalar_shown t (kind.Int form spans) v h = ap (shown t) h.1 ∙ sym (ap scalar_d
 scalar_shown t (kind.Enum form listing) v h = ap (shown t) h.1 ∙ sym (ap scalar_data h.1)
 scalar_shown t (kind.Bool form) v h = ap (shown t) h.1 ∙ sym (ap scalar_data h.1)
 scalar_shown t (kind.Str form) v h = absurd h
-scalar_shown t (kind.Bin n) v h = absurd h
+scalar_shown t (kind.Bin n free) v h = absurd h
 scalar_shown t (kind.Arr item n) v h = absurd h
 scalar_shown t (kind.Con c) v h = absurd h
 
@@ -195,7 +195,7 @@ kind_back t n id (kind.Int form spans) v b rules flat none is keeps h = scalar_b
 kind_back t n id (kind.Enum form listing) v b rules flat none is keeps h = scalar_back t (kind.Enum form listing) v (kind_value t (SpellsWithin n canonical t) id (kind.Enum form listing) v b keeps tt h)
 kind_back t n id (kind.Bool form) v b rules flat none is keeps h = scalar_back t (kind.Bool form) v (kind_value t (SpellsWithin n canonical t) id (kind.Bool form) v b keeps tt h)
 kind_back t n id (kind.Str form) v b rules flat none is keeps h = absurd is
-kind_back t n id (kind.Bin m) v b rules flat none is keeps h = absurd is
+kind_back t n id (kind.Bin m free) v b rules flat none is keeps h = absurd is
 kind_back t n id (kind.Arr item m) v b rules flat none is keeps h = absurd is
 kind_back t n id (kind.Con c) v b rules flat none is keeps h = fields_back t n id h.0 v h.1 b rules flat none h.2 h.3
 
@@ -213,7 +213,7 @@ scalar_all_held (kind.Int form spans) v h = subst AreHeld (sym h.1) h.2
 scalar_all_held (kind.Enum form listing) v h = subst AreHeld (sym h.1) tt
 scalar_all_held (kind.Bool form) v h = subst AreHeld (sym h.1) tt
 scalar_all_held (kind.Str form) v h = absurd h
-scalar_all_held (kind.Bin n) v h = absurd h
+scalar_all_held (kind.Bin n free) v h = absurd h
 scalar_all_held (kind.Arr item n) v h = absurd h
 scalar_all_held (kind.Con c) v h = absurd h
 
@@ -222,7 +222,7 @@ kind_held t n id (kind.Int form spans) v b rules flat is keeps h = scalar_all_he
 kind_held t n id (kind.Enum form listing) v b rules flat is keeps h = scalar_all_held (kind.Enum form listing) v (kind_value t (SpellsWithin n canonical t) id (kind.Enum form listing) v b keeps tt h)
 kind_held t n id (kind.Bool form) v b rules flat is keeps h = scalar_all_held (kind.Bool form) v (kind_value t (SpellsWithin n canonical t) id (kind.Bool form) v b keeps tt h)
 kind_held t n id (kind.Str form) v b rules flat is keeps h = absurd is
-kind_held t n id (kind.Bin m) v b rules flat is keeps h = absurd is
+kind_held t n id (kind.Bin m free) v b rules flat is keeps h = absurd is
 kind_held t n id (kind.Arr item m) v b rules flat is keeps h = absurd is
 kind_held t n id (kind.Con c) v b rules flat is keeps h =
     subst AreHeld (sym h.2) (values_held t (entries_along t h.0) (list_of h.1) (values_of_container t n id h.0 (list_of h.1) b rules flat h.3).values)

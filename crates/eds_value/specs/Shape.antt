@@ -23,7 +23,7 @@ scalar_by (kind.Int form spans) d = option_map num (option_and_then as_integer (
 scalar_by (kind.Enum form listing) d = option_map label (as_str d)
 scalar_by (kind.Bool form) d = option_map truth (as_bool d)
 scalar_by (kind.Str form) d = None
-scalar_by (kind.Bin n) d = None
+scalar_by (kind.Bin n free) d = None
 scalar_by (kind.Arr item n) d = None
 scalar_by (kind.Con c) d = None
 
@@ -106,7 +106,7 @@ shape_by t id (kind.Int form spans) d = or_stop [] (scalar_by (kind.Int form spa
 shape_by t id (kind.Enum form listing) d = or_stop [] (scalar_by (kind.Enum form listing) d)
 shape_by t id (kind.Bool form) d = or_stop [] (scalar_by (kind.Bool form) d)
 shape_by t id (kind.Str form) d = Err []
-shape_by t id (kind.Bin n) d = Err []
+shape_by t id (kind.Bin n free) d = Err []
 shape_by t id (kind.Arr item n) d = Err []
 shape_by t id (kind.Con c) d = fields_in t id d
 

@@ -13,6 +13,3 @@ pub use fail::ValueFail;
 pub use path::path_text;
 pub use read::from_json;
 pub use shown::to_json;
-
-#[cfg(test)]
-mod tests;

@@ -1,6 +1,5 @@
 use mir.Syntax.{w128}
-use mir.Val.{SFits, to_z, of_z}
-use Rattle.std.proofs.Common.{rules, ℤ, ◌≤ℤ◌, ◌<ℤ◌, ◌⊎◌, inl, inr, [], get_or, pos}
+use Rattle.std.proofs.Common.{rules, ◌<ℤ◌, ◌⊎◌, inl, inr, [], get_or, pos}
 use Rattle.std.proofs.lemmas.Int.{to_z-of_z}
 use Rattle.eds_base.specs.declared.spans.Span.{Span}
 use Rattle.eds_base.proofs.SpansLemmas.{walk_on_ours, walk_on_theirs, apart_takes, first_in_both, none_before, max_bounds, le_by_lt_test, ge_by_lt_test, le_by_le_test, gt_by_le_test}

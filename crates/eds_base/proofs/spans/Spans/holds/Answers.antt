@@ -1,9 +1,7 @@
-use mir.Syntax.{w128, w64}
-use mir.Val.{SFits, to_z, of_z}
-use Rattle.std.proofs.Common.{rules, ◌≡◌, ℕ, ◌+◌, ◌*◌, ◌/◌, ◌<◌, length, get_or, Fits, arith, true, pos, ap}
-use Rattle.std.proofs.lemmas.Int.{ints, to_z-of_z}
+use mir.Syntax.{w128}
+use Rattle.std.proofs.Common.{rules, ◌/◌, ◌<◌, length, get_or, arith, pos, ap}
+use Rattle.std.proofs.lemmas.Int.{to_z-of_z}
 use Rattle.std.proofs.lemmas.Bool.Decides.{nat_tests}
-use Rattle.std.specs.Bool.{◌==◌}
 use Rattle.eds_base.specs.declared.spans.Span.{Span}
 use Rattle.eds_base.proofs.SpansLemmas.{narrows_low, narrows_high, in_middle, lt_by_lt_test, ge_by_lt_test}
 use Rattle.eds_base.proofs.spans.Spans.holds.Goals as goal

@@ -1,6 +1,4 @@
-use mir.Syntax.{w128}
-use mir.Val.{SFits}
-use Rattle.std.proofs.Common.{rules, get_or, pos}
+use Rattle.std.proofs.Common.{rules}
 use Rattle.eds_base.proofs.SpansLemmas.{walk_on_ours, walk_on_theirs, le_by_lt_test, ge_by_lt_test}
 use Rattle.eds_base.proofs.spans.Spans.meet.Goals as goal
 

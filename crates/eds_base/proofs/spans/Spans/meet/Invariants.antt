@@ -1,4 +1,4 @@
-use Rattle.std.proofs.Common.{[], length, ◌+◌}
+use Rattle.std.proofs.Common.{length, ◌+◌}
 use Rattle.eds_base.proofs.SpansLemmas.{Walks}
 use Rattle.eds_base.proofs.spans.Spans.meet.Given as goal
 

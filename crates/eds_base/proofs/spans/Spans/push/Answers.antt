@@ -1,8 +1,8 @@
-use Rattle.std.proofs.Common.{rules, ◌≡◌, ℤ, List, ◌≤ℤ◌, ◌<ℤ◌, ◌⊎◌, inl, inr, [], ◌∷◌, ◌++◌, length, ℕ, suc, ◌+◌, ◌-◌, slice_index_or, pos, ◌+ℤ◌, FitsSigned, to_z, of_z, sym, refl, ap, ◌∙◌, subst, arith}
+use Rattle.std.proofs.Common.{◌≡◌, inl, inr, [], ◌∷◌, ◌++◌, length, suc, ◌-◌, slice_index_or, sym, ap, ◌∙◌, subst, arith}
 use Rattle.std.proofs.lemmas.Int.{ints, to_z-of_z}
 use Rattle.std.proofs.lemmas.List.{get_or_default}
 use Rattle.eds_base.specs.declared.spans.Span.{Span}
-use Rattle.eds_base.specs.Spans.{IsWithin, Rises, bottom, top}
+use Rattle.eds_base.specs.Spans.{IsWithin, bottom}
 use Rattle.eds_base.proofs.SpansLemmas.{within_floor, within_top, last_within, last_low, longer_rises, within-longer, within-longer_last, longer-within, EndsApart, rises-append, within-append, within-append_last, append-within, follows_by_test, test_by_follows}
 use Rattle.eds_base.proofs.spans.Spans.push.Goals as goal
 use Rattle.eds_base.proofs.spans.Spans.push.Goals.{else-last-gt0-via-then-last-gt0+else-index-low, else-last-gt0-via-else-last-gt0}

@@ -1,8 +1,6 @@
 use mir.Syntax.{w128}
-use mir.Val.{SFits}
-use Rattle.std.proofs.Common.{rules, ◌≡◌, ℤ, List, ◌≤ℤ◌, ◌<ℤ◌, ◌⊎◌, inl, inr, to_z, of_z, sym, arith}
+use Rattle.std.proofs.Common.{rules, inl, inr, arith}
 use Rattle.std.proofs.lemmas.Int.{ints, to_z-of_z}
-use Rattle.eds_base.specs.Spans.{Lies, IsWithin, Rises, Takes, bottom, top}
 use Rattle.eds_base.proofs.SpansLemmas.{le_by_le_test, gt_by_le_test, max_bounds, min_bounds, takes_nothing}
 use Rattle.eds_base.proofs.spans.Spans.push_common.Goals as goal
 
