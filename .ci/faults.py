@@ -10,7 +10,8 @@ allocation. A read or an opening that fails is a read fault of that file, and ne
 isn't there is told as such; after a write that fails, what was written is a front of the report; where memory is
 refused, nothing is written, or the answer is as ever. The reports are those of the examples.
 
-With --all every example is taken, also in pieces of 1, 3 and 4096 octets; else a few are, which takes seconds.
+With --all every example and every small case is taken, the examples also in pieces of 1, 3 and 4096 octets; else a few are,
+which takes seconds.
 """
 
 import errno
@@ -20,6 +21,9 @@ import subprocess
 import sys
 import tempfile
 from concurrent.futures import ThreadPoolExecutor
+
+sys.dont_write_bytecode = True
+import cases as case_files  # noqa: E402
 
 TOP = os.path.dirname(os.path.dirname(os.path.abspath(__file__)))
 FEW = ["flat/check", "flat/unpack", "flat/pack", "flat/short", "packages/check", "packages/alone"]
@@ -32,7 +36,7 @@ class Example:
 
     def __init__(self, name):
         front = os.path.join(TOP, "examples", name)
-        self.name, self.status = name, 0
+        self.name, self.status, self.folder = name, 0, TOP
         with open(front + ".words", encoding="utf-8") as file:
             self.words = file.read().split()
         with open(front + ".stdout", "rb") as file:
@@ -46,8 +50,32 @@ class Example:
 
     def word_of(self, file):
         """The word that names this file."""
-        path = os.path.realpath(os.path.join(TOP, file))
-        return next(it for it in self.words if os.path.realpath(os.path.join(TOP, it)) == path)
+        path = os.path.realpath(os.path.join(self.folder, file))
+        return next(it for it in self.words if os.path.realpath(os.path.join(self.folder, it)) == path)
+
+
+class Case(Example):
+    """A case of eds_cases in a folder of its own."""
+
+    def __init__(self, file, case, folder):
+        parts, wanted = case["parts"], case.get("today", case)
+        line = case_files.text_of(case["words"], parts)
+        self.name, self.words, self.folder = f"{file}: {line[:80]}", line.split(" ") if line else [], folder
+        self.status, self.report = wanted.get("status", 0), case_files.lines(wanted.get("report", []), parts).encode()
+        for name, content in case["files"].items():
+            with open(os.path.join(folder, name), "wb") as it:
+                it.write(case_files.octets_of(content, parts))
+
+
+def small_cases(room):
+    """The cases whose calls are those of real files, whose files are small and whose words open one."""
+    found = []
+    for file, case in case_files.cases():
+        sizes = [len(case_files.octets_of(it, case["parts"])) for it in case["files"].values()]
+        if not {"reads", "writes"} & set(case) and sum(sizes) < 5000:
+            made = Case(file, case, tempfile.mkdtemp(dir=room))
+            found += [made] if made.status not in (2, 8) else []
+    return found
 
 
 def all_examples():
@@ -98,7 +126,7 @@ def preloaded(program, library, room, example, fault):
     handle, log = tempfile.mkstemp(dir=room)
     os.close(handle)
     told = {"FAULT_" + key: str(value) for key, value in fault.items()}
-    answer = run(program, example.words, dict(told, LD_PRELOAD=library, FAULT_LOG=log))
+    answer = run(program, example.words, dict(told, LD_PRELOAD=library, FAULT_LOG=log), cwd=example.folder)
     with open(log, encoding="utf-8") as file:
         lines = file.read().splitlines()
     os.remove(log)
@@ -124,7 +152,8 @@ def sweeps(example, is_all):
     def no_memory(answer, _file, _at):
         return example.whole() if answer == example.whole() else (6, b"")
 
-    for most in (0, 1, 3, 100, 4096) if is_all else (0, 100):
+    mosts = (0, 100) if isinstance(example, Case) or not is_all else (0, 1, 3, 100, 4096)
+    for most in mosts:
         yield dict(CALL="read", ERROR=errno.EIO, MOST=most), read_fault
     yield dict(CALL="read", ERROR=errno.EIO, FROM=1), read_fault
     for error in (errno.EACCES, errno.EIO, errno.EMFILE):
@@ -167,7 +196,7 @@ def main():
             library = os.path.join(room, "faults.so")
             source = os.path.join(TOP, ".ci", "faults.c")
             subprocess.run(["cc", "-shared", "-fPIC", "-O2", "-o", library, source], check=True)
-            taken = [Example(it) for it in (all_examples() if is_all else FEW)]
+            taken = [Example(it) for it in (all_examples() if is_all else FEW)] + (small_cases(room) if is_all else [])
             todo = [(example, *it) for example in taken for it in sweeps(example, is_all)]
             with ThreadPoolExecutor(os.cpu_count()) as pool:
                 for found in pool.map(lambda it: sweep(program, library, room, *it), todo):

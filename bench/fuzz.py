@@ -5,7 +5,7 @@
 
 PROGRAM is a built program (by default crates/eds_prog/out/eds_prog). Inputs are made from the examples and the cases: octets
 are changed, elements and attributes are moved, doubled, dropped, renamed and given other texts, and frames and values are
-made up. A run must end within two seconds, by no signal, with a status from 0 to 8 and a report that fits it, and must
+made up. A run must end within two seconds of processor time, by no signal, with a status from 0 to 8 and a report that fits it, and must
 write nothing to standard error; and the same words over the same files give the same report again. What doesn't is kept in
 FOLDER (by default fuzz-found), with its words. The last line counts the runs by status. The same seed makes the same
 inputs.
@@ -18,6 +18,8 @@ import json
 import os
 import random
 import re
+import resource
+import signal
 import subprocess
 import sys
 import tempfile
@@ -218,11 +220,15 @@ class Maker:
 
 def run(program, words, room):
     """What came of a run: its status, its report, and what is wrong with them."""
-    try:
-        ran = subprocess.run([program, *words], cwd=room, stdin=subprocess.DEVNULL, capture_output=True, timeout=SECONDS, check=False)
-    except subprocess.TimeoutExpired:
-        return None, b"", f"it had not ended after {SECONDS} seconds"
+
+    def begin():
+        resource.setrlimit(resource.RLIMIT_CPU, (SECONDS, SECONDS))
+        resource.setrlimit(resource.RLIMIT_CORE, (0, 0))
+
+    ran = subprocess.run([program, *words], cwd=room, stdin=subprocess.DEVNULL, capture_output=True, preexec_fn=begin, check=False)
     status, report = ran.returncode, ran.stdout
+    if status in (-signal.SIGKILL, -signal.SIGXCPU):
+        return status, report, f"it had not ended after {SECONDS} seconds"
     if not 0 <= status <= 8:
         return status, report, f"status {status}: {ran.stderr[:2000]!r}"
     if ran.stderr:

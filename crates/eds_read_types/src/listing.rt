@@ -135,7 +135,11 @@ fn values_differ(alloc: Global, entries: &[(Text, i128)]) -> Result<bool, Memory
 
 /// Whether an enumerated type of a form may list these: there is an enumeration, no label or value stands twice, no label is
 /// empty, and the form has all values.
-pub(crate) fn is_listing(alloc: Global, form: IntForm, entries: &[(Text, i128)]) -> Result<bool, Memory>
+pub(crate) fn is_listing(
+    alloc: Global,
+    form: IntForm,
+    entries: &[(Text, i128)],
+) -> Result<bool, Memory>
     ensures { IfOk result (λ b. b ≡ is_listing form entries.now) }
 {
     if entries.is_empty() || !are_entries(form, entries) {
