@@ -1,0 +1,12 @@
+pub mod Once
+pub mod Same
+pub mod Gathering
+pub mod Judging
+pub mod NameLaws
+pub mod NameBreaks
+pub mod Deriving
+pub mod Cycling
+pub mod Endless
+pub mod ReadingFacts
+pub mod InTurn
+pub mod Marking

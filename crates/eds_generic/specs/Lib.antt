@@ -1,0 +1,10 @@
+pub mod Faces
+pub mod Pairs
+pub mod Members
+pub mod Cycles
+pub mod NameRules
+pub mod Resolved
+pub mod Reading
+pub mod Every
+pub mod EachOnce
+pub mod Sameness

@@ -1,0 +1,85 @@
+-- The members of an interface under a map of its generic names.
+use Rattle.std.specs.Prelude.{ℕ, Bool, List, [], ◌∷◌, ◌++◌, map, if◌then◌else◌}
+use Rattle.std.specs.List.{flat_map, list_any}
+use Rattle.eds_base.specs.Reading.{same}
+use Rattle.eds_base.specs.declared.ids.TypeId.{TypeId}
+use Rattle.eds_base.specs.declared.ids.FaceId.{FaceId}
+use Rattle.eds_plan.specs.declared.instance.Argument.{Argument}
+use Rattle.eds_plan.specs.declared.instance.Member.{Member}
+use Rattle.eds_plan.specs.declared.instance.Member.TheVariants as member
+use Rattle.eds_generic.specs.declared.face.Face.{Face}
+use Rattle.eds_generic.specs.declared.face.Generic.{Generic}
+use Rattle.eds_generic.specs.declared.face.Source.{Source}
+use Rattle.eds_generic.specs.declared.face.OwnArgument.{OwnArgument}
+use Rattle.eds_generic.specs.declared.face.OwnMember.{OwnMember}
+use Rattle.eds_generic.specs.declared.face.OwnMember.TheVariants as own_member
+use Rattle.eds_generic.specs.declared.pair.Bound.{Bound}
+use Rattle.eds_generic.specs.declared.pair.Bound.TheVariants as bound
+use Rattle.eds_generic.specs.declared.pair.Further.{Further}
+use Rattle.eds_generic.specs.declared.pair.Pair.{Pair}
+use Rattle.eds_generic.specs.Faces.{generics, own}
+use Rattle.eds_generic.specs.Pairs.{meant, is_generic, gathered, most, put_all}
+
+-- ---- own members, each generic name replaced
+
+-- the first type where there is none; in an interface that is not refused each generic name stands for a type
+abbrev pub id_or_first : Bound → TypeId
+id_or_first bound.Unmapped = record { 0 = 0 }
+id_or_first bound.Unknown = record { 0 = 0 }
+id_or_first (bound.Sort id) = id
+
+abbrev pub type_in : List Bound → Source → TypeId
+type_in types s = id_or_first (meant types s)
+
+abbrev pub argument_of : List Bound → OwnArgument → Argument
+argument_of types a = record { name = a.name; id = type_in types a.source; mode = a.mode }
+
+abbrev pub member_of : List Bound → OwnMember → Member
+member_of types (own_member.Parameter name s read_only) = member.Parameter name (type_in types s) read_only
+member_of types (own_member.Command name arguments) = member.Command name (map (argument_of types) arguments)
+
+-- the own members of an interface under a map
+abbrev pub members_of : List Face → Pair → List Member
+members_of faces p = map (member_of p.types) (own faces p.face.0)
+
+-- ---- all members
+
+-- an interface with all its bases, each under its map, behind its own bases, and each once at its first place
+abbrev pub each_once : List Face → Pair → List Pair
+each_once faces p = put_all [] (gathered (most faces) faces p)
+
+-- the members of an interface under a map: those of its bases in order, and then its own; what comes again from one
+-- declaration under one map counts once, at its first place
+unfoldable pub members : List Face → Pair → List Member
+members faces p = flat_map (members_of faces) (each_once faces p)
+
+-- ---- an interface under a given map
+
+-- what a map says of a generic name, of several of one name the first
+abbrev pub bound_named : List (List ℕ × TypeId) → List ℕ → Bound
+bound_named [] name = bound.Unmapped
+bound_named (m ∷ ms) name = if same m.0 name then bound.Sort m.1 else bound_named ms name
+
+abbrev pub further_named : List Generic → (List ℕ × TypeId) → List Further
+further_named own m = if is_generic own m.0 then [] else record { name = m.0; bound = bound.Sort m.1 } ∷ []
+
+abbrev pub under : List Face → FaceId → List (List ℕ × TypeId) → Pair
+under faces face ms = record {
+  face = face;
+  types = map (λ g. bound_named ms g.name) (generics faces face.0);
+  further = flat_map (further_named (generics faces face.0)) ms;
+}
+
+-- ---- names of members
+
+abbrev pub name_of : Member → List ℕ
+name_of (member.Parameter name id read_only) = name
+name_of (member.Command name arguments) = name
+
+abbrev pub is_name_of : List ℕ → Member → Bool
+is_name_of name m = same (name_of m) name
+
+-- the names that a later member has too, each at its earlier member
+abbrev pub repeated : List Member → List (List ℕ)
+repeated [] = []
+repeated (m ∷ ms) = (if list_any (is_name_of (name_of m)) ms then name_of m ∷ [] else []) ++ repeated ms

@@ -1,0 +1,124 @@
+-- Interfaces under maps of their generic names.
+use Rattle.std.specs.Prelude.{◌≡◌, ℕ, zero, suc, List, [], ◌∷◌, ◌++◌, map, length, Bool, true, false, ◌&&◌, ◌==◌, if◌then◌else◌, Option, Some, None, slice_get}
+use Rattle.std.specs.List.{flat_map, list_any, list_all}
+use Rattle.eds_base.specs.Reading.{same}
+use Rattle.eds_generic.specs.declared.face.Face.{Face}
+use Rattle.eds_generic.specs.declared.face.Base.{Base}
+use Rattle.eds_generic.specs.declared.face.Generic.{Generic}
+use Rattle.eds_generic.specs.declared.face.Mapped.{Mapped}
+use Rattle.eds_generic.specs.declared.face.Source.{Source}
+use Rattle.eds_generic.specs.declared.face.Source.TheVariants as source
+use Rattle.eds_generic.specs.declared.pair.Bound.{Bound}
+use Rattle.eds_generic.specs.declared.pair.Bound.TheVariants as bound
+use Rattle.eds_generic.specs.declared.pair.Further.{Further}
+use Rattle.eds_generic.specs.declared.pair.Pair.{Pair}
+use Rattle.eds_generic.specs.Faces.{generics, bases, mapped}
+
+-- ---- what a name stands for
+
+abbrev pub bound_by : Option Bound → Bound
+bound_by None = bound.Unknown
+bound_by (Some b) = b
+
+-- a generic that stands for nothing has no type that could be handed on
+abbrev pub handed : Bound → Bound
+handed bound.Unmapped = bound.Unknown
+handed bound.Unknown = bound.Unknown
+handed (bound.Sort id) = bound.Sort id
+
+-- a type as an interface names it, where its own generic names stand for these
+abbrev pub meant : List Bound → Source → Bound
+meant types (source.Generic k) = handed (bound_by (slice_get types k))
+meant types (source.Sort id) = bound.Sort id
+
+abbrev pub meant_by : List Bound → Option Source → Bound
+meant_by types None = bound.Unmapped
+meant_by types (Some s) = meant types s
+
+-- ---- the map of a base, rewritten by the outer map
+
+-- what the generic names of a base stand for, in their own order
+abbrev pub bound_types : List Bound → List Mapped → List Generic → List Bound
+bound_types types maps own = map (λ g. meant_by types (mapped maps g.name)) own
+
+abbrev pub is_generic : List Generic → List ℕ → Bool
+is_generic own name = list_any (λ g. same g.name name) own
+
+abbrev pub further_of : List Bound → List Generic → Mapped → List Further
+further_of types own m = if is_generic own m.name then [] else record { name = m.name; bound = meant types m.source } ∷ []
+
+-- a base of an interface under the base's own map, whose types are first replaced by the outer map
+abbrev pub below_by : List Face → List Bound → Base → Pair
+below_by faces types b = record {
+  face = b.face;
+  types = bound_types types b.maps (generics faces b.face.0);
+  further = flat_map (further_of types (generics faces b.face.0)) b.maps;
+}
+
+-- the bases of an interface under a map, in order
+abbrev pub below : List Face → Pair → List Pair
+below faces p = map (below_by faces p.types) (bases faces p.face.0)
+
+-- ---- all that is reached
+
+-- an interface under a map with all its bases, each of them with its own bases before it, over fewer than n steps
+unfoldable pub gathered : ℕ → List Face → Pair → List Pair
+gathered zero faces p = []
+gathered (suc n) faces p = flat_map (gathered n faces) (below faces p) ++ p ∷ []
+
+-- the same with each interface before its bases
+unfoldable pub reached : ℕ → List Face → Pair → List Pair
+reached zero faces p = []
+reached (suc n) faces p = p ∷ flat_map (reached n faces) (below faces p)
+
+-- ---- the ways up
+
+-- all ways from an interface to its bases, their bases and so on end within so many interfaces, itself among them
+unfoldable pub ends_within : ℕ → List Face → ℕ → Bool
+ends_within zero faces f = false
+ends_within (suc n) faces f = list_all (λ (b : Base). ends_within n faces b.face.0) (bases faces f)
+
+-- no way is longer where no interface is its own base
+abbrev pub most : List Face → ℕ
+most faces = suc (suc (length faces))
+
+-- ---- two of one interface under one map
+
+abbrev pub same_bound : Bound → Bound → Bool
+same_bound bound.Unmapped bound.Unmapped = true
+same_bound bound.Unknown bound.Unknown = true
+same_bound (bound.Sort a) (bound.Sort b) = a.0 == b.0
+same_bound _ _ = false
+
+abbrev pub same_types : List Bound → List Bound → Bool
+same_types [] [] = true
+same_types (a ∷ xs) (b ∷ ys) = same_bound a b && same_types xs ys
+same_types _ _ = false
+
+abbrev pub same_further : Further → Further → Bool
+same_further a b = same a.name b.name && same_bound a.bound b.bound
+
+abbrev pub all_within : List Further → List Further → Bool
+all_within more less = list_all (λ f. list_any (same_further f) more) less
+
+-- maps are compared as finite maps: the order of their names is none of their own
+abbrev pub same_pair : Pair → Pair → Bool
+same_pair p q = (p.face.0 == q.face.0) && (same_types p.types q.types && (all_within p.further q.further && all_within q.further p.further))
+
+-- ---- each counts once
+
+abbrev pub is_among : List Pair → Pair → Bool
+is_among found p = list_any (same_pair p) found
+
+-- puts one last, unless it is there
+abbrev pub put : List Pair → Pair → List Pair
+put found p = if is_among found p then found else found ++ p ∷ []
+
+-- the same of some, one after another
+abbrev pub put_all : List Pair → List Pair → List Pair
+put_all found [] = found
+put_all found (p ∷ ps) = put_all (put found p) ps
+
+-- Some interfaces under maps of which each has all its bases among them.
+abbrev pub IsClosed : List Face → List Pair → Type 0
+IsClosed faces found = (p : Pair) → is_among found p ≡ true → list_all (is_among found) (gathered (most faces) faces p) ≡ true

@@ -1,0 +1,101 @@
+//! All interfaces of a sheet.
+
+ghost use Rattle.std.specs.Prelude.{◌≡◌, ◌<◌, ◌^◌, ℕ, length, true, IfOk};
+ghost use Rattle.eds_base.specs.Refusals.{least};
+ghost use Rattle.eds_generic.specs.Pairs.{ends_within, most};
+ghost use Rattle.eds_generic.specs.Every.{own_cycle_at, own_cycles, alone_at as alone_at_in, alone_breaks, interface_breaks};
+
+use crate::cycle::{cycle_of, marked, marks_of};
+use crate::face::Face;
+use crate::resolving::least_here;
+use crate::rules::Asked;
+use eds_base::{FaceId, Memory, Refusal, TypeId};
+use std::alloc::Global;
+
+fn own_cycle(
+    alloc: Global,
+    faces: &[Face],
+    id: usize,
+    face: &Face,
+) -> Result<Option<Refusal>, Memory>
+    requires { id < length faces.now }
+    ensures { IfOk result (λ r. r ≡ least (own_cycle_at faces.now id face.now)) }
+{
+    let marks = marks_of(alloc, faces, id)?;
+    if marked(&marks, id) {
+        Ok(Some(cycle_of(face.place)))
+    } else {
+        Ok(None)
+    }
+}
+
+/// The first interface by place that is its own base.
+fn least_own_cycle(alloc: Global, faces: &[Face]) -> Result<Option<Refusal>, Memory>
+    ensures { IfOk result (λ r. r ≡ least (own_cycles faces.now)) }
+{
+    let mut found = None;
+    for id in 0..faces.len() {
+        let here = own_cycle(alloc, faces, id, &faces[id])?;
+        found = Refusal::first(found, here);
+    }
+    Ok(found)
+}
+
+fn alone_at(
+    alloc: Global,
+    faces: &[Face],
+    types: &[Option<TypeId>],
+    id: u32,
+    face: &Face,
+) -> Result<Option<Refusal>, Memory>
+    requires { ends_within (most faces.now) faces.now id ≡ true }
+    ensures { IfOk result (λ r. r ≡ least (alone_at_in faces.now types.now id face.now)) }
+{
+    match face.generics.as_slice() {
+        [_, ..] => Ok(None),
+        [] => {
+            let asked = Asked {
+                faces,
+                types,
+                at: face.place,
+                face: FaceId(id),
+                given: &[],
+            };
+            least_here(alloc, &asked)
+        }
+    }
+}
+
+/// The first break at an interface without own generic names.
+fn least_alone(
+    alloc: Global,
+    faces: &[Face],
+    types: &[Option<TypeId>],
+) -> Result<Option<Refusal>, Memory>
+    requires few { length faces.now < 2 ^ 32 }
+    requires ends { (f : ℕ) → ends_within (most faces.now) faces.now f ≡ true }
+    ensures { IfOk result (λ r. r ≡ least (alone_breaks faces.now types.now)) }
+{
+    let mut found = None;
+    for id in 0..faces.len() {
+        let here = alone_at(alloc, faces, types, id as u32, &faces[id])?;
+        found = Refusal::first(found, here);
+    }
+    Ok(found)
+}
+
+/// The first rule that the interfaces of a sheet break: one of them is its own base; or, where none is, one without own generic
+/// names breaks a rule under the empty map.
+pub fn judge_faces(
+    alloc: Global,
+    faces: &[Face],
+    types: &[Option<TypeId>],
+) -> Result<Option<Refusal>, Memory>
+    requires { length faces.now < 2 ^ 32 }
+    ensures { IfOk result (λ r. r ≡ least (interface_breaks faces.now types.now)) }
+{
+    match least_own_cycle(alloc, faces)? {
+        Some(refusal) => Ok(Some(refusal)),
+        None => least_alone(alloc, faces, types),
+    }
+}

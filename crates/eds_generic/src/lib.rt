@@ -1,0 +1,21 @@
+//! Interfaces and generic types (CCSDS 876.0-B, declared interfaces): the members that an interface has under a map of its generic
+//! names, and the rules that they keep.
+#![tactic(auto)]
+
+mod cycle;
+mod every;
+mod face;
+mod found;
+mod gather;
+pub mod law;
+mod members;
+mod name_rule;
+mod pair;
+mod read;
+mod resolving;
+mod rules;
+
+pub use every::judge_faces;
+pub use face::{Base, Face, Faces, Generic, Mapped, OwnArgument, OwnMember, Source};
+pub use read::read_faces;
+pub use resolving::resolve_face;

@@ -1,0 +1,239 @@
+//! The members of an interface under a map.
+
+ghost use Rattle.std.specs.Prelude.{◌≡◌, ◌++◌, [], map, option_map, true, IfOk, OnOk};
+ghost use Rattle.std.specs.List.{flat_map, list_any};
+ghost use Rattle.eds_plan.specs.declared.instance.Member.{Member as member};
+ghost use Rattle.eds_generic.specs.Pairs.{ends_within, most};
+ghost use Rattle.eds_generic.specs.Members.{id_or_first as id_or_first_of, type_in as type_in_bounds, argument_of as argument_in, member_of as member_in, members_of, members as members_in, each_once as each_once_in, bound_named as bound_by_name, further_named, under as under_map, name_of as name_in, is_name_of, repeated};
+ghost use Rattle.eds_generic.specs.NameRules.{first};
+
+use crate::face::{Face, Generic, OwnArgument, OwnMember, Source, generics, is_generic, own};
+use crate::found::Found;
+use crate::gather::gather;
+use crate::pair::{Bound, Further, Pair, meant};
+use eds_base::{FaceId, Items, Memory, Text, TypeId};
+use eds_plan::{Argument, Member};
+use std::alloc::Global;
+
+fn id_or_first(bound: Bound) -> TypeId
+    ensures { result ≡ id_or_first_of bound }
+{
+    match bound {
+        Bound::Unmapped => TypeId(0),
+        Bound::Unknown => TypeId(0),
+        Bound::Sort(id) => id,
+    }
+}
+
+fn type_in(types: &[Bound], source: Source) -> TypeId
+    ensures { result ≡ type_in_bounds types.now source }
+{
+    id_or_first(meant(types, source))
+}
+
+fn argument_of(alloc: Global, types: &[Bound], own: &OwnArgument) -> Result<Argument, Memory>
+    ensures { IfOk result (λ a. a ≡ argument_in types.now own.now) }
+{
+    Ok(Argument {
+        name: Text::of(alloc, own.name.as_str())?,
+        id: type_in(types, own.source),
+        mode: own.mode,
+    })
+}
+
+fn arguments_of(
+    alloc: Global,
+    types: &[Bound],
+    own: &[OwnArgument],
+) -> Result<Vec<Argument>, Memory>
+    ensures { IfOk result (λ a. a.items ≡ map (argument_in types.now) own.now) }
+{
+    let mut arguments = Vec::new(alloc);
+    for one in own {
+        let argument = argument_of(alloc, types, one)?;
+        arguments.push(argument)?;
+    }
+    Ok(arguments)
+}
+
+/// An own member, each generic name replaced.
+fn member_of(alloc: Global, types: &[Bound], own: &OwnMember) -> Result<Member, Memory>
+    ensures { IfOk result (λ m. m ≡ member_in types.now own.now) }
+{
+    match own {
+        OwnMember::Parameter(name, source, read_only) => {
+            let name = Text::of(alloc, name.as_str())?;
+            Ok(Member::Parameter(name, type_in(types, *source), *read_only))
+        }
+        OwnMember::Command(name, arguments) => {
+            let name = Text::of(alloc, name.as_str())?;
+            let arguments = arguments_of(alloc, types, arguments.as_slice())?;
+            Ok(Member::Command(name, Items::from_vec(arguments)))
+        }
+    }
+}
+
+fn push_members(
+    alloc: Global,
+    members: &mut Vec<Member>,
+    faces: &[Face],
+    pair: &Pair,
+) -> Result<(), Memory>
+    ensures { OnOk result (members.new.items ≡ members.old.items ++ members_of faces.now pair.now) }
+{
+    for one in own(faces, pair.face) {
+        let member = member_of(alloc, pair.types.as_slice(), one)?;
+        members.push(member)?;
+    }
+    Ok(())
+}
+
+fn each_once(alloc: Global, faces: &[Face], pair: Pair) -> Result<Found, Memory>
+    requires { ends_within (most faces.now) faces.now pair.face.0 ≡ true }
+    ensures { IfOk result (λ ps. ps ≡ each_once_in faces.now pair) }
+{
+    let mut found = Found::new(alloc);
+    let depth = faces.len().checked_add(2);
+    match depth {
+        None => Err(Memory),
+        Some(depth) => {
+            gather(alloc, &mut found, faces, depth, pair)?;
+            Ok(found)
+        }
+    }
+}
+
+fn members_over(alloc: Global, faces: &[Face], pairs: &[Pair]) -> Result<Vec<Member>, Memory>
+    ensures { IfOk result (λ ms. ms.items ≡ flat_map (members_of faces.now) pairs.now) }
+{
+    let mut members = Vec::new(alloc);
+    for one in pairs {
+        push_members(alloc, &mut members, faces, one)?;
+    }
+    Ok(members)
+}
+
+/// The members of an interface under a map: those of its bases in order, and then its own.
+#[tactic(auto, unfolding(crate::specs::Members::members))]
+pub(crate) fn members(alloc: Global, faces: &[Face], pair: Pair) -> Result<Vec<Member>, Memory>
+    requires { ends_within (most faces.now) faces.now pair.face.0 ≡ true }
+    ensures { IfOk result (λ ms. ms.items ≡ members_in faces.now pair) }
+{
+    let pairs = each_once(alloc, faces, pair)?;
+    members_over(alloc, faces, pairs.as_slice())
+}
+
+fn bound_named(given: &[(Text, TypeId)], name: &str) -> Bound
+    ensures { result ≡ bound_by_name given.now name.now }
+{
+    let mut rest = given;
+    while let [one, after @ ..] = rest {
+        if one.0.as_str() == name {
+            return Bound::Sort(one.1);
+        }
+        rest = after;
+    }
+    Bound::Unmapped
+}
+
+fn push_further(
+    alloc: Global,
+    further: &mut Vec<Further>,
+    generics: &[Generic],
+    one: &(Text, TypeId),
+) -> Result<(), Memory>
+    ensures { OnOk result (further.new.items ≡ further.old.items ++ further_named generics.now one.now) }
+{
+    if is_generic(generics, one.0.as_str()) {
+        return Ok(());
+    }
+    let name = Text::of(alloc, one.0.as_str())?;
+    further.push(Further {
+        name,
+        bound: Bound::Sort(one.1),
+    })?;
+    Ok(())
+}
+
+fn further_names(
+    alloc: Global,
+    generics: &[Generic],
+    given: &[(Text, TypeId)],
+) -> Result<Vec<Further>, Memory>
+    ensures { IfOk result (λ f. f.items ≡ flat_map (further_named generics.now) given.now) }
+{
+    let mut further = Vec::new(alloc);
+    for one in given {
+        push_further(alloc, &mut further, generics, one)?;
+    }
+    Ok(further)
+}
+
+fn bounds(
+    alloc: Global,
+    generics: &[Generic],
+    given: &[(Text, TypeId)],
+) -> Result<Vec<Bound>, Memory>
+    ensures { IfOk result (λ b. b.items ≡ map (λ g. bound_by_name given.now g.name) generics.now) }
+{
+    let mut bounds = Vec::new(alloc);
+    for generic in generics {
+        bounds.push(bound_named(given, generic.name.as_str()))?;
+    }
+    Ok(bounds)
+}
+
+/// An interface under a given map.
+pub(crate) fn under(
+    alloc: Global,
+    faces: &[Face],
+    face: FaceId,
+    given: &[(Text, TypeId)],
+) -> Result<Pair, Memory>
+    ensures { IfOk result (λ p. p ≡ under_map faces.now face given.now) }
+{
+    let generics = generics(faces, face);
+    let types = bounds(alloc, generics, given)?;
+    let further = further_names(alloc, generics, given)?;
+    Ok(Pair {
+        face,
+        types: Items::from_vec(types),
+        further: Items::from_vec(further),
+    })
+}
+
+fn name_of(member: &Member) -> &str
+    ensures { result.now ≡ name_in member.now }
+{
+    match member {
+        Member::Parameter(name, _, _) => name.as_str(),
+        Member::Command(name, _) => name.as_str(),
+    }
+}
+
+fn has_name(members: &[Member], name: &str) -> bool
+    ensures { result ≡ list_any (is_name_of name.now) members.now }
+{
+    let mut rest = members;
+    while let [one, after @ ..] = rest {
+        if name_of(one) == name {
+            return true;
+        }
+        rest = after;
+    }
+    false
+}
+
+/// The name of the first member of which a later one has the name too.
+pub(crate) fn first_repeated(members: &[Member]) -> Option<&str>
+    ensures { option_map (λ n. n.now) result ≡ first (repeated members.now) }
+{
+    let mut rest = members;
+    while let [one, after @ ..] = rest {
+        if has_name(after, name_of(one)) {
+            return Some(name_of(one));
+        }
+        rest = after;
+    }
+    None
+}

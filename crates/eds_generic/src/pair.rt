@@ -1,0 +1,269 @@
+//! Interfaces under maps of their generic names.
+
+ghost use Rattle.std.specs.Prelude.{◌≡◌, ◌++◌, IfOk, OnOk};
+ghost use Rattle.eds_generic.specs.Pairs.{meant as meant_in, meant_by, bound_types as bound_types_in, further_of, below_by as below_by_base, same_bound as is_same_bound, same_types as are_same_types, same_further as is_same_further, all_within as are_within, same_pair as is_same_pair};
+ghost use Rattle.eds_generic.specs.Sameness.{bound_input, pair_input, pairs_alike, same_pair-is, same_pair-partial};
+ghost use Rattle.std.proofs.Common.{rules};
+ghost use Rattle.std.specs.Cmp.Rules.{hashing};
+ghost use Rattle.std.specs.List.{flat_map, list_any};
+
+use crate::face::{Base, Face, Generic, Mapped, Source, bases, generics, is_generic, source_named};
+use eds_base::{FaceId, Items, Memory, Text, TypeId};
+use std::alloc::Global;
+use std::hash::{Hash, Hasher};
+
+/// What a generic name stands for.
+#[derive(Clone, Copy, PartialEq, Eq)]
+pub enum Bound {
+    /// It is not in the map.
+    Unmapped,
+    /// It stands for a generic name that stands for nothing itself.
+    Unknown,
+    Sort(TypeId),
+}
+
+/// A name in a map that is no generic name of the interface.
+#[derive(Drop)]
+pub struct Further {
+    pub name: Text,
+    pub bound: Bound,
+}
+
+/// An interface under a map.
+#[derive(Drop)]
+pub struct Pair {
+    pub face: FaceId,
+    /// What its generic names stand for, in their order.
+    pub types: Items<Bound>,
+    /// The further names of the map, in their order.
+    pub further: Items<Further>,
+}
+
+/// A type as an interface names it, where its own generic names stand for these.
+pub(crate) fn meant(types: &[Bound], source: Source) -> Bound
+    ensures { result ≡ meant_in types.now source }
+{
+    match source {
+        Source::Sort(id) => Bound::Sort(id),
+        Source::Generic(k) => match types.get(k) {
+            None => Bound::Unknown,
+            Some(Bound::Unmapped) => Bound::Unknown,
+            Some(Bound::Unknown) => Bound::Unknown,
+            Some(Bound::Sort(id)) => Bound::Sort(*id),
+        },
+    }
+}
+
+fn meant_where(types: &[Bound], source: Option<Source>) -> Bound
+    ensures { result ≡ meant_by types.now source }
+{
+    match source {
+        None => Bound::Unmapped,
+        Some(source) => meant(types, source),
+    }
+}
+
+/// What the generic names of a base stand for under the base's map and the outer one.
+fn bound_types(
+    alloc: Global,
+    types: &[Bound],
+    maps: &[Mapped],
+    generics: &[Generic],
+) -> Result<Vec<Bound>, Memory>
+    ensures { IfOk result (λ b. b.items ≡ bound_types_in types.now maps.now generics.now) }
+{
+    let mut bound = Vec::new(alloc);
+    for generic in generics {
+        let source = source_named(maps, generic.name.as_str());
+        bound.push(meant_where(types, source))?;
+    }
+    Ok(bound)
+}
+
+fn push_further(
+    alloc: Global,
+    further: &mut Vec<Further>,
+    types: &[Bound],
+    generics: &[Generic],
+    one: &Mapped,
+) -> Result<(), Memory>
+    ensures { OnOk result (further.new.items ≡ further.old.items ++ further_of types.now generics.now one.now) }
+{
+    if is_generic(generics, one.name.as_str()) {
+        return Ok(());
+    }
+    let name = Text::of(alloc, one.name.as_str())?;
+    further.push(Further {
+        name,
+        bound: meant(types, one.source),
+    })?;
+    Ok(())
+}
+
+fn further_names(
+    alloc: Global,
+    types: &[Bound],
+    maps: &[Mapped],
+    generics: &[Generic],
+) -> Result<Vec<Further>, Memory>
+    ensures { IfOk result (λ f. f.items ≡ flat_map (further_of types.now generics.now) maps.now) }
+{
+    let mut further = Vec::new(alloc);
+    for one in maps {
+        push_further(alloc, &mut further, types, generics, one)?;
+    }
+    Ok(further)
+}
+
+/// A base under its own map, whose types are first replaced by the outer map.
+pub(crate) fn below_by(
+    alloc: Global,
+    faces: &[Face],
+    types: &[Bound],
+    base: &Base,
+) -> Result<Pair, Memory>
+    ensures { IfOk result (λ p. p ≡ below_by_base faces.now types.now base.now) }
+{
+    let generics = generics(faces, base.face);
+    let bound = bound_types(alloc, types, base.maps.as_slice(), generics)?;
+    let further = further_names(alloc, types, base.maps.as_slice(), generics)?;
+    Ok(Pair {
+        face: base.face,
+        types: Items::from_vec(bound),
+        further: Items::from_vec(further),
+    })
+}
+
+/// How many places for types the bases of an interface have: one for each generic name and for each name of a map.
+pub(crate) fn places_of(faces: &[Face], face: FaceId) -> u64 {
+    let mut places = 1u64;
+    for base in bases(faces, face) {
+        let own = generics(faces, base.face).len() as u64;
+        let named = base.maps.len() as u64;
+        places = places
+            .saturating_add(own)
+            .saturating_add(named)
+            .saturating_add(1);
+    }
+    places
+}
+
+fn same_bound(one: Bound, other: Bound) -> bool
+    ensures { result ≡ is_same_bound one other }
+{
+    match one {
+        Bound::Unmapped => match other {
+            Bound::Unmapped => true,
+            _ => false,
+        },
+        Bound::Unknown => match other {
+            Bound::Unknown => true,
+            _ => false,
+        },
+        Bound::Sort(a) => match other {
+            Bound::Sort(b) => a.0 == b.0,
+            _ => false,
+        },
+    }
+}
+
+fn same_types(one: &[Bound], other: &[Bound]) -> bool
+    ensures { result ≡ are_same_types one.now other.now }
+{
+    let mut left = one;
+    let mut right = other;
+    while let [a, after @ ..] = left {
+        match right {
+            [] => return false,
+            [b, behind @ ..] => {
+                if !same_bound(*a, *b) {
+                    return false;
+                }
+                left = after;
+                right = behind;
+            }
+        }
+    }
+    match right {
+        [] => true,
+        [_, ..] => false,
+    }
+}
+
+fn is_held(further: &[Further], one: &Further) -> bool
+    ensures { result ≡ list_any (is_same_further one.now) further.now }
+{
+    let mut rest = further;
+    while let [other, after @ ..] = rest {
+        if one.name.as_str() == other.name.as_str() && same_bound(one.bound, other.bound) {
+            return true;
+        }
+        rest = after;
+    }
+    false
+}
+
+fn all_within(more: &[Further], less: &[Further]) -> bool
+    ensures { result ≡ are_within more.now less.now }
+{
+    let mut rest = less;
+    while let [one, after @ ..] = rest {
+        if !is_held(more, one) {
+            return false;
+        }
+        rest = after;
+    }
+    true
+}
+
+/// Whether two are one interface under one map: the order of a map's names is none of its own.
+pub(crate) fn same_pair(one: &Pair, other: &Pair) -> bool
+    ensures { result ≡ is_same_pair one.now other.now }
+{
+    one.face.0 == other.face.0
+        && same_types(one.types.as_slice(), other.types.as_slice())
+        && all_within(one.further.as_slice(), other.further.as_slice())
+        && all_within(other.further.as_slice(), one.further.as_slice())
+}
+
+impl Hash for Bound {
+    ghost hash_input = { bound_input };
+
+    ghost respects_eq = { Prim.search (hashing, rules) };
+
+    fn hash<H: Hasher>(&self, state: &mut H) {
+        match self {
+            Bound::Unmapped => state.write_u8(0),
+            Bound::Unknown => state.write_u8(1),
+            Bound::Sort(id) => {
+                state.write_u8(2);
+                state.write_u32(id.0);
+            }
+        }
+    }
+}
+
+impl PartialEq for Pair {
+    ghost eq = { is_same_pair };
+
+    ghost laws = { same_pair-partial };
+
+    fn eq(&self, other: &Pair) -> bool {
+        same_pair(self, other)
+    }
+}
+
+impl Eq for Pair {
+    ghost laws = { same_pair-is };
+}
+
+impl Hash for Pair {
+    ghost hash_input = { pair_input };
+
+    ghost respects_eq = { pairs_alike };
+
+    fn hash<H: Hasher>(&self, state: &mut H) {
+        state.write_u32(self.face.0);
+        self.types.as_slice().hash(state);
+    }
+}

@@ -1,0 +1,125 @@
+//! An interface resolved.
+
+ghost use Rattle.std.specs.Prelude.{◌≡◌, ◌++◌, true, map, option_map, IfOk};
+ghost use Rattle.eds_base.specs.Answering.{Answers};
+ghost use Rattle.eds_base.specs.Refusals.{least};
+ghost use Rattle.eds_generic.specs.Pairs.{ends_within, most};
+ghost use Rattle.eds_generic.specs.Members.{members as members_in, under as under_map};
+ghost use Rattle.eds_generic.specs.NameRules.{duplicates_of, limit_of};
+ghost use Rattle.eds_generic.specs.Resolved.{breaks_given, pair_breaks, unless, instance_of, resolved};
+
+use crate::cycle::least_cycle;
+use crate::face::Face;
+use crate::members::{first_repeated, members, under};
+use crate::rules::{
+    Asked, copied, keeping, keeping_where, least_generic_base, least_unknown, least_unmapped,
+};
+use eds_base::{FaceId, Fail, Items, Memory, Place, Refusal, Rule, Text, TypeId};
+use eds_plan::{Instance, Member, TypeMap};
+use std::alloc::Global;
+
+/// More than 1,024 members.
+fn least_limit(alloc: Global, at: Place, members: &[Member]) -> Result<Option<Refusal>, Memory>
+    ensures { IfOk result (λ r. r ≡ least (limit_of at members.now)) }
+{
+    if members.len() > 1024 {
+        let word = Text::of(alloc, "members")?;
+        Ok(Some(keeping(Rule::Limit, at, word)))
+    } else {
+        Ok(None)
+    }
+}
+
+/// The first member of which a later one has the name too.
+fn least_duplicate(alloc: Global, at: Place, members: &[Member]) -> Result<Option<Refusal>, Memory>
+    ensures { IfOk result (λ r. r ≡ least (duplicates_of at members.now)) }
+{
+    let word = copied(alloc, first_repeated(members))?;
+    Ok(keeping_where(Rule::DuplicateMember, at, word))
+}
+
+/// The first break of the rules on generic names and on members.
+fn least_break(alloc: Global, asked: &Asked, members: &[Member]) -> Result<Option<Refusal>, Memory>
+    requires { ends_within (most asked.now.faces.now) asked.now.faces.now asked.now.face.0 ≡ true }
+    ensures { IfOk result (λ r. r ≡ least (breaks_given asked.now.faces.now asked.now.types.now asked.now.at (under_map asked.now.faces.now asked.now.face asked.now.given.now) members.now)) }
+{
+    let limit = least_limit(alloc, asked.at, members)?;
+    let duplicate = least_duplicate(alloc, asked.at, members)?;
+    let unmapped = least_unmapped(alloc, asked)?;
+    let unknown = least_unknown(alloc, asked)?;
+    let generic = least_generic_base(alloc, asked)?;
+    let found = Refusal::first(limit, duplicate);
+    let found = Refusal::first(found, unmapped);
+    let found = Refusal::first(found, unknown);
+    Ok(Refusal::first(found, generic))
+}
+
+fn copied_map(alloc: Global, given: &[(Text, TypeId)]) -> Result<TypeMap, Memory>
+    ensures { IfOk result (λ m. m ≡ given.now) }
+{
+    let mut copy = Vec::new(alloc);
+    for one in given {
+        let name = Text::of(alloc, one.0.as_str())?;
+        copy.push((name, one.1))?;
+    }
+    Ok(Items::from_vec(copy))
+}
+
+/// The first break of the rules on generic names and on members, at an interface whose members are not known yet.
+pub(crate) fn least_here(alloc: Global, asked: &Asked) -> Result<Option<Refusal>, Memory>
+    requires { ends_within (most asked.now.faces.now) asked.now.faces.now asked.now.face.0 ≡ true }
+    ensures { IfOk result (λ r. r ≡ least (pair_breaks asked.now.faces.now asked.now.types.now asked.now.at (under_map asked.now.faces.now asked.now.face asked.now.given.now))) }
+{
+    let pair = under(alloc, asked.faces, asked.face, asked.given)?;
+    let members = members(alloc, asked.faces, pair)?;
+    least_break(alloc, asked, &members)
+}
+
+fn resolve_acyclic(alloc: Global, asked: &Asked) -> Result<Instance, Fail<Refusal>>
+    requires { ends_within (most asked.now.faces.now) asked.now.faces.now asked.now.face.0 ≡ true }
+    ensures { Answers (λ i. i) result (unless (least (pair_breaks asked.now.faces.now asked.now.types.now asked.now.at (under_map asked.now.faces.now asked.now.face asked.now.given.now))) (instance_of asked.now.faces.now asked.now.face asked.now.given.now)) }
+{
+    let pair = under(alloc, asked.faces, asked.face, asked.given)?;
+    let members = members(alloc, asked.faces, pair)?;
+    match least_break(alloc, asked, &members)? {
+        Some(refusal) => Err(Fail::Named(refusal)),
+        None => {
+            let map = copied_map(alloc, asked.given)?;
+            Ok(Instance {
+                face: asked.face,
+                map,
+                members: Items::from_vec(members),
+            })
+        }
+    }
+}
+
+/// The members of an interface under a map of its generic names, or the first rule that is broken: an interface among it and its
+/// bases is its own base; there are more than 1,024 members, two members have one name, a generic name is in no map, a map names
+/// what is no generic name of its interface, or a generic name stands for a type that it does not admit. For each type the one is
+/// given that it derives from. A refusal stands at the place `at`, but that of an interface which is its own base stands there.
+#[tactic(auto, unfolding(crate::specs::Resolved::resolved))]
+pub fn resolve_face(
+    alloc: Global,
+    faces: &[Face],
+    types: &[Option<TypeId>],
+    at: Place,
+    face: FaceId,
+    given: &[(Text, TypeId)],
+) -> Result<Instance, Fail<Refusal>>
+    ensures { Answers (λ i. i) result (resolved faces.now types.now at face given.now) }
+{
+    match least_cycle(alloc, faces, face)? {
+        Some(refusal) => Err(Fail::Named(refusal)),
+        None => {
+            let asked = Asked {
+                faces,
+                types,
+                at,
+                face,
+                given,
+            };
+            resolve_acyclic(alloc, &asked)
+        }
+    }
+}
