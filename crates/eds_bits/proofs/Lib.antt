@@ -7,3 +7,5 @@ pub mod Decimals
 pub mod PatternLaws
 pub mod FormLaws
 pub mod CheckLaws
+pub mod Shifts
+pub mod TextLaws

@@ -1,6 +1,6 @@
 -- The octets around some bits.
 use Rattle.std.proofs.Common.{◌≡◌, ℕ, ◌+◌, ◌-◌, ◌*◌, ◌/◌, ◌%◌, ◌^◌, ◌<◌, ◌≤◌, List, [], ◌∷◌, ◌++◌, length, get_or, set, take, drop, bit_or, refl, sym, ◌∙◌, ap, arith, length-drop, length-take}
-use Rattle.std.proofs.lemmas.List.{take_more, take_more_set, take-take, drop-drop, drop-take, append-nil, take-append-drop}
+use Rattle.std.proofs.lemmas.List.{take_more, take_more_set, take-take, drop-drop, drop-take, append-nil, take_all, take-append-drop}
 use Rattle.std.proofs.lemmas.Nat.{or_shifted, shr-shr, shr_split, shr_le, shl_whole, mod_below, pow_pos}
 use borrow.Rule.Slice.PartMut.{put_mid}
 use Rattle.std.proofs.Math.Nat.{pow-le-pow_right, mod-eq_of_lt}
@@ -28,21 +28,39 @@ octet_step os i o h few e small =
 pub window_bits : (os : List ℕ) (first last : ℕ) → bits_of (take (last - first) (drop first os)) ≡ take (8 * (last - first)) (drop (8 * first) (bits_of os))
 window_bits os first last = sym (take-bits_of (last - first) (drop first os)) ∙ ap (take (8 * (last - first))) (sym (drop-bits_of first os))
 
--- n bits from bit `at` on, out of the number of the window around them
+-- n bits from bit `at` on are in the window around them
+pub window_same : (os : List ℕ) (at n first last pad : ℕ) → 8 * first ≤ at → at + n + pad ≡ 8 * last → take n (drop (at - 8 * first) (bits_of (take (last - first) (drop first os)))) ≡ take n (drop at (bits_of os))
+window_same os at n first last pad start end =
+    let skip : ℕ = at - 8 * first in
+    let bits : Bits = bits_of os in
+    let size : 8 * (last - first) ≡ skip + (n + pad) = omega arith in
+    let place : 8 * first + skip ≡ at = omega arith in
+    ap (λ r. take n (drop skip r)) (window_bits os first last ∙ ap (λ k. take k (drop (8 * first) bits)) size)
+    ∙ ap (take n) (drop-take skip (n + pad) (drop (8 * first) bits))
+    ∙ take-take n (n + pad) (drop skip (drop (8 * first) bits)) (omega arith)
+    ∙ ap (take n) (drop-drop skip (8 * first) bits ∙ ap (λ k. drop k bits) place)
+
+-- their number, out of that of the window
 pub window_part : (os : List ℕ) (at n first last pad w : ℕ) → 8 * first ≤ at → at + n + pad ≡ 8 * last → last ≤ length os → w ≡ unsigned_of (bits_of (take (last - first) (drop first os))) → w / 2 ^ pad % 2 ^ n ≡ unsigned_of (take n (drop at (bits_of os)))
 window_part os at n first last pad w start end within e =
     let skip : ℕ = at - 8 * first in
     let octets : List ℕ = take (last - first) (drop first os) in
     let l : length (bits_of octets) ≡ skip + n + pad = omega (arith, length-bits_of octets, length-take (last - first) (drop first os), length-drop first os) in
-    let bits : Bits = bits_of os in
-    let size : 8 * (last - first) ≡ skip + (n + pad) = omega arith in
-    let place : 8 * first + skip ≡ at = omega arith in
-    let same : take n (drop skip (bits_of octets)) ≡ take n (drop at bits) =
-    ap (λ r. take n (drop skip r)) (window_bits os first last ∙ ap (λ k. take k (drop (8 * first) bits)) size)
-    ∙ ap (take n) (drop-take skip (n + pad) (drop (8 * first) bits))
-    ∙ take-take n (n + pad) (drop skip (drop (8 * first) bits)) (omega arith)
-    ∙ ap (take n) (drop-drop skip (8 * first) bits ∙ ap (λ k. drop k bits) place) in
-    ap (λ x. x / 2 ^ pad % 2 ^ n) e ∙ unsigned-part skip n pad (bits_of octets) l ∙ ap unsigned_of same
+    ap (λ x. x / 2 ^ pad % 2 ^ n) e ∙ unsigned-part skip n pad (bits_of octets) l ∙ ap unsigned_of (window_same os at n first last pad start end)
+
+-- from a whole octet on the bits are those of the octets
+pub rest_octets : (os : List ℕ) (at : ℕ) → at % 8 ≡ 0 → drop at (bits_of os) ≡ bits_of (take (length os - at / 8) (drop (at / 8) os))
+rest_octets os at e =
+    let place : at ≡ 8 * (at / 8) = omega arith in
+    ap (λ k. drop k (bits_of os)) place ∙ drop-bits_of (at / 8) os
+    ∙ ap bits_of (sym (take_all (length os - at / 8) (drop (at / 8) os) (omega (arith, length-drop (at / 8) os))))
+
+-- the octets from a whole one on
+pub whole_part : (os : List ℕ) (at count : ℕ) → at % 8 ≡ 0 → bits_of (take (at / 8 + count - at / 8) (drop (at / 8) os)) ≡ take (8 * count) (drop at (bits_of os))
+whole_part os at count e =
+    let place : 8 * (at / 8) ≡ at = omega arith in
+    let size : 8 * (at / 8 + count - at / 8) ≡ 8 * count = omega arith in
+    window_bits os (at / 8) (at / 8 + count) ∙ ap (λ k. take k (drop (8 * (at / 8)) (bits_of os))) size ∙ ap (λ k. take (8 * count) (drop k (bits_of os))) place
 
 -- ---- the octets of a number, one after the other
 
@@ -97,3 +115,9 @@ window_put os new at n first last pad w v start end within order fits e written 
     let inside : skip + length (low_bits n v) ≤ length (bits_of octets) = omega (arith, length-low n v) in
     bits_of-append (take first os) (new ++ rest) ∙ ap (λ r. front ++ r) (bits_of-append new rest ∙ ap (λ r. r ++ bits_of rest) part)
     ∙ sym (with_piece-within at skip front (bits_of octets) (bits_of rest) (low_bits n v) place inside) ∙ ap (with_piece at (low_bits n v)) (sym whole)
+
+-- whole octets from any bit on, in the window around them
+pub shifted_window : (os : List ℕ) (at count skip first last : ℕ) → at ≡ 8 * first + skip → skip ≤ 8 → last ≡ first + count + 1 → take (8 * count) (drop skip (bits_of (take (last - first) (drop first os)))) ≡ take (8 * count) (drop at (bits_of os))
+shifted_window os at count skip first last place small e =
+    let same : skip ≡ at - 8 * first = omega arith in
+    ap (λ k. take (8 * count) (drop k (bits_of (take (last - first) (drop first os))))) same ∙ window_same os at (8 * count) first last (8 - skip) (omega arith) (omega arith)

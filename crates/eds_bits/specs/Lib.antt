@@ -6,3 +6,4 @@ pub mod Style
 pub mod IntForms
 pub mod Scalars
 pub mod Vectors
+pub mod Texts

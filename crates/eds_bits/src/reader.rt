@@ -1,8 +1,10 @@
 //! Reading bits of octets, the most significant first.
 
-ghost use Rattle.std.specs.Prelude.{◌≡◌, ◌+◌, ◌*◌, ◌/◌, ◌%◌, ◌^◌, ◌<◌, ◌≤◌, ◌↔◌, length, drop, take, IsNone, IfSome, OnSome, IfNone};
+ghost use Rattle.std.specs.Prelude.{◌≡◌, ◌+◌, ◌*◌, ◌/◌, ◌%◌, ◌^◌, ◌<◌, ◌≤◌, ◌↔◌, length, drop, take, IsNone, IsSome, IsTrue, IfSome, OnSome, IfNone};
+ghost use Rattle.std.specs.Bool.{OnTrue, OnFalse};
 ghost use Rattle.eds_bits.specs.Bits.{bits_of, unsigned_of};
 
+use crate::octets::shift_into;
 use crate::window::{Window, lowest, number_of};
 
 /// The bits of some octets from one of them on, lent.
@@ -49,6 +51,7 @@ impl<'a> BitView<'a> {
 
 impl<'a> BitReader<'a> {
     ghost use Rattle.eds_bits.specs.Reader.{view_bits, bits_left};
+    ghost use Rattle.eds_bits.specs.Texts.{front_octets};
 
     /// A reader before the first bit of a view.
     pub fn new(view: BitView<'a>) -> BitReader<'a>
@@ -87,6 +90,47 @@ impl<'a> BitReader<'a> {
         self.at += u64::from(n);
         Some(value)
     }
+
+    /// The octets that are left, lent. `None` exactly where the reader does not stand at a whole octet.
+    #[tactic(auto, using(crate::proofs::OctetLaws::length_after))]
+    pub fn octets(&self) -> Option<&'a [u8]>
+        ensures whole { IsSome result ↔ (length (bits_left self.now) % 8 ≡ 0) }
+        ensures value { IfSome result (λ octets. bits_left self.now ≡ bits_of octets.now) }
+    {
+        if self.at % 8 == 0 {
+            Some(&self.octets[(self.at / 8) as usize..])
+        } else {
+            None
+        }
+    }
+
+    /// Moves on by `n` bits. So many must be left.
+    #[tactic(auto, using(crate::proofs::OctetLaws::length_after))]
+    pub fn skip(&mut self, n: u64)
+        requires { n ≤ length (bits_left self.old) }
+        ensures { bits_left self.new ≡ drop n (bits_left self.old) }
+    {
+        self.at += n;
+    }
+
+    /// Fills the room with the next bits, eight for each octet, which the reader then has passed. `false` where fewer are
+    /// left: the reader then stays where it is, and the room is unchanged.
+    #[tactic(auto, using(crate::proofs::OctetLaws::length_after))]
+    pub fn take_octets(&mut self, room: &mut [u8]) -> bool
+        ensures enough { IsTrue result ↔ (8 * length room.old ≤ length (bits_left self.old)) }
+        ensures value { OnTrue result (room.new ≡ front_octets (length room.old) (bits_left self.old)) }
+        ensures after { OnTrue result (bits_left self.new ≡ drop (8 * length room.old) (bits_left self.old)) }
+        ensures few { OnFalse result (length (bits_left self.old) < 8 * length room.old) }
+        ensures same { OnFalse result (bits_left self.new ≡ bits_left self.old) }
+        ensures same_room { OnFalse result (room.new ≡ room.old) }
+    {
+        if self.left() / 8 < room.len() as u64 {
+            return false;
+        }
+        octets_at(self.octets, self.at, room);
+        self.at += 8 * room.len() as u64;
+        true
+    }
 }
 
 // The number of the n bits from bit `at` on.
@@ -100,4 +144,20 @@ fn number_at(octets: &[u8], at: u64, n: u32) -> u64
     let window = Window::around(at, n);
     let number = number_of(&octets[window.first..window.last]);
     lowest(number >> window.pad, n) as u64
+}
+
+// Fills the room with the bits from bit `at` on.
+fn octets_at(octets: &[u8], at: u64, room: &mut [u8])
+    requires few { length octets.now ≤ 2 ^ 32 }
+    requires within { at + 8 * length room.old ≤ 8 * length octets.now }
+    ensures { bits_of room.new ≡ take (8 * length room.old) (drop at (bits_of octets.now)) }
+{
+    let first = (at / 8) as usize;
+    let skip = (at % 8) as u32;
+    let last = first + room.len();
+    if skip == 0 {
+        room.copy_from_slice(&octets[first..last]);
+    } else {
+        shift_into(room, &octets[first..last + 1], skip);
+    }
 }

@@ -1,1 +1,4 @@
 pub mod Booleans
+pub mod Binaries
+pub mod Blocks
+pub mod Texts

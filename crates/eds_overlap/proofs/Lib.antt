@@ -5,6 +5,7 @@ pub mod ContainerReading
 pub mod Choices
 pub mod ReadingLaws
 pub mod CourseLaws
+pub mod Bounds
 pub mod Theorems
 pub mod Concrete
 pub mod ExampleRules

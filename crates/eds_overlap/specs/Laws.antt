@@ -2,15 +2,15 @@
 use Rattle.std.specs.Prelude.{◌≡◌, ◌↔◌, ℕ, ◌<◌, ◌≤◌, List, ◌++◌, length, Ok, Err, ◌⊎◌}
 use Rattle.eds_base.specs.declared.fault.Reason.TheVariants.{Short}
 use Rattle.eds_bits.specs.Bits.{Bits}
-use Rattle.eds_bits.specs.Style.{any}
-use Rattle.eds_types.specs.Failing.{course, Passes, Where, FailsAt}
+use Rattle.eds_bits.specs.Style.{Style, any}
+use Rattle.eds_types.specs.Failing.{course, Passes, Where, FailsWithin, FailsAt}
 use Rattle.eds_types.specs.Fields.{values_of, IsAtOrUnder}
 pub use Rattle.eds_types.specs.Laws.{IsThere, OneSize, HasCanonical, OneCanonical, LeastIsLeast, EmptyTypes, PacksOrFails, PackingIsDecided}
 use Rattle.eds_types.specs.Overlap.{IsClear}
 use Rattle.eds_types.specs.Packing.{Where as PackWhere, most_bits, PackFailsAt}
 use Rattle.eds_types.specs.Plain.{Plain, Plains, fields, list_of}
 use Rattle.eds_types.specs.Reading.{Read, read_within}
-use Rattle.eds_types.specs.Rows.{Table}
+use Rattle.eds_types.specs.Rows.{Table, chain, chain_within}
 use Rattle.eds_types.specs.Rules.{IsContainer, KeepsRules}
 use Rattle.eds_types.specs.Spelling.{Progress, started, SpellsWithin, Spells, Canon}
 
@@ -69,6 +69,17 @@ pub record PassesCourse (t : Table) (SpellsInner : ℕ → Plain → Bits → Ty
 -- tail the one size that fits, and tries constraints and choices as soon as it meets them
 abbrev pub SpellingIsCourse : Type 0
 SpellingIsCourse = (t : Table) (id : ℕ) → IsThere t id → IsContainer t id → (k : ℕ) (f : Plains) (b : Bits) → Spells t id (fields k f) b ↔ PassesCourse t (SpellsWithin 31 any t) id k (list_of f) b
+
+-- ---- bounds
+
+-- more room than for the 16 types of a chain, and for the 32 types that may be nested in each other, changes nothing
+pub record HasRoom (t : Table) : Type 0 where
+  pub chains : (n id : ℕ) → 16 ≤ n → chain_within n t id ≡ chain t id
+  pub spellings : (n id : ℕ) → 32 ≤ n → (style : Style) (v : Plain) (b : Bits) → SpellsWithin n style t id v b ↔ SpellsWithin 32 style t id v b
+  pub faults : (n id : ℕ) → 32 ≤ n → (b : Bits) (g : Where) → FailsWithin n t id b g ↔ FailsAt t id b g
+
+abbrev pub BoundsSuffice : Type 0
+BoundsSuffice = (t : Table) → KeepsRules t → HasRoom t
 
 -- ---- there and back
 

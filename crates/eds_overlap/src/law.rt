@@ -6,7 +6,7 @@ ghost use Rattle.eds_types.specs.Overlap.{IsClear};
 ghost use Rattle.eds_types.specs.Rules.{KeepsRules};
 ghost use Rattle.eds_types.specs.Sizes.{open_of};
 ghost use Rattle.eds_overlap.specs.Example.{example, WorkedFrames, WorkedPacking, WorkedTails};
-ghost use Rattle.eds_overlap.specs.Laws.{ReadingIsExact, SpellingIsCourse, OneOutcome, OneReading, FaultsStay, SameValue, PackedIsRead, ReadIsPacked};
+ghost use Rattle.eds_overlap.specs.Laws.{ReadingIsExact, SpellingIsCourse, OneOutcome, OneReading, FaultsStay, BoundsSuffice, SameValue, PackedIsRead, ReadIsPacked};
 
 pub use eds_types::law::{canonical_spelling, empty_types, least_size, packing_is_decided};
 
@@ -36,6 +36,11 @@ pub fn faults_stay()
 /// length entry leaves it.
 pub fn spelling_is_course()
     ensures { SpellingIsCourse }
+{}
+
+/// The definitions go up at most 16 types of a chain and down at most 32 nested types: that more would change nothing.
+pub fn bounds_suffice()
+    ensures { BoundsSuffice }
 {}
 
 /// Two lists of bits that are read have the same value exactly where the canonical spellings of their values are equal.
