@@ -4,6 +4,7 @@ import json
 import random
 import sys
 
+import os
 sys.path.insert(0, os.path.dirname(os.path.realpath(__file__)))
 import eds_model as m
 

@@ -2,7 +2,7 @@
 """laws.py SEED CASES: the laws of one reading on the model itself, over random sheets of every kind.
 
 What packs is read again whatever follows; what is read packs, to as many bits; a fault other than Short stays."""
-import random, sys
+import os, random, sys
 sys.path.insert(0, os.path.dirname(os.path.realpath(__file__)))
 import eds_model as m, gen, json
 seed, cases = int(sys.argv[1]), int(sys.argv[2])
