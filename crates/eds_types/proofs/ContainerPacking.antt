@@ -102,10 +102,10 @@ all_unmapped P f [] h = tt
 all_unmapped P f (x ∷ xs) h = (h.0, all_unmapped P f xs h.1)
 
 module _ (t : Table) where
-  abbrev front : ℕ → List Station
+  abbrev pub front : ℕ → List Station
   front k = flat_map (own t) (chain t k) ++ (choice k ∷ map entry (flat_map (placed_trailers t) (reverse (chain t k))))
 
-  course_is : (k : ℕ) → course t k k ≡ front k ++ end ∷ []
+  pub course_is : (k : ℕ) → course t k k ≡ front k ++ end ∷ []
   course_is k =
       let trailers = map entry (flat_map (placed_trailers t) (reverse (chain t k))) in
       ap (λ c. flat_map (own t) (chain t k) ++ (choice k ∷ (later t c ++ (trailers ++ end ∷ [])))) (drop_all (chain t k))
@@ -120,7 +120,7 @@ module _ (t : Table) where
       (all_mapped P entry (placed_entries t y) (All-front (λ (p : Placed). P (entry p)) (placed_entries t y) (flat_map (placed_entries t) ys) k)))
       (own_all P ys (All-back (λ (c : Condition). (y : ℕ) → P (condition y c)) (constraints_of t y) (flat_map (constraints_of t) ys) h) (All-back (λ (p : Placed). P (entry p)) (placed_entries t y) (flat_map (placed_entries t) ys) k))
 
-  front_all : (P : Station → Type 0) (k : ℕ) → AllByRecursion (λ (c : Condition). (y : ℕ) → P (condition y c)) (constraints_along t k) → AllByRecursion (λ (p : Placed). P (entry p)) (sequence t k) → P (choice k) → AllByRecursion P (front k)
+  pub front_all : (P : Station → Type 0) (k : ℕ) → AllByRecursion (λ (c : Condition). (y : ℕ) → P (condition y c)) (constraints_along t k) → AllByRecursion (λ (p : Placed). P (entry p)) (sequence t k) → P (choice k) → AllByRecursion P (front k)
   front_all P k h e c =
       let es = flat_map (placed_entries t) (chain t k) in
       let ts = flat_map (placed_trailers t) (reverse (chain t k)) in
@@ -200,10 +200,10 @@ module _ (t : Table) (is : IsTable t) (can : Facts t) (n : ℕ) where
       ∙ parts_size t Any (same_size t can.numbered n) (sequence t k) started started u w b c (all_sized t n (sequence t k) (can.numbered k)) refl e h' g'
       ∙ ap length (sym (parts_before t Any (sequence t k) started w c g'))
 
-  fits_told : (o q : Option ℤ) (x y : ℕ) → o ≡ q → x ≡ y → IfSome o (λ m. m ≡ pos (octets_for x)) → Told C q (octets_for y)
+  pub fits_told : (o q : Option ℤ) (x y : ℕ) → o ≡ q → x ≡ y → IfSome o (λ m. m ≡ pos (octets_for x)) → Told C q (octets_for y)
   fits_told o q x y e l h = subst (λ z. IfSome q (λ m. m ≡ pos (octets_for z))) l (subst (λ z. IfSome z (λ m. m ≡ pos (octets_for x))) e h)
 
-  told_fits : (o q : Option ℤ) (x y : ℕ) → o ≡ q → x ≡ y → Told C q (octets_for y) → IfSome o (λ m. m ≡ pos (octets_for x))
+  pub told_fits : (o q : Option ℤ) (x y : ℕ) → o ≡ q → x ≡ y → Told C q (octets_for y) → IfSome o (λ m. m ≡ pos (octets_for x))
   told_fits o q x y e l h = subst (λ z. IfSome o (λ m. m ≡ pos (octets_for z))) (sym l) (subst (λ z. IfSome z (λ m. m ≡ pos (octets_for y))) (sym e) h)
 
   -- what is known of the parts of a container
@@ -260,13 +260,13 @@ module _ (t : Table) (is : IsTable t) (can : Facts t) (n : ℕ) where
         (All-weaker (λ (p : Placed). TypesDecided t n fs p.part) (λ (p : Placed). ((g : Where) × Stops (entry p) g) ⊎ Sound (entry p)) entry_judged (sequence t k) known.types)
         choice_judged
 
-    at_start : HasFields t k f → At fs [] (sequence t k) [] f
+    pub at_start : HasFields t k f → At fs [] (sequence t k) [] f
     at_start h = record { whole = refl; count = h.count; fresh = All-each (λ (p : Placed). AllByRecursion (IsOther p.container p.place) []) (λ p. tt) (sequence t k); once = sequence_apart t is k; known = tt }
 
     fine_parts : AllByRecursion Sound (front t k) → AllByRecursion (λ (p : Placed). IsFine t n fs p p.part) (sequence t k)
     fine_parts h = All-weaker (λ (p : Placed). Sound (entry p)) (λ (p : Placed). IsFine t n fs p p.part) (λ p g w f. g (behind (step.Part (id_of p.container) p.place) w) (w, f, refl)) (sequence t k) (front_entries t Sound k h)
 
-    built : HasFields t k f → AllByRecursion Sound (front t k) → (c : Choices C (sequence t k)) → Built t n fs started (sequence t k) (tell_all C (sequence t k) c None)
+    pub built : HasFields t k f → AllByRecursion Sound (front t k) → (c : Choices C (sequence t k)) → Built t n fs started (sequence t k) (tell_all C (sequence t k) c None)
     built h s c = build t n fs (sequence t k) [] started f (at_start h) known.types (known.supplies fs) known.lists c (fine_parts s)
 
     spells_from : HasFields t k f → IsAtOrUnder t id k → IsTrue (is_concrete t k) → AllByRecursion Sound (front t k) → (o : Option ℤ) (r : Built t n fs started (sequence t k) o) → SizeFits r.u → Spells r.b
@@ -307,7 +307,7 @@ module _ (t : Table) (is : IsTable t) (can : Facts t) (n : ℕ) where
             no_size u b p e sz = let c = run_chosen C t (sequence t k) started u b p in q c.0 (fits_told u.octets (tell_all C (sequence t k) c.0 None) (length u.before) (length (r.u).before) c.1 (runs_size k u r.u b r.b (e ∙ sym r.fields) p r.passes) sz)
 
     -- a canonical spelling is sound everywhere
-    sound_of : HasFields t k f → (b : Bits) → Spells b → AllByRecursion Sound (front t k ++ end ∷ [])
+    pub sound_of : HasFields t k f → (b : Bits) → Spells b → AllByRecursion Sound (front t k ++ end ∷ [])
     sound_of h b sp =
         All-both Sound (front t k) (end ∷ [])
         (front_all t Sound k
@@ -359,7 +359,7 @@ module _ (t : Table) (is : IsTable t) (can : Facts t) (n : ℕ) where
         go (Some c) e (inl l) = inl (record { container = is_there (container_of t k) c e; count = l })
         go (Some c) e (inr ne) = inr (λ h. ne h.count)
 
-    fields_of : (b : Bits) → Spelt b → HasFields t k f
+    pub fields_of : (b : Bits) → Spelt b → HasFields t k f
     fields_of b sp = go (container_of t k) refl
       where
         go : (o : Option Container) → container_of t k ≡ o → HasFields t k f

@@ -61,7 +61,7 @@ module _ (C : ℕ → Plain → Bits → Type 0) where
   told_none (part.Length name id c0 c1) h c o = absurd h
   told_none (part.Check name id k) h c o = refl
 
-  told_rest : (ps : List Placed) → AllByRecursion (λ (p : Placed). NoLength p.part) ps → (c : Choices ps) (o : Option ℤ) → tell_all ps c o ≡ o
+  pub told_rest : (ps : List Placed) → AllByRecursion (λ (p : Placed). NoLength p.part) ps → (c : Choices ps) (o : Option ℤ) → tell_all ps c o ≡ o
   told_rest [] h c o = refl
   told_rest (p ∷ ps) h c o = told_rest ps h.1 c.1 (tell p.part c.0 o) ∙ told_none p.part h.0 c.0 o
 

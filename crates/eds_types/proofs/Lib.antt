@@ -37,3 +37,9 @@ pub mod SampleKeeps
 pub mod FlatSampleKeeps
 pub mod Appended
 pub mod TailSizes
+pub mod PackedSizes
+pub mod PackedFields
+pub mod PackedLaws
+pub mod Binaries
+pub mod BuiltFacts
+pub mod SameLists

@@ -112,7 +112,7 @@ module _ (t : Table) (is : IsTable t) (can : Facts t) where
     abbrev Lowers : Placed → Type 0
     Lowers p = IsPartType t is.rank id p.part
 
-    known_of : (k : ℕ) → IsAtOrUnder t id k → Known t is can n k
+    pub known_of : (k : ℕ) → IsAtOrUnder t id k → Known t is can n k
     known_of k u =
         let lows = sequence_lower t is id k u in
         record {

@@ -102,7 +102,7 @@ module _ (fs : List Field) where
 
 -- ---- values that are looked up
 
-tree_decides : (o : Option Plain) (w : Plain) → (o ≡ Some w) ⊎ (o ≡ Some w → ⊥)
+pub tree_decides : (o : Option Plain) (w : Plain) → (o ≡ Some w) ⊎ (o ≡ Some w → ⊥)
 tree_decides None w = inr (λ e. cc)
 tree_decides (Some v) w = elim (cases_Bool (same v w)) [ inl t ↦ inl (ap Some (same-is v w t)) | inr f ↦ inr (λ e. let q : v ≡ w = cc in both_ways (same v w) f (subst (λ x. same v x ≡ true) q (is-same v))) ]
 
@@ -281,17 +281,17 @@ module _ (t : Table) (n : ℕ) (fs : List Field) where
   abbrev Any : ℕ → Plain → Bits → Type 0
   Any = SpellsWithin n any t
 
-  record Passed (done : List Placed) (p : Placed) (ps : List Placed) (q : Part) (u : Progress) : Type 0 where
-    fine : IsFine p q
-    rest : List Plain
-    at : At fs (done ++ p ∷ []) ps u.fields rest
+  pub record Passed (done : List Placed) (p : Placed) (ps : List Placed) (q : Part) (u : Progress) : Type 0 where
+    pub fine : IsFine p q
+    pub rest : List Plain
+    pub at : At fs (done ++ p ∷ []) ps u.fields rest
 
   -- the value that was taken is the one that stands there
   same_value : (done : List Placed) (p : Placed) (ps : List Placed) (s u : Progress) (v : Plain) (gs : List Field) (next : Next fs done p ps s.fields) → u.fields ≡ s.fields ++ (p.container, p.place, v) ∷ [] → fs ≡ u.fields ++ gs → next.v ≡ v
   same_value done p ps s u v gs next e w =
       ap (λ (x : Field). x.2) (added_same s.fields s.fields (p.container, p.place, next.v) (p.container, p.place, v) (paired ps next.rest) gs refl (sym (next.at).whole ∙ w ∙ ap (λ x. x ++ gs) e))
 
-  part_passed : (done : List Placed) (p : Placed) (ps : List Placed) (s u : Progress) (f : List Plain) (b : Bits) (gs : List Field) (q : Part) → p.part ≡ q → At fs done (p ∷ ps) s.fields f → TypesDecided q → ListFits t done q → AllByRecursion (IsPlaced t) done → Fits t n s → fs ≡ u.fields ++ gs → PartPasses canonical t C s p q u b → Passed done p ps q u
+  pub part_passed : (done : List Placed) (p : Placed) (ps : List Placed) (s u : Progress) (f : List Plain) (b : Bits) (gs : List Field) (q : Part) → p.part ≡ q → At fs done (p ∷ ps) s.fields f → TypesDecided q → ListFits t done q → AllByRecursion (IsPlaced t) done → Fits t n s → fs ≡ u.fields ++ gs → PartPasses canonical t C s p q u b → Passed done p ps q u
   part_passed done p ps s u f b gs (part.Plain name id) e at d li pl fit w h =
       let next = next_valued fs done p ps s.fields f at (ap has_value e) in
       let uf = ap (λ (x : Progress). x.fields) h.2 in

@@ -1,18 +1,25 @@
 //! The types of a sheet and their values: rows, the table of all types, and what it says of each.
 #![tactic(auto)]
 
+mod binary;
+pub mod built;
 mod chain;
+mod copy;
 mod flat_sample;
 mod look;
+pub mod packs;
 mod reason;
 mod row;
+mod same;
 mod sample;
 mod sequence;
 mod sizes;
 pub mod slow;
 mod table;
 mod value;
+mod values;
 
+pub use binary::is_binary;
 pub use chain::Chain;
 pub use flat_sample::flat_table;
 pub use reason::PackReason;
@@ -24,6 +31,7 @@ pub use sample::sample_table;
 pub use sequence::Sequence;
 pub use table::TypeTable;
 pub use value::Value;
+pub use values::Values;
 
 #[cfg(test)]
 mod tests;

@@ -1,5 +1,5 @@
 pub mod Values
 pub mod Numbers
 pub mod Labels
-pub mod FlatContainers
+pub mod BuiltContainers
 pub mod Fronts

@@ -4,11 +4,10 @@ pub mod Chains
 pub mod Members
 pub mod WithValues
 pub mod Mapped
-pub mod FlatFacts
-pub mod ScalarValues
+pub mod HeldNumbers
 pub mod EntryValues
-pub mod ShownMembers
-pub mod ShownIsRead
+pub mod MembersOfValues
+pub mod ReadsBack
 pub mod Named
 pub mod Plains
 pub mod Depths

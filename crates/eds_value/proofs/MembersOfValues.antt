@@ -1,4 +1,4 @@
--- The members of what is shown of a container's fields.
+-- The members of the JSON of a container's fields.
 use Rattle.std.proofs.Common.{◌≡◌, ℕ, suc, ◌+◌, List, [], ◌∷◌, length, map, true, Ordering, Less, Equal, Greater, nat_cmp, Some, None, refl, sym, ap, ◌∙◌, arith}
 use Rattle.std.specs.List.{AllByRecursion}
 use Rattle.std.specs.Cmp.Lexicographic.{slice_cmp}
@@ -8,11 +8,10 @@ use Rattle.serde_json.specs.Events.{members_len}
 use Rattle.serde_json.specs.Find.{get_member}
 use Rattle.serde_json.proofs.Views.{get_member-put, get_member-put_other}
 use Rattle.eds_bits.specs.Lists.{Has}
-use Rattle.eds_types.specs.Plain.{Plain}
 use Rattle.eds_types.specs.Rules.{AreDistinct}
 use Rattle.eds_value.specs.Entries.{Entry}
-use Rattle.eds_value.specs.Shown.{scalar_data, with_values}
-use Rattle.eds_value.specs.Shape.{has_each}
+use Rattle.eds_value.specs.JsonOfValue.{with_values}
+use Rattle.eds_value.specs.ValueOfJson.{has_each}
 
 -- ---- names
 
@@ -39,28 +38,28 @@ differ_from (e ∷ es) h = (lacks_from e.name es h.0, differ_from es h.1)
 -- ---- what stands at a name
 
 -- a member for each entry and its value
-abbrev pub Stand : Members → List Entry → List Plain → Type 0
-Stand ms [] vs = Unit {0}
+abbrev pub Stand : Members → List Entry → List Data → Type 0
+Stand ms [] ds = Unit {0}
 Stand ms (e ∷ es) [] = ⊥
-Stand ms (e ∷ es) (v ∷ vs) = (get_member e.name ms ≡ Some (scalar_data v)) × Stand ms es vs
+Stand ms (e ∷ es) (d ∷ ds) = (get_member e.name ms ≡ Some d) × Stand ms es ds
 
 -- another name keeps its member
-pub kept : (q : List ℕ) (es : List Entry) (vs : List Plain) (ms : Members) → Lacks q es → get_member q (with_values es vs ms) ≡ get_member q ms
-kept q [] vs ms h = refl
+pub kept : (q : List ℕ) (es : List Entry) (ds : List Data) (ms : Members) → Lacks q es → get_member q (with_values es ds ms) ≡ get_member q ms
+kept q [] ds ms h = refl
 kept q (e ∷ es) [] ms h = refl
-kept q (e ∷ es) (v ∷ vs) ms h = kept q es vs (put e.name (scalar_data v) ms) h.1 ∙ get_member-put_other q e.name (scalar_data v) ms (λ same. h.0 (sym same))
+kept q (e ∷ es) (d ∷ ds) ms h = kept q es ds (put e.name d ms) h.1 ∙ get_member-put_other q e.name d ms (λ same. h.0 (sym same))
 
-pub stand : (es : List Entry) (vs : List Plain) (ms : Members) → Differ es → length vs ≡ length es → Stand (with_values es vs ms) es vs
-stand [] vs ms h l = tt
+pub stand : (es : List Entry) (ds : List Data) (ms : Members) → Differ es → length ds ≡ length es → Stand (with_values es ds ms) es ds
+stand [] ds ms h l = tt
 stand (e ∷ es) [] ms h l = absurd (omega arith)
-stand (e ∷ es) (v ∷ vs) ms h l =
-    (kept e.name es vs (put e.name (scalar_data v) ms) h.0 ∙ get_member-put e.name (scalar_data v) ms, stand es vs (put e.name (scalar_data v) ms) h.1 (omega arith))
+stand (e ∷ es) (d ∷ ds) ms h l =
+    (kept e.name es ds (put e.name d ms) h.0 ∙ get_member-put e.name d ms, stand es ds (put e.name d ms) h.1 (omega arith))
 
 -- each entry has one
-pub each : (ms : Members) (es : List Entry) (vs : List Plain) → Stand ms es vs → has_each (object ms) es ≡ true
-each ms [] vs h = refl
+pub each : (ms : Members) (es : List Entry) (ds : List Data) → Stand ms es ds → has_each (object ms) es ≡ true
+each ms [] ds h = refl
 each ms (e ∷ es) [] h = absurd h
-each ms (e ∷ es) (v ∷ vs) h = rw (h.0, each ms es vs h.1) refl
+each ms (e ∷ es) (d ∷ ds) h = rw (h.0, each ms es ds h.1) refl
 
 -- ---- how many there are
 
@@ -83,10 +82,10 @@ still_none : (name : List ℕ) (d : Data) (ms : Members) (es : List Entry) → L
 still_none name d ms [] h n = tt
 still_none name d ms (e ∷ es) h n = (get_member-put_other e.name name d ms h.0 ∙ n.0, still_none name d ms es h.1 n.1)
 
-pub members_len-values : (es : List Entry) (vs : List Plain) (ms : Members) → Differ es → length vs ≡ length es → NoneStand ms es → members_len (with_values es vs ms) ≡ length es + members_len ms
-members_len-values [] vs ms h l n = omega arith
+pub members_len-values : (es : List Entry) (ds : List Data) (ms : Members) → Differ es → length ds ≡ length es → NoneStand ms es → members_len (with_values es ds ms) ≡ length es + members_len ms
+members_len-values [] ds ms h l n = omega arith
 members_len-values (e ∷ es) [] ms h l n = absurd (omega arith)
-members_len-values (e ∷ es) (v ∷ vs) ms h l n =
-    let later = members_len-values es vs (put e.name (scalar_data v) ms) h.1 (omega arith) (still_none e.name (scalar_data v) ms es h.0 n.1) in
-    let one = members_len-put e.name (scalar_data v) ms n.0 in
+members_len-values (e ∷ es) (d ∷ ds) ms h l n =
+    let later = members_len-values es ds (put e.name d ms) h.1 (omega arith) (still_none e.name d ms es h.0 n.1) in
+    let one = members_len-put e.name d ms n.0 in
     omega (arith, later, one)

@@ -1,6 +1,6 @@
 -- A value of the small flat table has a canonical spelling.
-use Rattle.std.proofs.Common.{◌≡◌, ℕ, suc, pos, true, false, List, [], ◌∷◌, ◌++◌, length, refl, sym, ap, subst, ◌∙◌, lit≤}
-use Rattle.std.specs.Prelude.{codes, not}
+use Rattle.std.proofs.Common.{◌≡◌, ℕ, suc, pos, true, false, List, [], ◌∷◌, ◌++◌, length, Option, Some, None, refl, sym, ap, subst, ◌∙◌, lit≤}
+use Rattle.std.specs.Prelude.{codes, not, slice_get}
 use Rattle.eds_bits.specs.declared.forms.ByteOrder.TheVariants.{Big}
 use Rattle.eds_bits.specs.declared.forms.Encoding.TheVariants.{Unsigned}
 use Rattle.eds_bits.specs.declared.forms.IntForm.{IntForm}
@@ -12,15 +12,18 @@ use Rattle.eds_bits.specs.Scalars.{IsBool}
 use Rattle.eds_bits.specs.Style.{canonical}
 use Rattle.eds_types.specs.Fields.{Field, IsCandidate, IsAtOrUnder}
 use Rattle.eds_types.specs.Plain.{Plain, num, label, truth, fields, none, more}
-use Rattle.eds_types.specs.Rows.{Table, chain_within, Placed, sequence}
-use Rattle.eds_types.specs.FlatTables.{IsFlatTable}
+use Rattle.eds_types.specs.Rows.{Table, base_of, container_of, container_in, container_by, chain, chain_before, chain_within, Placed, sequence}
+use Rattle.eds_types.specs.declared.row.TypeRow.{TypeRow}
+use Rattle.eds_types.specs.declared.row.Kind.{Kind}
+use Rattle.eds_types.specs.declared.row.Kind.TheVariants as kind
+use Rattle.eds_types.specs.declared.row.Container.{Container}
+use Rattle.eds_types.specs.FlatTables.{IsFlat, IsFlatKind, IsFlatTable}
 use Rattle.eds_types.specs.FlatSample.{IsFlatSample, flat_sample}
 use Rattle.eds_types.specs.Sample.{IsFormOf, plain_part}
 use Rattle.eds_types.specs.Spelling.{ContainerSpells, PartsPass, SpellsWithin, Progress, started, with_value}
 use Rattle.eds_value.specs.Laws.{IsOfType}
 use Rattle.eds_types.proofs.FlatSampleKeeps.{sample_flat}
-use Rattle.eds_value.proofs.FlatFacts.{flat_chain}
-use Rattle.eds_value.proofs.ShownIsRead.{concrete_container}
+use Rattle.eds_value.proofs.ReadsBack.{concrete_container}
 
 big_number : (bits : ℕ) (form : IntForm) (b : Bits) (n : ℕ) → IsFormOf bits Unsigned Big form → length b ≡ bits → unsigned_of b ≡ suc n → IsNumber canonical form (pos (suc n)) b
 big_number bits form b n u l e = record {
@@ -35,6 +38,26 @@ alone : (l x : ℕ) (before after : List ℕ) → l ∷ [] ≡ before ++ x ∷ a
 alone l x [] after e = cc
 alone l x (b ∷ []) after e = absurd cc
 alone l x (b ∷ d ∷ before) after e = absurd cc
+
+flat_container : (t : Table) (id : ℕ) (c : Container) → IsFlatTable t → container_of t id ≡ Some c → IsFlat t (base_of t id) c
+flat_container t id c flat e = go (slice_get t id) refl e
+  where
+    kinds : (k : Kind) → IsFlatKind t (base_of t id) k → container_by k ≡ Some c → IsFlat t (base_of t id) c
+    kinds (kind.Int form spans) f h = absurd cc
+    kinds (kind.Enum form listing) f h = absurd cc
+    kinds (kind.Bool form) f h = absurd cc
+    kinds (kind.Str form) f h = absurd cc
+    kinds (kind.Bin n free) f h = absurd cc
+    kinds (kind.Arr item n) f h = absurd cc
+    kinds (kind.Con d) f h = let q : d ≡ c = cc in subst (IsFlat t (base_of t id)) q f
+
+    go : (o : Option TypeRow) → slice_get t id ≡ o → container_in o ≡ Some c → IsFlat t (base_of t id) c
+    go None e h = absurd cc
+    go (Some row) e h = kinds row.kind (flat id row e) h
+
+flat_chain : (t : Table) (id : ℕ) (c : Container) → IsFlatTable t → container_of t id ≡ Some c → chain t id ≡ id ∷ []
+unfolding chain_within
+flat_chain t id c flat e = ap (λ o. chain_before (chain_within 15 t) o ++ id ∷ []) (flat_container t id c flat e).root
 
 -- nothing derives in a flat table
 none_derives : (t : Table) → IsFlatTable t → (k l : ℕ) (fs : List Field) → (l ≡ k → ⊥) → IsAtOrUnder t k l → IsCandidate t k l fs → ⊥

@@ -9,7 +9,7 @@ use Rattle.eds_types.specs.Plain.{Plain}
 use Rattle.eds_types.specs.Rows.{Table}
 use Rattle.eds_value.specs.declared.fail.ValueFail.{ValueFail}
 use Rattle.eds_value.specs.declared.fail.ValueFail.TheVariants.{NotJson, WrongShape}
-use Rattle.eds_value.specs.Shape.{shape}
+use Rattle.eds_value.specs.ValueOfJson.{value_of_json}
 
 -- the JSON that a text is, where it is UTF-8
 abbrev pub json_of : List ℕ → Option Data
@@ -21,4 +21,4 @@ or_wrong (Err path) = Err (WrongShape path)
 
 -- the value that a text stands for where a type is declared
 abbrev pub value_in : Table → ℕ → List ℕ → Result Plain ValueFail
-value_in t id octets = or_stop NotJson (json_of octets) >>= λ d. or_wrong (shape t id d)
+value_in t id octets = or_stop NotJson (json_of octets) >>= λ d. or_wrong (value_of_json t id d)

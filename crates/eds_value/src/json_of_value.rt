@@ -6,13 +6,12 @@ ghost use Rattle.std.specs.Str.{IsUtf8};
 ghost use Rattle.serde_json.specs.Data.{number, put};
 ghost use Rattle.serde_json.specs.Find.{of_integer};
 ghost use Rattle.serde_json.specs.View.{members_view, view};
-ghost use Rattle.eds_types.specs.FlatTables.{IsFlatTable};
 ghost use Rattle.eds_types.specs.Plain.{plain};
 ghost use Rattle.eds_value.specs.Entries.{entries_along as entries_in};
-ghost use Rattle.eds_value.specs.Given.{given};
+ghost use Rattle.eds_value.specs.Seen.{seen};
 ghost use Rattle.eds_value.specs.Json.{value_in};
 ghost use Rattle.eds_value.specs.Laws.{HasNoTypeEntry, IsOfType};
-ghost use Rattle.eds_value.specs.Shown.{AreHeld, IsHeld, fields_data as data_of_fields, scalar_data as data_of_scalar, shown as shown_of, shown_text};
+ghost use Rattle.eds_value.specs.JsonOfValue.{AreHeld, fields_data as data_of_fields, json_of_value as json_of, json_text, type_name as name_of_type};
 
 use crate::entry::{Entry, entries_along};
 use crate::path::type_name;
@@ -34,68 +33,75 @@ fn whole_data(n: i128) -> Json
     }
 }
 
-fn scalar_data(alloc: Global, value: &Value) -> Result<Json, Memory>
-    requires { IsHeld (plain value.now) }
-    ensures { IfOk result (λ j. view j ≡ data_of_scalar (plain value.now)) }
+// Puts the member of an entry among others.
+#[cycle(json)]
+fn put_member(
+    alloc: Global,
+    value: &Value,
+    table: &TypeTable,
+    members: &mut Map<String, Json>,
+    entry: &Entry<'_>,
+) -> Result<(), Memory>
+    requires { AreHeld (plain value.now) }
+    ensures { OnOk result (members_view members.new.entries ≡ put (seen entry.now).name (json_of table.now (plain value.now)) (members_view members.old.entries)) }
+{
+    let key = String::from_str(alloc, entry.name)?;
+    let member = json_of_value(alloc, value, table)?;
+    members.insert(key, member)?;
+    Ok(())
+}
+
+#[cycle(json)]
+fn fields_data(
+    alloc: Global,
+    values: &[Value],
+    table: &TypeTable,
+    container: TypeId,
+) -> Result<Json, Memory>
+    requires { AllByRecursion AreHeld (map plain values.now) }
+    ensures { IfOk result (λ j. view j ≡ data_of_fields (name_of_type table.now container.0) (entries_in table.now container.0) (map (json_of table.now) (map plain values.now))) }
+{
+    let mut members = Map::new(alloc);
+    let own = Json::String(String::from_str(alloc, type_name(table, container))?);
+    members.insert(String::from_str(alloc, "$type")?, own)?;
+    let entries = entries_along(alloc, table, container)?;
+    let entries = entries.as_slice();
+    let count = entries.len().min(values.len());
+    for i in 0..count {
+        put_member(alloc, &values[i], table, &mut members, &entries[i])?;
+    }
+    Ok(Json::Object(members))
+}
+
+#[cycle(json)]
+fn items_data(alloc: Global, values: &[Value], table: &TypeTable) -> Result<Vec<Json>, Memory>
+    requires { AllByRecursion AreHeld (map plain values.now) }
+    ensures { IfOk result (λ js. map view js.items ≡ map (json_of table.now) (map plain values.now)) }
+{
+    let mut items = Vec::new(alloc);
+    for value in values {
+        let item = json_of_value(alloc, value, table)?;
+        items.push(item)?;
+    }
+    Ok(items)
+}
+
+// The JSON of a value.
+#[cycle(json)]
+fn json_of_value(alloc: Global, value: &Value, table: &TypeTable) -> Result<Json, Memory>
+    requires { AreHeld (plain value.now) }
+    ensures { IfOk result (λ j. view j ≡ json_of table.now (plain value.now)) }
 {
     match value {
         Value::Num(n) => Ok(whole_data(*n)),
         Value::Label(label) => Ok(Json::String(String::from_str(alloc, label.as_str())?)),
         Value::Bool(truth) => Ok(Json::Bool(*truth)),
-        _ => Ok(Json::Null),
-    }
-}
-
-// Puts the member of an entry among others.
-fn put_member(
-    alloc: Global,
-    members: &mut Map<String, Json>,
-    entry: &Entry<'_>,
-    value: &Value,
-) -> Result<(), Memory>
-    requires { IsHeld (plain value.now) }
-    ensures { OnOk result (members_view members.new.entries ≡ put (given entry.now).name (data_of_scalar (plain value.now)) (members_view members.old.entries)) }
-{
-    let key = String::from_str(alloc, entry.name)?;
-    let member = scalar_data(alloc, value)?;
-    members.insert(key, member)?;
-    Ok(())
-}
-
-fn fields_data(
-    alloc: Global,
-    type_name: &str,
-    entries: &[Entry<'_>],
-    values: &[Value],
-) -> Result<Json, Memory>
-    requires { AllByRecursion IsHeld (map plain values.now) }
-    ensures { IfOk result (λ j. view j ≡ data_of_fields type_name.now (map given entries.now) (map plain values.now)) }
-{
-    let mut members = Map::new(alloc);
-    let own = Json::String(String::from_str(alloc, type_name)?);
-    members.insert(String::from_str(alloc, "$type")?, own)?;
-    let count = entries.len().min(values.len());
-    for i in 0..count {
-        put_member(alloc, &mut members, &entries[i], &values[i])?;
-    }
-    Ok(Json::Object(members))
-}
-
-fn shown(alloc: Global, table: &TypeTable, value: &Value) -> Result<Json, Memory>
-    requires { AreHeld (plain value.now) }
-    ensures { IfOk result (λ j. view j ≡ shown_of table.now (plain value.now)) }
-{
-    match value {
+        Value::Text(text) => Ok(Json::String(String::from_str(alloc, text.as_str())?)),
+        Value::Bits(_, octets) => Ok(Json::String(hex::encode(alloc, octets.as_slice())?)),
+        Value::Items(items) => Ok(Json::Array(items_data(alloc, items.as_slice(), table)?)),
         Value::Fields(container, values) => {
-            let entries = entries_along(alloc, table, *container)?;
-            fields_data(
-                alloc,
-                type_name(table, *container),
-                entries.as_slice(),
-                values.as_slice(),
-            )
+            fields_data(alloc, values.as_slice(), table, *container)
         }
-        _ => scalar_data(alloc, value),
     }
 }
 
@@ -108,13 +114,12 @@ pub fn to_json(
     value: &Value,
 ) -> Result<Octets, Memory>
     requires known { id.0 < length table.now }
-    requires flat { IsFlatTable table.now }
     requires one { IsOfType table.now id.0 (plain value.now) }
-    ensures text { IfOk result (λ o. o ≡ shown_text table.now (plain value.now)) }
+    ensures text { IfOk result (λ o. o ≡ json_text table.now (plain value.now)) }
     ensures utf8 { IfOk result IsUtf8 }
     ensures reads_back { HasNoTypeEntry table.now → IfOk result (λ o. value_in table.now id.0 o ≡ Ok (plain value.now)) }
 {
     table.keeps_rules();
-    let json = shown(alloc, table, value)?;
+    let json = json_of_value(alloc, value, table)?;
     Ok(Octets::from_vec(json.to_vec(alloc)?))
 }

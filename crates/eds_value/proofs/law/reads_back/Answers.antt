@@ -1,5 +1,5 @@
-use Rattle.eds_value.proofs.ShownIsRead as proof
-use Rattle.eds_value.proofs.law.shown_is_read.Goals as goal
+use Rattle.eds_value.proofs.ReadsBack as proof
+use Rattle.eds_value.proofs.law.reads_back.Goals as goal
 
 pub returns : goal.returns
-returns c = proof.shown_is_read
+returns c = proof.reads_back

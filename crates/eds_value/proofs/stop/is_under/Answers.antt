@@ -4,7 +4,7 @@ use Rattle.std.specs.List.{list_any}
 use Rattle.eds_base.specs.declared.ids.TypeId.{TypeId}
 use Rattle.eds_types.specs.Rows.{chain}
 use Rattle.eds_value.proofs.Chains.{any_id}
-use Rattle.eds_value.proofs.shape.is_under.Goals as goal
+use Rattle.eds_value.proofs.stop.is_under.Goals as goal
 
 pub returns : goal.returns
 returns c =

@@ -1,5 +1,5 @@
 use Rattle.eds_value.proofs.Named.{named-here, named-past}
-use Rattle.eds_value.proofs.shape.named.Goals as goal
+use Rattle.eds_value.proofs.value_of_json.named.Goals as goal
 
 pub returns-then-is_named : goal.returns-then-is_named
 returns-then-is_named c =
