@@ -169,7 +169,7 @@ module _ (t : Table) (SpellsInner : ℕ → Plain → Bits → Type 0) (FailsInn
               (λ w ew. subst (λ (u : Progress × Bits). Runs below.x (choice z ∷ (later t below.zs ++ tail below.x)) u.0 u.1 (then z u.0 u.1)) (same_ok (read_parts t read (placed_entries t z) s b) v w q ew) below.runs))
           go (Err g) q = made z [] (sym (append-nil (chain t z))) (parts_from z (choice z ∷ (later t [] ++ tail z)) (placed_entries t z) s b (λ v. then z v.0 v.1) good (λ w ew. absurd (ok_err (read_parts t read (placed_entries t z) s b) w g ew q)))
 
-      stays : (y : ℕ) (ws : List ℕ) (s : Progress) (b : Bits) (then : ℕ → Progress → Bits → Ends) → chain t y ≡ chain t top ++ ws → candidate_under t y s.fields ≡ None → (q : Bool) → is_concrete t y ≡ q → Below y s b (go_on t read top then y s b (cond q stay nowhere))
+      stays : (y : ℕ) (ws : List ℕ) (s : Progress) (b : Bits) (then : ℕ → Progress → Bits → Ends) → chain t y ≡ chain t top ++ ws → candidate_under t y s.fields ≡ None → (q : Bool) → is_concrete t y ≡ q → Below y s b (go_on t read then y s b (cond q stay nowhere))
       stays y ws s b then e none true c = record {
         x = y;
         zs = [];
@@ -183,21 +183,21 @@ module _ (t : Table) (SpellsInner : ℕ → Plain → Bits → Type 0) (FailsInn
         runs = inl ((NoDerived, step.Choice (id_of y) ∷ []), (refl, c, (λ l h. elim (cases_eq l y) [ inl q ↦ both_ways (is_concrete t l) (ap (is_concrete t) q ∙ c) h.concrete | inr ne ↦ none_is t y s.fields none l ne h ]), refl), refl);
       }
 
-      under_from : (n y : ℕ) (ws : List ℕ) (s : Progress) (b : Bits) → chain t y ≡ chain t top ++ ws → 16 < length (chain t y) + n → Below y s b (read_under t read top n y s b)
+      under_from : (n y : ℕ) (ws : List ℕ) (s : Progress) (b : Bits) → chain t y ≡ chain t top ++ ws → 16 < length (chain t y) + n → Below y s b (read_under t read n y s b)
       unfolding read_under
       under_from zero y ws s b e lt = absurd (omega (arith, chain_length 16 t y))
       under_from (suc n) y ws s b e lt = go (candidate_under t y s.fields) refl (λ z wz m d ez lz. under_from n z wz m d ez lz)
         where
-          go : (o : Option ℕ) → candidate_under t y s.fields ≡ o → ((z : ℕ) (wz : List ℕ) (m : Progress) (d : Bits) → chain t z ≡ chain t top ++ wz → 16 < length (chain t z) + n → Below z m d (read_under t read top n z m d)) → Below y s b (go_on t read top (read_under t read top n) y s b (next_of t y o))
-          go None found ih = stays y ws s b (read_under t read top n) e found (is_concrete t y) refl
+          go : (o : Option ℕ) → candidate_under t y s.fields ≡ o → ((z : ℕ) (wz : List ℕ) (m : Progress) (d : Bits) → chain t z ≡ chain t top ++ wz → 16 < length (chain t z) + n → Below z m d (read_under t read n z m d)) → Below y s b (go_on t read (read_under t read n) y s b (next_of t y o))
+          go None found ih = stays y ws s b (read_under t read n) e found (is_concrete t y) refl
           go (Some l) found ih =
               let h = found_is t y s.fields l found in
               let z = child_of t is y l h.1.under.before h.1.under.after h.1.under.is h.0 in
               let z_is : next_of t y (Some l) ≡ under z.0 = ap under (ap (λ c. unwrap_or (slice_get c (length (chain t y))) 0) z.2 ∙ ap (λ o. unwrap_or o 0) (seam_get (chain t y) z.0 z.1)) in
               let chain_z = (child_is t is y z.0 l z.1 z.2).0 in
               let longer_z = ap length chain_z ∙ length-append (chain t y) (z.0 ∷ []) in
-              subst (λ w. Below y s b (go_on t read top (read_under t read top n) y s b w)) (sym z_is)
-              (goes_below (read_under t read top n) y z.0 l z.1 ws s b e z.2 h.1 (λ m d. ih z.0 (ws ++ z.0 ∷ []) m d (chain_z ∙ ap (λ c. c ++ z.0 ∷ []) e ∙ append_assoc (chain t top) ws (z.0 ∷ [])) (omega arith)))
+              subst (λ w. Below y s b (go_on t read (read_under t read n) y s b w)) (sym z_is)
+              (goes_below (read_under t read n) y z.0 l z.1 ws s b e z.2 h.1 (λ m d. ih z.0 (ws ++ z.0 ∷ []) m d (chain_z ∙ ap (λ c. c ++ z.0 ∷ []) e ∙ append_assoc (chain t top) ws (z.0 ∷ [])) (omega arith)))
 
       pub record Run (b : Bits) (r : Ends) : Type 0 where
         pub x : ℕ
@@ -214,7 +214,7 @@ module _ (t : Table) (SpellsInner : ℕ → Plain → Bits → Type 0) (FailsInn
           nil = sym (append-nil (chain t top))
 
           then : Progress × Bits → Ends
-          then v = read_under t read top 16 top v.0 v.1
+          then v = read_under t read 16 top v.0 v.1
 
           deep : 16 < length (chain t top) + 16
           deep = omega (arith, ap length (chain_end t is top).1, length-append (chain_end t is top).0 (top ∷ []))

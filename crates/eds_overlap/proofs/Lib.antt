@@ -4,9 +4,14 @@ pub mod CourseSpelling
 pub mod ContainerReading
 pub mod Choices
 pub mod ReadingLaws
+pub mod CourseLaws
 pub mod Theorems
 pub mod Concrete
 pub mod ExampleRules
 pub mod ExampleReading
 pub mod ExampleFrames
-pub mod TailExample
+pub mod WhatIsRead
+pub mod TailRules
+pub mod TailReading
+pub mod TailPacking
+pub mod TailFrames

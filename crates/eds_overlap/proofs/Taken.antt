@@ -125,23 +125,23 @@ module _ (t : Table) (read : ℕ → Bits → Read Plain) (SpellsInner : ℕ →
       course_by : (x : ℕ) (zs : List ℕ) → chain t x ≡ chain t top ++ zs → flat_map (own t) (chain t top) ++ (choice top ∷ (later t zs ++ tail t SpellsInner FailsInner x)) ≡ course t top x
       course_by x zs e = ap (λ q. flat_map (own t) (chain t top) ++ (choice top ∷ (later t q ++ tail t SpellsInner FailsInner x))) (sym (ap (drop (length (chain t top))) e ∙ drop-append_seam (chain t top) zs))
 
-      under_to : (n x y : ℕ) (zs : List ℕ) (s : Progress) (b : Bits) (r : Ends) → IsAtOrUnder t top x → IsAtOrUnder t top y → chain t x ≡ chain t y ++ zs → length zs < n → Inv s → Runs t SpellsInner FailsInner x (choice y ∷ (later t zs ++ tail t SpellsInner FailsInner x)) s b r → read_under t read top n y s b ≡ r
+      under_to : (n x y : ℕ) (zs : List ℕ) (s : Progress) (b : Bits) (r : Ends) → IsAtOrUnder t top x → IsAtOrUnder t top y → chain t x ≡ chain t y ++ zs → length zs < n → Inv s → Runs t SpellsInner FailsInner x (choice y ∷ (later t zs ++ tail t SpellsInner FailsInner x)) s b r → read_under t read n y s b ≡ r
       unfolding read_under
       under_to zero x y zs s b r ux u e lt i run = absurd (omega arith)
       under_to (suc n) x y zs s b r ux u e lt i (inl f) =
           let same = (f.1).0 in
           let q : next t y s.fields ≡ nowhere = ap (λ w. next t w s.fields) same ∙ nowhere_is x s (f.1).1 (f.1).2 (candidate_under t x s.fields) refl in
-          ap (go_on t read top (read_under t read top n) y s b) q ∙ ap (λ w. failed (ℕ × Progress × Bits) (NoDerived, step.Choice (id_of w) ∷ [])) same ∙ ap (failed (ℕ × Progress × Bits)) (sym (f.1).3) ∙ sym f.2
+          ap (go_on t read (read_under t read n) y s b) q ∙ ap (λ w. failed (ℕ × Progress × Bits) (NoDerived, step.Choice (id_of w) ∷ [])) same ∙ ap (failed (ℕ × Progress × Bits)) (sym (f.1).3) ∙ sym f.2
       under_to (suc n) x y zs s b r ux u e lt i (inr p) = past zs e lt (p.4).2 (still x (later t zs ++ tail t SpellsInner FailsInner x) s p.0 b p.1 p.2 r (p.4).0 (p.4).1 p.3 p.5) (λ z zs' m d uz ez lz j run'. under_to n x z zs' m d r ux uz ez lz j run')
         where
           past : (zs : List ℕ) → chain t x ≡ chain t y ++ zs → length zs < suc n → (GoesOn t y x s ⊎ ((y ≡ x) × IsTrue (is_concrete t x) × NoneUnder t x s)) → Runs t SpellsInner FailsInner x (later t zs ++ tail t SpellsInner FailsInner x) s b r
-              → ((z : ℕ) (zs' : List ℕ) (m : Progress) (d : Bits) → IsAtOrUnder t top z → chain t x ≡ chain t z ++ zs' → length zs' < n → Inv m → Runs t SpellsInner FailsInner x (choice z ∷ (later t zs' ++ tail t SpellsInner FailsInner x)) m d r → read_under t read top n z m d ≡ r)
-              → go_on t read top (read_under t read top n) y s b (next t y s.fields) ≡ r
+              → ((z : ℕ) (zs' : List ℕ) (m : Progress) (d : Bits) → IsAtOrUnder t top z → chain t x ≡ chain t z ++ zs' → length zs' < n → Inv m → Runs t SpellsInner FailsInner x (choice z ∷ (later t zs' ++ tail t SpellsInner FailsInner x)) m d r → read_under t read n z m d ≡ r)
+              → go_on t read (read_under t read n) y s b (next t y s.fields) ≡ r
           past [] e lt (inl g) run ih = absurd (longer t is y x g.child g.towards.0 g.towards.1 (same_chain t is x y (e ∙ append-nil (chain t y))))
           past [] e lt (inr g) run ih =
               let same : y ≡ x = g.0 in
               let q : next t y s.fields ≡ stay = ap (λ w. next t w s.fields) same ∙ stays_at x s g.2 g.1 (candidate_under t x s.fields) refl in
-              ap (go_on t read top (read_under t read top n) y s b) q ∙ ap (λ w. read_parts t read (trailers_up t read w) s b >>= finish w (length_path t w)) same
+              ap (go_on t read (read_under t read n) y s b) q ∙ ap (λ w. read_parts t read (trailers_up t read w) s b >>= finish w (length_path t w)) same
               ∙ tail_to x s b r (kept.trailers x ux) i run
           past (z ∷ more) e lt (inr g) run ih = absurd (longer t is y x z more e (sym g.0))
           past (z ∷ more) e lt (inl g) run ih =
@@ -154,8 +154,8 @@ module _ (t : Table) (read : ℕ → Bits → Read Plain) (SpellsInner : ℕ →
               let up = under_is t is top y u.before u.after u.is in
               let uz : IsAtOrUnder t top z = under_in t is top z (u.after ++ z ∷ []) (chain_z ∙ ap (λ c. c ++ z ∷ []) up.1 ∙ append_assoc (chain t top) u.after (z ∷ [])) in
               let ex : chain t x ≡ chain t z ++ more = e ∙ sym (append_assoc (chain t y) (z ∷ []) more) ∙ ap (λ c. c ++ more) (sym chain_z) in
-              ap (go_on t read top (read_under t read top n) y s b) q
-              ∙ parts_to x (choice z ∷ (later t more ++ tail t SpellsInner FailsInner x)) (placed_entries t z) s b (λ v. read_under t read top n z v.0 v.1) r (last_kept z uz) i (λ m d j run'. ih z more m d uz ex (omega arith) j run')
+              ap (go_on t read (read_under t read n) y s b) q
+              ∙ parts_to x (choice z ∷ (later t more ++ tail t SpellsInner FailsInner x)) (placed_entries t z) s b (λ v. read_under t read n z v.0 v.1) r (last_kept z uz) i (λ m d j run'. ih z more m d uz ex (omega arith) j run')
               (subst (λ l. Runs t SpellsInner FailsInner x l s b r) (later_is t SpellsInner FailsInner z more (tail t SpellsInner FailsInner x)) run)
 
       pub container_to : (b : Bits) (r : Ends) (x : ℕ) → IsAtOrUnder t top x → Runs t SpellsInner FailsInner x (course t top x) started b r → read_to_end t read top b ≡ r
@@ -163,5 +163,5 @@ module _ (t : Table) (read : ℕ → Bits → Read Plain) (SpellsInner : ℕ →
           let up = under_is t is top x u.before u.after u.is in
           let run' = subst (λ q. Runs t SpellsInner FailsInner x q started b r) (sym (course_by x u.after up.1)) run in
           let itself = itself_in t is top in
-          chain_to x (choice top ∷ (later t u.after ++ tail t SpellsInner FailsInner x)) (chain t top) started b (λ v. read_under t read top 16 top v.0 v.1) r (kept.entries top itself) agrees.start
+          chain_to x (choice top ∷ (later t u.after ++ tail t SpellsInner FailsInner x)) (chain t top) started b (λ v. read_under t read 16 top v.0 v.1) r (kept.entries top itself) agrees.start
           (λ m d j run2. under_to 16 x top u.after m d r u itself up.1 (short_chain t is top x u.after up.1) j run2) run'

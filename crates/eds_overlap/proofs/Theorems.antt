@@ -1,27 +1,21 @@
--- The laws, from exact reading, the canonical spellings and decided packing.
+-- The laws, from exact reading and the laws of types.
 use Rattle.std.proofs.Common.{◌≡◌, ℕ, ◌+◌, ◌≤◌, suc, [], ◌∷◌, ◌++◌, length, Ok, Err, refl, sym, ap, subst, ◌∙◌, ◌⊎◌, inl, inr, arith, append-nil}
 use Rattle.std.proofs.lemmas.Bool.{cases_lt}
 use Rattle.std.proofs.lemmas.List.{length-append}
 use Rattle.eds_bits.specs.Bits.{Bits}
 use Rattle.eds_bits.specs.Style.{any, canonical}
-use Rattle.eds_types.specs.declared.reason.PackReason.TheVariants.{TooLong}
 use Rattle.eds_types.specs.Failing.{Where, FailsAt, FailsWithin}
-use Rattle.eds_types.specs.Packing.{Where as PackWhere, here, most_bits, PackFailsWithin, PackFailsAt}
 use Rattle.eds_types.specs.Plain.{Plain}
 use Rattle.eds_types.specs.Reading.{Read, read_within}
 use Rattle.eds_types.specs.Rows.{Table}
 use Rattle.eds_types.specs.Spelling.{Spells, Canon, SpellsWithin}
-use Rattle.eds_types.proofs.CanonicalSpelling.{canon_within}
-use Rattle.eds_types.proofs.DecidedPacking.{Decided}
 use Rattle.eds_types.proofs.ExactReading.{Is, Exact, err_is, ok_err, same_ok}
 use Rattle.eds_types.proofs.FaultsStay.{stays_within}
-use Rattle.eds_types.proofs.LeastBound.{least_bound}
-use Rattle.eds_types.proofs.OneCanonical.{unique_within}
-use Rattle.eds_types.proofs.PackingLaws.{packs_within}
+use Rattle.eds_types.proofs.TypeLaws.{one_size, has_canonical, one_canonical, packing_is_decided}
 use Rattle.eds_types.proofs.RuleFacts.{table_of, facts_of}
-use Rattle.eds_types.proofs.SpellingSizes.{canon_spells, same_size}
+use Rattle.eds_types.proofs.SpellingSizes.{canon_spells}
 use Rattle.eds_overlap.proofs.ReadingLaws.{exact}
-use Rattle.eds_overlap.specs.Laws.{IsReadable, read_type, IsRead, ReadingIsExact, OneOutcome, OneReading, FaultsStay, OneSize, HasCanonical, OneCanonical, SameValue, LeastIsLeast, PackingIsDecided, PackedIsRead, ReadIsPacked}
+use Rattle.eds_overlap.specs.Laws.{IsReadable, read_type, IsRead, ReadingIsExact, OneOutcome, OneReading, FaultsStay, SameValue, PackedIsRead, ReadIsPacked}
 
 all_of : (t : Table) (id : ℕ) → IsReadable t id → Exact (read_within 32 t id) (SpellsWithin 32 any t id) (FailsWithin 32 t id)
 all_of t id h = exact t (table_of t h.rules) (facts_of t h.rules) 32 id (record { rank = (table_of t h.rules).nested id; there = h.there; clear = h.clear })
@@ -77,48 +71,11 @@ faults_stay t id b more g short h = stays_within t 32 id b more g short h
 
 -- ---- canonical spellings
 
-pub one_size : OneSize
-one_size t id h v b c s k = same_size t (facts_of t h.rules).numbered 32 id v b c s k
-
-pub has_canonical : HasCanonical
-has_canonical t id h v = ((λ b s. canon_within t (facts_of t h.rules) 32 id v b s), λ c s. canon_spells t 32 id v c s)
-
-pub one_canonical : OneCanonical
-one_canonical t id h v b c s k = unique_within t (facts_of t h.rules) 32 id v b c s k
-
 pub same_value : SameValue
 same_value t id h v w b c x y s k p q = (
-  (λ e. unique_within t (facts_of t h.rules) 32 id w x y (subst (λ z. Canon t id z x) e p) q),
+  (λ e. one_canonical t id (record { rules = h.rules; there = h.there }) w x y (subst (λ z. Canon t id z x) e p) q),
   (λ e. (one_reading t id h v w x y [] (canon_spells t 32 id v x p) (canon_spells t 32 id w y q) (sym e ∙ sym (append-nil x))).1),
 )
-
-pub least_is_least : LeastIsLeast
-least_is_least t id h v b s = least_bound t (facts_of t h.rules) 32 id v b s
-
--- ---- packing
-
-pub packing_is_decided : PackingIsDecided
-packing_is_decided t id h v = record { either = go d.either; one_place = one; not_both = apart }
-  where
-    d : Decided (SpellsWithin 32 canonical t id v) (PackFailsWithin 32 t id v)
-    d = packs_within t (table_of t h.rules) (facts_of t h.rules) 32 id ((table_of t h.rules).nested id) h.there v
-
-    go : (((b : Bits) × Canon t id v b) ⊎ ((g : PackWhere) × PackFailsWithin 32 t id v g)) → ((b : Bits) × Canon t id v b × (length b ≤ most_bits)) ⊎ ((g : PackWhere) × PackFailsAt t id v g)
-    go (inr f) = inr (f.0, inl f.1)
-    go (inl s) = elim (cases_lt most_bits (length s.0)) [
-      | inl long ↦ inr (here TooLong, inr (record { nothing_else = λ w f. d.apart s.0 w s.1 f; spelling = s.0; is = s.1; long = long }, refl))
-      | inr short ↦ inl (s.0, s.1, short)
-    ]
-
-    one : (g k : PackWhere) → PackFailsAt t id v g → PackFailsAt t id v k → g ≡ k
-    one g k (inl f) (inl e) = d.one g k f e
-    one g k (inl f) (inr e) = absurd ((e.0).nothing_else g f)
-    one g k (inr f) (inl e) = absurd ((f.0).nothing_else k e)
-    one g k (inr f) (inr e) = f.1 ∙ sym e.1
-
-    apart : (b : Bits) (g : PackWhere) → Canon t id v b → length b ≤ most_bits → PackFailsAt t id v g → ⊥
-    apart b g s l (inl f) = d.apart b g s f
-    apart b g s l (inr f) = let e = ap length (one_canonical t id h v b (f.0).spelling s (f.0).is) in let m = (f.0).long in omega arith
 
 -- ---- there and back
 
@@ -127,6 +84,6 @@ packed_is_read t id h v b rest s = (reading_is_exact t id h (b ++ rest)).1 (Ok (
 
 pub read_is_packed : ReadIsPacked
 read_is_packed t id h v b s short =
-    let c = canon_within t (facts_of t h.rules) 32 id v b s in
+    let c = (has_canonical t id h v).0 b s in
     let size = one_size t id h v c.0 b (canon_spells t 32 id v c.0 c.1) s in
     record { spelling = c.0; is = c.1; size = size; no_fault = λ g f. (packing_is_decided t id h v).not_both c.0 g c.1 (omega arith) f }

@@ -1,25 +1,22 @@
--- The laws of values and bits.
-use Rattle.std.specs.Prelude.{◌≡◌, ◌↔◌, ℕ, ◌<◌, ◌≤◌, ◌++◌, length, Ok, Err, ◌⊎◌}
+-- The laws of reading. Those of types and values alone are laws of eds_types, and are offered here again.
+use Rattle.std.specs.Prelude.{◌≡◌, ◌↔◌, ℕ, ◌<◌, ◌≤◌, List, ◌++◌, length, Ok, Err, ◌⊎◌}
 use Rattle.eds_base.specs.declared.fault.Reason.TheVariants.{Short}
 use Rattle.eds_bits.specs.Bits.{Bits}
-use Rattle.eds_types.specs.Failing.{Where, FailsAt}
-use Rattle.eds_types.specs.LeastSize.{least_size}
+use Rattle.eds_bits.specs.Style.{any}
+use Rattle.eds_types.specs.Failing.{course, Passes, Where, FailsAt}
+use Rattle.eds_types.specs.Fields.{values_of, IsAtOrUnder}
+pub use Rattle.eds_types.specs.Laws.{IsThere, OneSize, HasCanonical, OneCanonical, LeastIsLeast, EmptyTypes, PacksOrFails, PackingIsDecided}
 use Rattle.eds_types.specs.Overlap.{IsClear}
 use Rattle.eds_types.specs.Packing.{Where as PackWhere, most_bits, PackFailsAt}
-use Rattle.eds_types.specs.Plain.{Plain}
+use Rattle.eds_types.specs.Plain.{Plain, Plains, fields, list_of}
 use Rattle.eds_types.specs.Reading.{Read, read_within}
 use Rattle.eds_types.specs.Rows.{Table}
-use Rattle.eds_types.specs.Rules.{KeepsRules}
-use Rattle.eds_types.specs.Spelling.{Spells, Canon}
+use Rattle.eds_types.specs.Rules.{IsContainer, KeepsRules}
+use Rattle.eds_types.specs.Spelling.{Progress, started, SpellsWithin, Spells, Canon}
 
 -- ---- of which types the laws speak
 
--- the type is there, in a table that keeps the rules
-pub record IsThere (t : Table) (id : ℕ) : Type 0 where
-  pub rules : KeepsRules t
-  pub there : id < length t
-
--- and no two containers that are read through it overlap
+-- the type is there, in a table that keeps the rules, and no two containers that are read through it overlap
 pub record IsReadable (t : Table) (id : ℕ) : Type 0 where
   pub rules : KeepsRules t
   pub there : id < length t
@@ -58,41 +55,26 @@ OneReading = (t : Table) (id : ℕ) → IsReadable t id → (v w : Plain) (b c m
 abbrev pub FaultsStay : Type 0
 FaultsStay = (t : Table) (id : ℕ) (b more : Bits) (g : Where) → (g.0 ≡ Short → ⊥) → FailsAt t id b g → FailsAt t id (b ++ more) g
 
--- ---- canonical spellings
+-- ---- spellings and the course
 
--- all spellings of a value have one size
-abbrev pub OneSize : Type 0
-OneSize = (t : Table) (id : ℕ) → IsThere t id → (v : Plain) (b c : Bits) → Spells t id v b → Spells t id v c → length b ≡ length c
+-- the course of the container k where the type is read lets all the bits pass, and leaves these fields
+pub record PassesCourse (t : Table) (SpellsInner : ℕ → Plain → Bits → Type 0) (id k : ℕ) (f : List Plain) (b : Bits) : Type 0 where
+  pub under : IsAtOrUnder t id k
+  pub end : Progress
+  pub passes : Passes t SpellsInner k started (course t id k) end b
+  pub values : f ≡ values_of end.fields
 
--- one of them is canonical, and a canonical spelling is a spelling
-abbrev pub HasCanonical : Type 0
-HasCanonical = (t : Table) (id : ℕ) → IsThere t id → (v : Plain) → ((b : Bits) → Spells t id v b → (c : Bits) × Canon t id v c) × ((c : Bits) → Canon t id v c → Spells t id v c)
+-- the bits spell the fields of a container exactly where its course lets them pass. A spelling admits a tail of any size,
+-- holds all constraints in the end, and compares the number of the length entry with all parts; the course gives the
+-- tail the one size that fits, and tries constraints and choices as soon as it meets them
+abbrev pub SpellingIsCourse : Type 0
+SpellingIsCourse = (t : Table) (id : ℕ) → IsThere t id → IsContainer t id → (k : ℕ) (f : Plains) (b : Bits) → Spells t id (fields k f) b ↔ PassesCourse t (SpellsWithin 31 any t) id k (list_of f) b
 
-abbrev pub OneCanonical : Type 0
-OneCanonical = (t : Table) (id : ℕ) → IsThere t id → (v : Plain) (b c : Bits) → Canon t id v b → Canon t id v c → b ≡ c
+-- ---- there and back
 
 -- values that are read are the same exactly where their canonical spellings are
 abbrev pub SameValue : Type 0
 SameValue = (t : Table) (id : ℕ) → IsReadable t id → (v w : Plain) (b c x y : Bits) → Spells t id v b → Spells t id w c → Canon t id v x → Canon t id w y → (v ≡ w) ↔ (x ≡ y)
-
--- ---- sizes
-
--- no spelling has fewer bits than the least size of the type
-abbrev pub LeastIsLeast : Type 0
-LeastIsLeast = (t : Table) (id : ℕ) → IsThere t id → (v : Plain) (b : Bits) → Spells t id v b → least_size t id ≤ length b
-
--- ---- packing
-
--- the value has a canonical spelling that isn't too long, or packing fails, at one place for one reason
-pub record PacksOrFails (t : Table) (id : ℕ) (v : Plain) : Type 0 where
-  pub either : ((b : Bits) × Canon t id v b × (length b ≤ most_bits)) ⊎ ((g : PackWhere) × PackFailsAt t id v g)
-  pub one_place : (g h : PackWhere) → PackFailsAt t id v g → PackFailsAt t id v h → g ≡ h
-  pub not_both : (b : Bits) (g : PackWhere) → Canon t id v b → length b ≤ most_bits → PackFailsAt t id v g → ⊥
-
-abbrev pub PackingIsDecided : Type 0
-PackingIsDecided = (t : Table) (id : ℕ) → IsThere t id → (v : Plain) → PacksOrFails t id v
-
--- ---- there and back
 
 -- the canonical spelling of a value, whatever follows it, is read as the value, and what follows is left
 abbrev pub PackedIsRead : Type 0

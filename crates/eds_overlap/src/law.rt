@@ -1,10 +1,14 @@
 //! The laws of values and bits: functions with no body, whose contracts are what was proved.
+//! Those of types and values alone are offered here again.
 
 ghost use Rattle.std.specs.Prelude.{ℕ};
 ghost use Rattle.eds_types.specs.Overlap.{IsClear};
 ghost use Rattle.eds_types.specs.Rules.{KeepsRules};
 ghost use Rattle.eds_overlap.specs.Example.{example, WorkedFrames};
-ghost use Rattle.eds_overlap.specs.Laws.{ReadingIsExact, OneOutcome, OneReading, FaultsStay, OneSize, HasCanonical, OneCanonical, SameValue, LeastIsLeast, PackingIsDecided, PackedIsRead, ReadIsPacked};
+ghost use Rattle.eds_overlap.specs.Tails.{tailed, WorkedTails};
+ghost use Rattle.eds_overlap.specs.Laws.{ReadingIsExact, SpellingIsCourse, OneOutcome, OneReading, FaultsStay, SameValue, PackedIsRead, ReadIsPacked};
+
+pub use eds_types::law::{canonical_spelling, empty_types, least_size, packing_is_decided};
 
 /// What the left-to-right reading function gives is a value with its spelling in front of the rest, or a fault that is
 /// there; and each such value and each such fault is what it gives.
@@ -28,27 +32,15 @@ pub fn faults_stay()
     ensures { FaultsStay }
 {}
 
-/// A value that is spelled has exactly one canonical spelling, and all its spellings have as many bits.
-pub fn canonical_spelling()
-    ensures some { HasCanonical }
-    ensures one { OneCanonical }
-    ensures size { OneSize }
+/// Bits spell the fields of a container exactly where they pass its whole course, in which a tail has the size that the
+/// length entry leaves it.
+pub fn spelling_is_course()
+    ensures { SpellingIsCourse }
 {}
 
 /// Two lists of bits that are read have the same value exactly where the canonical spellings of their values are equal.
 pub fn same_value()
     ensures { SameValue }
-{}
-
-/// No spelling of a value has fewer bits than the least size of its type.
-pub fn least_size()
-    ensures { LeastIsLeast }
-{}
-
-/// A value has a canonical spelling that isn't too long, or packing it fails at exactly one path for exactly one reason;
-/// and not both.
-pub fn packing_is_decided()
-    ensures { PackingIsDecided }
 {}
 
 /// What is packed is read again, whatever bits follow; and what is read packs again, to as many bits.
@@ -66,4 +58,17 @@ pub fn example_keeps_the_rules()
 /// What some frames say by the table of the examples.
 pub fn worked_frames()
     ensures { WorkedFrames }
+{}
+
+/// So does the table with open binaries, and no two containers that are read through its packets overlap.
+pub fn tails_keep_the_rules()
+    ensures rules { KeepsRules tailed }
+    ensures packet { IsClear tailed 2 }
+    ensures pairs { IsClear tailed 3 }
+{}
+
+/// What some frames and values say by the table with open binaries: a tail has the size that the length entry tells, or the
+/// length entry is refused.
+pub fn worked_tails()
+    ensures { WorkedTails }
 {}

@@ -262,7 +262,7 @@ module _ (t : Table) (f : AreFlatRows t) where
   no_tail p (Some n) e = absurd cc
 
   parts : (y : ℕ) → AllByRecursion (λ (p : Placed). PartKeeps t p p.part) (own_parts t y)
-  parts y = over_parts (λ (p : Placed). PartKeeps t p p.part) y (λ c e i name id h. let p = record { container = y; place = i; part = part.Plain name id } in (solid id.0 h, no_tail p (open_of t id.0) (closed id.0 h)))
+  parts y = over_parts (λ (p : Placed). PartKeeps t p p.part) y (λ c e i name id h. let p : Placed = record { container = y; place = i; part = part.Plain name id } in (solid id.0 h, no_tail p (open_of t id.0) (closed id.0 h)))
 
   -- ---- sequences
 

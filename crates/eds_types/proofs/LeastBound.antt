@@ -146,7 +146,7 @@ module _ (t : Table) (n : ℕ) (least : ℕ → ℕ) (g : (id : ℕ) (v : Plain)
 
 -- ---- kinds
 
-text_bound : (m : ℕ) (fixed ascii : Bool) (stop : ℕ) (size : IsTextSize m stop) (s : List ℕ) (b : Bits) → IsText any (text_form m fixed ascii stop size) s b → cond fixed (8 * m) 8 ≤ length b
+pub text_bound : (m : ℕ) (fixed ascii : Bool) (stop : ℕ) (size : IsTextSize m stop) (s : List ℕ) (b : Bits) → IsText any (text_form m fixed ascii stop size) s b → cond fixed (8 * m) 8 ≤ length b
 text_bound m true ascii stop size s b h = let e = h.size in omega arith
 text_bound m false ascii stop size s b h = let e = h.size in omega arith
 

@@ -43,3 +43,5 @@ pub mod PackedLaws
 pub mod Binaries
 pub mod BuiltFacts
 pub mod SameLists
+pub mod TypeLaws
+pub mod EmptyTypes

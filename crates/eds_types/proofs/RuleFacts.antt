@@ -105,7 +105,7 @@ unplaced P y i (p ∷ ps) h = (h.0, unplaced P y (i + 1) ps h.1)
 
 module _ (t : Table) where
   -- what holds of each container's own parts, holds along a sequence
-  on_sequence : (P : Placed → Type 0) → ((y : ℕ) → AllByRecursion P (own_parts t y)) → (k : ℕ) → AllByRecursion P (sequence t k)
+  pub on_sequence : (P : Placed → Type 0) → ((y : ℕ) → AllByRecursion P (own_parts t y)) → (k : ℕ) → AllByRecursion P (sequence t k)
   on_sequence P h k =
       All-both P (flat_map (placed_entries t) (chain t k)) (flat_map (placed_trailers t) (reverse (chain t k)))
       (All-flat P (λ y. Unit {0}) (placed_entries t) (λ y _. All-front P (placed_entries t y) (placed_trailers t y) (h y)) (chain t k) (all_units (chain t k)))
@@ -328,7 +328,7 @@ module _ (t : Table) (is : IsTable t) where
       let up = chain_end t is k in
       let front = flat_map (placed_entries t) up.0 in
       let es : flat_map (placed_entries t) (chain t k) ≡ (front ++ h.before) ++ p ∷ [] =
-          ap (flat_map (placed_entries t)) up.1 ∙ flat_map-append (placed_entries t) up.0 (k ∷ []) ∙ ap (λ z. front ++ z) (append-nil (placed_entries t k) ∙ ap (placed_entries t) same ∙ h.last) ∙ sym (append_assoc front h.before (p ∷ [])) in
+      ap (flat_map (placed_entries t)) up.1 ∙ flat_map-append (placed_entries t) up.0 (k ∷ []) ∙ ap (λ z. front ++ z) (append-nil (placed_entries t k) ∙ ap (placed_entries t) same ∙ h.last) ∙ sym (append_assoc front h.before (p ∷ [])) in
       let two : sequence t k ≡ (front ++ h.before) ++ p ∷ trailers_along t k = ap (λ z. z ++ trailers_along t k) es ∙ append_assoc (front ++ h.before) (p ∷ []) (trailers_along t k) in
       let first : done ≡ front ++ h.before = stands_once done (front ++ h.before) p ps (trailers_along t k) (subst (Pairwise Apart) e (sequence_apart t is k)) (sym e ∙ two) in
       let rest : ps ≡ trailers_along t k = after_same (front ++ h.before) p ps (trailers_along t k) (ap (λ z. z ++ p ∷ ps) (sym first) ∙ sym e ∙ two) in

@@ -223,6 +223,11 @@ module _ (t : Table) (n : ℕ) where
   all_entries done [] s u b f once known fits h = h
   all_entries done (p ∷ ps) s u b f once known fits h =
       let one = if_tail s h.0 u p ps h.1 h.2 p.part (tail_of t p.part) refl h.4 (λ j len i no. some_in (tail_of t p.part) (λ l. HasOne Tells done × (ps ≡ trailers_along t p.container) × AllByRecursion (IsSized t) ps) (TailFits t s p j)
-          (λ l w. tail_fits s h.0 u p ps h.1 h.2 j (known w.0) w.1 w.2 (silent_after done p ps once w.0) (part_silent t n s p p.part h.0 h.1 no h.4) (part_before t (SpellsWithin n any t) s p p.part h.0 h.1 h.4) len h.5 fits) f.0 i) in
-      (h.0, h.1, h.2, h.3, (h.4, one),
-      all_entries (done ++ p ∷ []) ps h.0 u h.2 f.1 (subst IsLengthOnce (sym (append_assoc done (p ∷ []) ps)) once) (λ k. part_told t n s p p.part h.0 h.1 (elim (one_split done p k) [ inl w ↦ inr (known w) | inr e ↦ inl e ]) h.4) fits h.5)
+      (λ l w. tail_fits s h.0 u p ps h.1 h.2 j (known w.0) w.1 w.2 (silent_after done p ps once w.0) (part_silent t n s p p.part h.0 h.1 no h.4) (part_before t (SpellsWithin n any t) s p p.part h.0 h.1 h.4) len h.5 fits) f.0 i) in (
+        h.0,
+        h.1,
+        h.2,
+        h.3,
+        (h.4, one),
+        all_entries (done ++ p ∷ []) ps h.0 u h.2 f.1 (subst IsLengthOnce (sym (append_assoc done (p ∷ []) ps)) once) (λ k. part_told t n s p p.part h.0 h.1 (elim (one_split done p k) [ inl w ↦ inr (known w) | inr e ↦ inl e ]) h.4) fits h.5,
+      )

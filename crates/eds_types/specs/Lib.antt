@@ -10,6 +10,7 @@ pub mod Overlap
 pub mod Reading
 pub mod Rules
 pub mod Sizes
+pub mod Laws
 pub mod Stored
 pub mod Tables
 pub mod Sample

@@ -273,22 +273,22 @@ module _ (t : Table) (read : ℕ → Bits → Read Plain) where
   read_chain [] s b = Ok (s, b)
   read_chain (y ∷ ys) s b = read_own y s b >>= λ v. read_chain ys v.0 v.1
 
-  abbrev pub go_on : ℕ → (ℕ → Progress → Bits → Ends) → ℕ → Progress → Bits → Next → Ends
-  go_on top then x s b stay = read_parts t read (trailers_up x) s b >>= finish x (length_path t x)
-  go_on top then x s b nowhere = Err (NoDerived, step.Choice (id_of x) ∷ [])
-  go_on top then x s b (under z) = read_parts t read (placed_entries t z) s b >>= λ v. then z v.0 v.1
+  abbrev pub go_on : (ℕ → Progress → Bits → Ends) → ℕ → Progress → Bits → Next → Ends
+  go_on then x s b stay = read_parts t read (trailers_up x) s b >>= finish x (length_path t x)
+  go_on then x s b nowhere = Err (NoDerived, step.Choice (id_of x) ∷ [])
+  go_on then x s b (under z) = read_parts t read (placed_entries t z) s b >>= λ v. then z v.0 v.1
 
   -- the container x and its bases have been read
-  unfoldable pub read_under : ℕ → ℕ → ℕ → Progress → Bits → Ends
-  read_under top zero x s b = Err (NoDerived, step.Choice (id_of x) ∷ [])
-  read_under top (suc n) x s b = go_on top (read_under top n) x s b (next t x s.fields)
+  unfoldable pub read_under : ℕ → ℕ → Progress → Bits → Ends
+  read_under zero x s b = Err (NoDerived, step.Choice (id_of x) ∷ [])
+  read_under (suc n) x s b = go_on (read_under n) x s b (next t x s.fields)
 
   abbrev pub ended : Ends → Read Plain
   ended (Ok e) = Ok (fields e.0 (plains_of (values_of (e.1).fields)), e.2)
   ended (Err g) = Err g
 
   abbrev pub read_to_end : ℕ → Bits → Ends
-  read_to_end top b = read_chain (chain t top) started b >>= λ v. read_under top 16 top v.0 v.1
+  read_to_end top b = read_chain (chain t top) started b >>= λ v. read_under 16 top v.0 v.1
 
   abbrev pub read_kind : ℕ → Kind → Bits → Read Plain
   read_kind id (kind.Int form spans) b = judge (λ c. ranged spans (number_of form c)) (read_bits form.bits b)

@@ -142,7 +142,8 @@ pub record IsCounted (t : Table) (list : Placed) (container place : ℕ) : Type 
   pub before : IsBefore (sequence t list.container) (record { container = container; place = place; part = part.Plain name id }) list
   pub counts : IsInt t id.0 (λ form spans. (n : ℤ) → IsWithin spans n → pos 0 ≤ℤ n)
 
--- an unsigned form of the check's size, with all its numbers (ErrorControl)
+-- an unsigned form of the check's size, with all its numbers: that its type was given no range shows in a table only by
+-- these (ErrorControl)
 pub record HoldsCheck (check : CheckKind) (form : IntForm) (spans : List Span) : Type 0 where
   pub encoding : form.encoding ≡ Unsigned
   pub size : form.bits ≡ check_bits check
@@ -218,10 +219,27 @@ pub record IsTypeSet (t : Table) (target : ℕ) (set : List Span) : Type 0 where
   pub ids : (n : ℤ) → IsWithin set n → (k : ℕ) × (n ≡ pos k) × IsTrue (is_concrete t k) × IsAtOrUnder t kept k
   pub all : (k : ℕ) → IsTrue (is_concrete t k) → IsAtOrUnder t kept k → IsWithin set (pos k)
 
+-- the set has just one number
+pub record IsOneNumber (set : List Span) : Type 0 where
+  pub number : ℤ
+  pub in_it : IsWithin set number
+  pub only : (n : ℤ) → IsWithin set n → n ≡ number
+
+-- what a constraint on a scalar of this kind compares it with: a number with any numbers, a label and a truth value with
+-- the number of one (ConstraintTarget, ConstraintValue)
+abbrev pub ComparesWith : Kind → List Span → Type 0
+ComparesWith (kind.Int form spans) set = Unit {0}
+ComparesWith (kind.Enum form listing) set = IsOneNumber set
+ComparesWith (kind.Bool form) set = IsOneNumber set
+ComparesWith (kind.Str form) set = ⊥
+ComparesWith (kind.Bin n free) set = ⊥
+ComparesWith (kind.Arr item n) set = ⊥
+ComparesWith (kind.Con c) set = ⊥
+
 -- a constraint speaks of a scalar, or, where it is one on an entry's type, of a container
 abbrev pub TargetKeeps : Table → ℕ → Bool → List Span → Type 0
 TargetKeeps t target true set = IsContainer t target × IsTypeSet t target set
-TargetKeeps t target false set = HasKind t target IsScalarKind
+TargetKeeps t target false set = HasKind t target (λ k. ComparesWith k set)
 
 -- a constraint of the container k, which derives from base: its path leads to an entry, from one of the bases' own
 -- entries, and all that the chain asks of this entry can be met (ConstraintEmpty)

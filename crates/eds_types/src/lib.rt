@@ -6,6 +6,7 @@ pub mod built;
 mod chain;
 mod copy;
 mod flat_sample;
+pub mod law;
 mod look;
 pub mod packs;
 mod reason;

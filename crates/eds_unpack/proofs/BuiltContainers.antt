@@ -360,10 +360,10 @@ module _ (t : Table) (y : ℕ) (c : Container) (here : container_of t y ≡ Some
         go (Ok u) = refl
         go (Err g) = refl
 
-    under_is : (s : Progress) (b : Bits) → read_under t read y 16 y s b ≡ (parts_read t read (placed_trailers t y) s b >>= finish y (length_path t y))
+    under_is : (s : Progress) (b : Bits) → read_under t read 16 y s b ≡ (parts_read t read (placed_trailers t y) s b >>= finish y (length_path t y))
     unfolding read_under
     under_is s b =
-        ap (go_on t read y (read_under t read y 15) y s b) (stays t built y c s.fields here)
+        ap (go_on t read (read_under t read 15) y s b) (stays t built y c s.fields here)
         ∙ ap (λ ps. parts_read t read ps s b >>= finish y (length_path t y)) (ap (λ ys. flat_map (placed_trailers t) (reverse ys)) (one_chain t built y c here) ∙ append-nil (placed_trailers t y))
 
     ends_as : (done : List Part) (r : Read Progress) (q : Result SoFar Where) → Keeps done r q → ended t read (r >>= finish y (length_path t y)) ≡ (q >>= λ u. Ok (as_fields y u))
@@ -374,7 +374,7 @@ module _ (t : Table) (y : ℕ) (c : Container) (here : container_of t y ≡ Some
 
     pub fields_read : (b : Bits) → ended t read (read_to_end t read y b) ≡ read_fields read y es ts b
     fields_read b =
-        ap (λ r. ended t read (r >>= λ v. read_under t read y 16 y v.0 v.1)) (chain_is started b)
+        ap (λ r. ended t read (r >>= λ v. read_under t read 16 y v.0 v.1)) (chain_is started b)
         ∙ go (parts_read t read (placed_entries t y) started b) (read_parts read all y 0 es ([], b)) first
       where
         parts : AllByRecursion (λ (p : Placed). IsCountedIn y all p.place p.part) (placed_from y 0 (es ++ ts))
@@ -395,7 +395,7 @@ module _ (t : Table) (y : ℕ) (c : Container) (here : container_of t y ≡ Some
         last : AllByRecursion (λ (p : Placed). IsCountedIn y all p.place p.part) (placed_from y (length es) ts)
         last = subst (λ n. AllByRecursion (λ (p : Placed). IsCountedIn y all p.place p.part) (placed_from y n ts)) place (All-back (λ (p : Placed). IsCountedIn y all p.place p.part) (placed_from y 0 es) (placed_from y (0 + length es) ts) split)
 
-        go : (r : Read Progress) (q : Result SoFar Where) → Keeps es r q → ended t read (r >>= λ v. read_under t read y 16 y v.0 v.1) ≡ (q >>= λ s. (read_parts read all y (length es) ts s >>= λ u. Ok (as_fields y u)))
+        go : (r : Read Progress) (q : Result SoFar Where) → Keeps es r q → ended t read (r >>= λ v. read_under t read 16 y v.0 v.1) ≡ (q >>= λ s. (read_parts read all y (length es) ts s >>= λ u. Ok (as_fields y u)))
         go (Ok u) (Ok q) h =
             ap (ended t read) (under_is u.0 u.1)
             ∙ ends_as (es ++ ts) (parts_read t read (placed_trailers t y) u.0 u.1) (read_parts read all y (length es) ts (values_of (u.0).fields, u.1))

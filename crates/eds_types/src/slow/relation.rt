@@ -28,7 +28,11 @@ struct Piece<'w> {
 
 // A binary of so many bits, or an open one of at most so many, has this number of bits.
 fn fits_binary(size: u32, open: bool, count: u32) -> bool {
-    if open { count <= size && count % 8 == 0 } else { count == size }
+    if open {
+        count <= size && count % 8 == 0
+    } else {
+        count == size
+    }
 }
 
 impl<'a> Slow<'a> {

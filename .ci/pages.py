@@ -1,0 +1,138 @@
+#!/usr/bin/env python3
+"""Runs the examples of the pages, and compares what they print with what stands there.
+
+  .ci/pages.py [--renew] [PAGE...]
+
+An example is a fenced block of the kind `console`, or an indented block that begins with `$ `. A line `$ COMMAND` is run by
+the shell, and the lines below it are what it prints, on either stream. `$ cat NAME` is no command: the lines below it are
+the file NAME, which the page's later examples have. `$ echo $?` prints the status of the command before it. A page's
+examples are run in one empty folder, in which eds, tools and examples stand as they do at the top of the repository.
+Without words all pages are taken. The environment's EDS may name a built program to be run in the place of ./eds.
+
+A fenced block of the kind `rust` whose first line is `// FILE: NAME` shows the function NAME as it stands in that file of
+the repository, so that what a page shows is proved. With --renew such blocks are written anew, and nothing is run.
+"""
+
+import os
+import re
+import subprocess
+import sys
+import tempfile
+import textwrap
+from concurrent.futures import ThreadPoolExecutor
+
+TOP = os.path.dirname(os.path.dirname(os.path.abspath(__file__)))
+SECONDS = 120
+
+
+def pages():
+    found = []
+    for folder, folders, files in os.walk(TOP):
+        folders[:] = sorted(it for it in folders if it not in (".git", "out", "src", "specs", "proofs", "must-fail"))
+        found += [os.path.join(folder, it) for it in sorted(files) if it.endswith(".md")]
+    return found
+
+
+def blocks(text):
+    """The examples of a page: the number of the first line of each, and its lines."""
+    lines, found, at = text.split("\n"), [], 0
+    while at < len(lines):
+        fence = re.match(r"( *)```console$", lines[at])
+        is_indented = lines[at].startswith("    $ ")
+        begins = at + 1 if fence else at
+        if fence:
+            end = next(i for i in range(begins, len(lines)) if lines[i].strip() == "```")
+            found.append((begins, [it[len(fence[1]) :] for it in lines[begins:end]]))
+        elif is_indented:
+            end = next((i for i in range(begins, len(lines)) if not lines[i].startswith("    ")), len(lines))
+            found.append((begins, [it[4:] for it in lines[begins:end]]))
+        at = end + 1 if fence or is_indented else at + 1
+    return found
+
+
+def steps(block):
+    """The commands of an example, each with the lines below it."""
+    found = []
+    for line in block:
+        if line.startswith("$ "):
+            found.append((line[2:], []))
+        elif found:
+            found[-1][1].append(line)
+    return found
+
+
+def run(command, room):
+    """What a command prints, and its status."""
+    how = {"cwd": room, "stdin": subprocess.DEVNULL, "stdout": subprocess.PIPE, "stderr": subprocess.STDOUT, "timeout": SECONDS}
+    path = os.pathsep.join([room, os.environ.get("PATH", "")])
+    ran = subprocess.run(["sh", "-c", command], env=dict(os.environ, PATH=path), check=False, **how)
+    return ran.stdout.decode(errors="replace"), ran.returncode
+
+
+def hold(page):
+    """Runs a page's examples. Gives how many commands were run, and what went wrong."""
+    with open(page, encoding="utf-8") as file:
+        text = file.read()
+    found, short, ran, wrong = blocks(text), os.path.relpath(page, TOP), 0, []
+    if shown(text) != text:
+        ran, wrong = 1, [f"{short}: a function that it shows has changed: .ci/pages.py --renew"]
+    with tempfile.TemporaryDirectory(prefix="eds-page-") as room:
+        os.symlink(os.environ.get("EDS") or os.path.join(TOP, "eds"), os.path.join(room, "eds"))
+        for name in ("tools", "examples"):
+            os.symlink(os.path.join(TOP, name), os.path.join(room, name))
+        for begins, block in found:
+            status = 0
+            for command, below in steps(block):
+                wanted = "".join(it + "\n" for it in below)
+                named = re.fullmatch(r"cat ([\w.-]+)", command)
+                if named:
+                    with open(os.path.join(room, named[1]), "w", encoding="utf-8") as file:
+                        file.write(wanted)
+                    continue
+                printed, status = (f"{status}\n", 0) if command == "echo $?" else run(command, room)
+                ran += 1
+                if printed != wanted:
+                    wrong.append(f"{short}, line {begins + 1}: {command}\nstatus {status}, printed:\n{printed}")
+    return ran, wrong
+
+
+def function(file, name):
+    """A function's text in a file, from its name to its end, without the indentation."""
+    with open(os.path.join(TOP, file), encoding="utf-8") as it:
+        found = re.search(rf"^( *)(pub(\(crate\))? )?fn {name}\b.*?^\1}}$", it.read(), re.S | re.M)
+    return textwrap.dedent(found[0]) if found else f"// {file} has no function {name}"
+
+
+def shown(text):
+    """A page's text with each function that it shows as it stands in its file."""
+    block = r"```rust\n(// (\S+): (\w+)\n)(?:.*?\n)??```"
+    return re.sub(block, lambda it: f"```rust\n{it[1]}{function(it[2], it[3])}\n```", text, flags=re.S)
+
+
+def renew(page):
+    with open(page, encoding="utf-8") as file:
+        text = file.read()
+    if shown(text) != text:
+        with open(page, "w", encoding="utf-8") as file:
+            file.write(shown(text))
+        print(f"pages: {os.path.relpath(page, TOP)} is renewed")
+
+
+def main():
+    words = [it for it in sys.argv[1:] if it != "--renew"]
+    taken = [os.path.abspath(it) for it in words] or pages()
+    if "--renew" in sys.argv:
+        for page in taken:
+            renew(page)
+        return 0
+    with ThreadPoolExecutor(os.cpu_count()) as pool:
+        found = list(pool.map(hold, taken))
+    ran, wrong = sum(it[0] for it in found), [it for _, failed in found for it in failed]
+    for it in wrong:
+        print(f"pages: {it}")
+    print(f"pages: {ran - len(wrong)} passed, {len(wrong)} failed")
+    return 1 if wrong else 0
+
+
+if __name__ == "__main__":
+    sys.exit(main())

@@ -1,0 +1,5 @@
+use Rattle.eds_overlap.proofs.TailFrames.{worked_tails}
+use Rattle.eds_overlap.proofs.law.worked_tails.Goals as goal
+
+pub returns : goal.returns
+returns c = worked_tails

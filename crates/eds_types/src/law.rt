@@ -1,0 +1,26 @@
+//! Laws of types and values: functions with no body, whose contracts are what was proved.
+
+ghost use Rattle.eds_types.specs.Laws.{OneSize, HasCanonical, OneCanonical, LeastIsLeast, EmptyTypes, PackingIsDecided};
+
+/// A value that is spelled has exactly one canonical spelling, and all its spellings have as many bits.
+pub fn canonical_spelling()
+    ensures some { HasCanonical }
+    ensures one { OneCanonical }
+    ensures size { OneSize }
+{}
+
+/// No spelling of a value has fewer bits than the least size of its type.
+pub fn least_size()
+    ensures { LeastIsLeast }
+{}
+
+/// A type has a spelling of no bits exactly where it is hollow, or an open binary.
+pub fn empty_types()
+    ensures { EmptyTypes }
+{}
+
+/// A value has a canonical spelling that isn't too long, or packing it fails at exactly one path for exactly one reason;
+/// and not both.
+pub fn packing_is_decided()
+    ensures { PackingIsDecided }
+{}
