@@ -12,6 +12,3 @@ pub use fail::PackFail;
 pub use octets::pack;
 pub use room::pack_into;
 pub use size::{conforms, packed_bits};
-
-#[cfg(test)]
-mod tests;

@@ -56,10 +56,10 @@ spelled_by r P F t d = go d.either
 
 -- ---- scalars, texts and binaries
 
-fits_true : (form : TextForm) (s : List ℕ) → TextFits form s → text_fits form s ≡ true
+pub fits_true : (form : TextForm) (s : List ℕ) → TextFits form s → text_fits form s ≡ true
 fits_true form s h = and_from (is_coded form.ascii s) (not (list_has s form.stop)) (coded_in form.ascii s h.0) (ap not (false_from_ne_true (list_has s form.stop) (λ e. h.1 (has_from s form.stop e))))
 
-fits_false : (form : TextForm) (s : List ℕ) → (TextFits form s → ⊥) → text_fits form s ≡ false
+pub fits_false : (form : TextForm) (s : List ℕ) → (TextFits form s → ⊥) → text_fits form s ≡ false
 fits_false form s h = false_from_ne_true (text_fits form s) (λ e. let p = and_parts (is_coded form.ascii s) (not (list_has s form.stop)) e in h (coded_from form.ascii s p.0, λ x. none (list_has s form.stop) p.1 (has_in s form.stop x.before x.after x.is)))
   where
     none : (b : Bool) → not b ≡ true → b ≡ true → ⊥

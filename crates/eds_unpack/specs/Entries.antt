@@ -1,18 +1,16 @@
--- Reading numbers, items, and the parts of a container one after the other.
-use Rattle.std.specs.Prelude.{ℕ, ◌+◌, ℤ, List, [], ◌∷◌, ◌++◌, length, take, filter, slice_get, Option, Some, None, Result, Ok, Err}
+-- Reading numbers, and the entries of a container one after the other.
+use Rattle.std.specs.Prelude.{ℕ, ◌+◌, ℤ, List, [], ◌∷◌, ◌++◌, Option, Some, None, Result, Ok, Err, unwrap_or}
 use Rattle.eds_base.specs.declared.fault.Step.TheVariants as step
-use Rattle.eds_base.specs.declared.fault.Reason.TheVariants.{BadDigit, Short, FixedDiffers}
+use Rattle.eds_base.specs.declared.fault.Reason.TheVariants.{BadDigit}
 use Rattle.eds_bits.specs.declared.forms.IntForm.{IntForm}
 use Rattle.eds_bits.specs.Bits.{Bits}
 use Rattle.eds_bits.specs.IntForms.{number_of}
 use Rattle.eds_types.specs.declared.row.Part.{Part}
-use Rattle.eds_types.specs.declared.row.Part.TheVariants as part
 use Rattle.eds_types.specs.Failing.{Where, here}
-use Rattle.eds_types.specs.Fields.{has_value}
-use Rattle.eds_types.specs.Plain.{Plain, items, fields, plain, plains_of}
-use Rattle.eds_types.specs.Reading.{Read, ◌>>=◌, inside, judge, read_bits, read_items, expected}
+use Rattle.eds_types.specs.Fields.{type_by}
+use Rattle.eds_types.specs.Plain.{Plain, fields, plains_of}
+use Rattle.eds_types.specs.Reading.{Read, ◌>>=◌, inside, judge, read_bits}
 use Rattle.eds_types.specs.Rows.{id_of}
-use Rattle.eds_types.specs.Spelling.{count_in}
 
 -- ---- numbers
 
@@ -24,42 +22,27 @@ decimal (Some n) = Ok n
 abbrev pub read_number : IntForm → Bits → Read ℤ
 read_number form b = judge (λ c. decimal (number_of form c)) (read_bits form.bits b)
 
--- ---- parts
+-- ---- entries
 
 -- the values so far, and the bits that are left
 abbrev pub SoFar : Type 0
 SoFar = List Plain × Bits
 
--- how many parts have a value
-abbrev pub valued_in : List Part → ℕ
-valued_in ps = length (filter has_value ps)
+abbrev pub entry_type : Part → ℕ
+entry_type p = unwrap_or (type_by (Some p)) 0
 
--- how many items the value of the part at place i tells, where the parts have these values in turn
-abbrev pub count_of : List Part → ℕ → List Plain → ℕ
-count_of all i vs = count_in (slice_get vs (valued_in (take i all)))
+-- the entry at place i of the container y
+abbrev pub entry_step : (ℕ → Bits → Read Plain) → ℕ → ℕ → Part → SoFar → Result SoFar Where
+entry_step read y i p s = inside (step.Part (id_of y) i) (read (entry_type p) s.1) >>= λ v. Ok (s.0 ++ v.0 ∷ [], v.1)
 
--- the part of a container that has these parts
-abbrev pub part_step : (ℕ → Bits → Read Plain) → List Part → Part → SoFar → Result SoFar Where
-part_step read all (part.Plain name id) s = read id.0 s.1 >>= λ v. Ok (s.0 ++ v.0 ∷ [], v.1)
-part_step read all (part.Fixed name id w) s = judge (expected (plain w) FixedDiffers) (read id.0 s.1) >>= λ u. Ok (s.0, u.1)
-part_step read all (part.Pad n) s = read_bits n s.1 >>= λ c. Ok (s.0, c.1)
-part_step read all (part.List name id y i) s = read_items (read id.0) (count_of all i s.0) 0 s.1 >>= λ vs. Ok (s.0 ++ items (plains_of vs.0) ∷ [], vs.1)
-part_step read all (part.Length name id c0 c1) s = Err (here Short)
-part_step read all (part.Check name id k) s = Err (here Short)
-
--- the part at place i of the container y
-abbrev pub placed_step : (ℕ → Bits → Read Plain) → List Part → ℕ → ℕ → Part → SoFar → Result SoFar Where
-placed_step read all y i p s = inside (step.Part (id_of y) i) (part_step read all p s)
-
--- the parts from place i on
-abbrev pub read_parts : (ℕ → Bits → Read Plain) → List Part → ℕ → ℕ → List Part → SoFar → Result SoFar Where
-read_parts read all y i [] s = Ok s
-read_parts read all y i (p ∷ ps) s = placed_step read all y i p s >>= λ u. read_parts read all y (i + 1) ps u
+-- the entries from place i on
+abbrev pub read_entries : (ℕ → Bits → Read Plain) → ℕ → ℕ → List Part → SoFar → Result SoFar Where
+read_entries read y i [] s = Ok s
+read_entries read y i (p ∷ ps) s = entry_step read y i p s >>= λ u. read_entries read y (i + 1) ps u
 
 abbrev pub as_fields : ℕ → SoFar → Plain × Bits
 as_fields k s = (fields k (plains_of s.0), s.1)
 
--- the fields of a container without bases, with these entries and then these trailers
-abbrev pub read_fields : (ℕ → Bits → Read Plain) → ℕ → List Part → List Part → Bits → Read Plain
-read_fields read k es ts b =
-    read_parts read (es ++ ts) k 0 es ([], b) >>= λ s. (read_parts read (es ++ ts) k (length es) ts s >>= λ u. Ok (as_fields k u))
+-- the fields of a container that is made of entries alone
+abbrev pub read_flat : (ℕ → Bits → Read Plain) → ℕ → List Part → Bits → Read Plain
+read_flat read k ps b = read_entries read k 0 ps ([], b) >>= λ s. Ok (as_fields k s)

@@ -7,6 +7,3 @@ mod scalar;
 mod whole;
 
 pub use whole::unpack;
-
-#[cfg(test)]
-mod tests;

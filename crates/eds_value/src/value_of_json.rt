@@ -1,14 +1,12 @@
 //! The value that JSON stands for.
 
-ghost use Rattle.std.specs.Prelude.{◌≡◌, ◌<◌, ◌&&◌, IfNone, IfOk, IfSome, codes, false, length, map, option_and_then, option_map};
+ghost use Rattle.std.specs.Prelude.{◌≡◌, ◌<◌, ◌≤◌, ◌+◌, ◌*◌, ◌&&◌, IfNone, IfOk, IfSome, [], codes, false, length, map, option_and_then, option_map};
 ghost use Rattle.serde_json.specs.Find.{as_integer, as_number, get as get_at};
 ghost use Rattle.serde_json.specs.View.{items_view, view};
-ghost use Rattle.eds_base.specs.Answering.{Answers};
+ghost use Rattle.eds_base.specs.Answering.{Answers, or_stop};
 ghost use Rattle.eds_base.specs.Reading.{same};
 ghost use Rattle.eds_types.specs.PackedSizes.{has_bits};
 ghost use Rattle.eds_types.specs.Plain.{plain};
-ghost use Rattle.eds_types.specs.Rows.{chain, list_has};
-ghost use Rattle.eds_value.specs.Entries.{entries_along as entries_in};
 ghost use Rattle.eds_value.specs.Seen.{seen};
 ghost use Rattle.eds_value.specs.Stops.{IsNear, stop_behind, stop_inside};
 ghost use Rattle.eds_value.specs.ValueOfJson.{binary_by as binary_of, binary_in as binary_from, bits_for as bits_of_octets, octets_of_hex as octets_in_hex, container_named as container_in, entry_value as value_of_entry, fields_in as fields_from, has_each as has_each_of, has_members as has_members_of, has_so_many as has_so_many_of, is_container as is_con, items_from as items_of, items_in as items_of_json, member_value as value_of_member, member_values as values_of_members, named_from, or_inside, scalar_by as scalar_of, value_by as value_of_kind, value_of_json as value_from, value_within as value_in};

@@ -1,4 +1,5 @@
-use Rattle.std.proofs.Common.{◌∙◌, ap, drop, length, nat_eq, arith}
+use Rattle.std.proofs.Common.{◌∙◌, ap, drop, length, nat_eq, min, arith}
+use Rattle.std.proofs.lemmas.List.{get_or_default}
 use Rattle.eds_bits.proofs.OctetLaws.{length-bits_of}
 use Rattle.eds_bits.specs.Bits.{Bits}
 use Rattle.eds_types.proofs.Binaries.{filled_if, filler_is}
@@ -14,5 +15,5 @@ after-requires c =
 
 pub returns-in-Some : goal.returns-in-Some
 returns-in-Some c =
-    filled_if c.args.bits c.args.octets.now c.type_inv.octets c.requires (nat_eq c.in-Some.number 0)
-    (ap (λ n. nat_eq n 0) (filler_is c.args.bits c.from.result _ c.in-Some.number c.args.octets.now _ (c.new-reader.ensures ∙ c.after.ensures ∙ ap (λ (z : Bits). drop c.from.result z) c.new.ensures) c.from.ensures c.requires _ c.in-Some.ensures.value))
+    filled_if c.args.bits c.args.octets.now (λ k d h. rw (get_or_default c.args.octets.now k d 0 h) (omega (arith, c.type_inv.octets k))) c.requires (nat_eq c.in-Some.number 0)
+    (ap (λ n. nat_eq n 0) (filler_is c.args.bits c.from.result _ c.in-Some.number c.args.octets.now _ (c.new-reader.ensures ∙ c.after.ensures ∙ ap (λ (z : Bits). drop c.from.result z) c.new.ensures) c.from.ensures c.requires (c.min-filler.ensures ∙ ap (λ n. min n 7) c.left.ensures) c.in-Some.ensures.value))
