@@ -15,6 +15,7 @@ the repository, so that what a page shows is proved. With --renew such blocks ar
 
 import os
 import re
+import shutil
 import subprocess
 import sys
 import tempfile
@@ -23,6 +24,8 @@ from concurrent.futures import ThreadPoolExecutor
 
 TOP = os.path.dirname(os.path.dirname(os.path.abspath(__file__)))
 SECONDS = 120
+# commands that a machine may lack: an example with one is then passed over
+SPARE = ["xxd"]
 
 
 def pages():
@@ -81,6 +84,10 @@ def hold(page):
         for name in ("tools", "examples"):
             os.symlink(os.path.join(TOP, name), os.path.join(room, name))
         for begins, block in found:
+            lacking = [it for it in SPARE if re.search(rf"\b{it}\b", "\n".join(block)) and not shutil.which(it)]
+            if lacking:
+                print(f"pages: {short}, line {begins + 1}: passed over, since {lacking[0]} is not here")
+                continue
             status = 0
             for command, below in steps(block):
                 wanted = "".join(it + "\n" for it in below)

@@ -2,3 +2,4 @@ pub mod Counts
 pub mod Files
 pub mod Whole
 pub mod InMemory
+pub mod Reads

@@ -41,6 +41,8 @@ impl Shelf for CalmShelf {
 
     ghost faults = { λ _ _. 0 };
 
+    ghost gives = { λ before _ _ _ after. after ≡ before };
+
     fn read_at(&mut self, name: &str, from: u64, room: &mut [u8]) -> Got
         ensures gives { result ≡ got_of (file_named name.now self.old) from (length room.old) (length room.old) }
         ensures same { self.new ≡ self.old }

@@ -101,11 +101,13 @@ fn read_on<F: Read + Seek>(opened: &mut Opened<F>, from: u64, room: &mut [u8]) -
 }
 
 impl<R: Files + AllocGlobal> Shelf for HostShelf<R> {
-    ghost use Rattle.std.specs.Prelude.{None};
+    ghost use Rattle.std.specs.Prelude.{None, ⊤};
 
     ghost files = { λ _. None };
 
     ghost faults = { λ shelf _. shelf };
+
+    ghost gives = { λ _ _ _ _ _. ⊤ };
 
     fn read_at(&mut self, name: &str, from: u64, room: &mut [u8]) -> Got {
         match self.opened(name, from) {

@@ -80,6 +80,8 @@ impl Shelf for MemShelf {
 
     ghost faults = { λ shelf name. count_at (place_of name shelf.files) shelf.tally };
 
+    ghost gives = { λ before name _ _ after. after ≡ after_read before name };
+
     fn read_at(&mut self, name: &str, from: u64, room: &mut [u8]) -> Got
         ensures gives { result ≡ read_of self.old name.now from (length room.old) }
         ensures after { self.new ≡ after_read self.old name.now }

@@ -3,6 +3,7 @@
 ghost use Rattle.std.specs.Prelude.{◌≡◌, ◌≤◌, ◌<◌, ◌++◌, ℕ, List, Option, Some, None, Ok, Err, length, take, IfOk, OnOk, OnErr, IsOk, IsSomeAnd, ◌^◌, ◌-◌};
 ghost use Rattle.eds_io.specs.Counts.{HasRisen};
 ghost use Rattle.eds_io.specs.Files.{Files, file_named};
+ghost use Rattle.eds_io.specs.Reads.{Come, EndsBy};
 ghost use Rattle.eds_io.specs.Whole.{UnlessFailed, UnlessMemory};
 
 use crate::shelf::{Got, Shelf};
@@ -56,6 +57,7 @@ pub fn read_whole<S: Shelf>(
 ) -> Result<Octets, Fail<ReadEnd>>
     ensures whole { (told : Files) → S.files shelf.old ≡ Some told → IfOk result (λ octets. file_named name.now told ≡ Some octets) }
     ensures bound { IfOk result (λ octets. length octets ≤ most) }
+    ensures came { (octets : List ℕ) × Come S.gives name.now shelf.old octets shelf.new × EndsBy most octets result }
     ensures no_file { (told : Files) → S.files shelf.old ≡ Some told → result ≡ Err (Fail.Named ReadEnd.NoFile) → file_named name.now told ≡ None }
     ensures missing { (told : Files) → S.files shelf.old ≡ Some told → file_named name.now told ≡ None → UnlessFailed result (result ≡ Err (Fail.Named ReadEnd.NoFile)) }
     ensures too_big { (told : Files) → S.files shelf.old ≡ Some told → result ≡ Err (Fail.Named ReadEnd.TooBig) → IsSomeAnd (file_named name.now told) (λ file. most < length file) }

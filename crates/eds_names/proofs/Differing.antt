@@ -1,20 +1,16 @@
 -- In a sheet that is not refused names differ, and a reference from no place is looked up by itself.
-use Rattle.std.proofs.Common.{◌≡◌, ℕ, Bool, true, false, ◌||◌, List, [], ◌∷◌, ◌++◌, length, ◌≤◌, map, Option, Some, None, Result, Ok, Err, refl, sym, ap, ◌∙◌, subst, slice_get, arith}
+use Rattle.std.proofs.Common.{◌≡◌, ℕ, Bool, true, false, ◌||◌, List, [], ◌∷◌, ◌++◌, length, ◌≤◌, map, Option, Some, None, Ok, refl, sym, ap, ◌∙◌, subst, arith}
 use Rattle.std.proofs.lemmas.Option.{slice_get_past}
 use Rattle.std.proofs.lemmas.List.{length-map}
-use Rattle.std.proofs.lemmas.Slice.Eq.{bytes_eq-Decides}
-use Rattle.std.specs.Bool.{one_answer}
-use Rattle.std.specs.Str.{bytes_eq}
 use Rattle.eds_base.specs.declared.refusal.Refusal.{Refusal}
 use Rattle.eds_base.specs.Reading.{same}
 use Rattle.eds_base.specs.Refusals.{first_of, least}
 use Rattle.eds_tree.specs.declared.tree.Node.{Node}
-use Rattle.eds_names.specs.declared.declared.Item.{Item}
 use Rattle.eds_names.specs.declared.declared.Declared.{Declared}
 use Rattle.eds_names.specs.Declarations.{named_of, declared_in}
 use Rattle.eds_names.specs.Standings.{arounds_of}
 use Rattle.eds_names.specs.Repeats.{Named, is_among, duplicate, repeat_of, repeats, repeats_from}
-use Rattle.eds_names.specs.LookUp.{Names, AreApart, NamesDiffer, duplicates, unless, names_of, names_in, look_up, item_named, first_found, or_else, around_at}
+use Rattle.eds_names.specs.LookUp.{Names, AreApart, NamesDiffer, duplicates, unless, names_of, names_in, look_up, item_named}
 use Rattle.eds_names.proofs.LookUpLemmas.{or_else-none, bytes_eq-sym}
 
 -- ---- no least, no refusals
@@ -107,3 +103,6 @@ by_itself trees text names node h =
     let parts = not_refused trees names h in
     let count : length names.arounds ≤ length trees = omega (arith, ap (λ (n : Names). length n.arounds) parts.1, length-map trees arounds_of) in
     rw (slice_get_past names.arounds (length trees) count) (or_else-none (item_named names.declared text))
+
+pub declared_of : (trees : List (List Node)) (names : Names) → names_in trees ≡ Ok names → declared_in trees ≡ names.declared
+declared_of trees names h = ap (λ (n : Names). n.declared) (not_refused trees names h).1

@@ -6,7 +6,7 @@ use Rattle.eds_base.proofs.LeastLaws.{first_assoc, least-append}
 use Rattle.eds_tree.specs.declared.tree.Node.{Node}
 use Rattle.eds_names.specs.declared.declared.Counts.{Counts}
 use Rattle.eds_names.specs.declared.declared.Declared.{Declared}
-use Rattle.eds_names.specs.Declarations.{Declaration, numbered, counted_all, declarations_in, declarations_from, declared_in, named_of}
+use Rattle.eds_names.specs.Declarations.{numbered, counted_all, declarations_in, declarations_from, declared_in, named_of}
 use Rattle.eds_names.specs.Repeats.{repeats, repeats_in, repeats_from}
 use Rattle.eds_names.specs.Standings.{arounds_of}
 use Rattle.eds_names.specs.LookUp.{names_in, names_of, unless, duplicates}

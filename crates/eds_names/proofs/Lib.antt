@@ -5,3 +5,6 @@ pub mod AroundLemmas
 pub mod LookUpLemmas
 pub mod FilesLemmas
 pub mod Differing
+pub mod Numbering
+pub mod Surrounded
+pub mod Own

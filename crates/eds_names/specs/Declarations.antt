@@ -1,5 +1,5 @@
 -- The types, interfaces and components that a sheet declares.
-use Rattle.std.specs.Prelude.{ℕ, ◌+◌, List, [], ◌∷◌, ◌++◌, map, codes, if◌then◌else◌, nat_eq, Bool, true, false, Option, Some, None}
+use Rattle.std.specs.Prelude.{◌≡◌, ℕ, ◌+◌, List, [], ◌∷◌, ◌++◌, filter, slice_get, codes, if◌then◌else◌, nat_eq, Bool, true, false, Option, Some, None}
 use Rattle.std.specs.List.{flat_map, ends_with}
 use Rattle.eds_base.specs.Reading.{same}
 use Rattle.eds_base.specs.declared.ids.Place.{Place}
@@ -107,3 +107,30 @@ abbrev pub is_comp : Item → Bool
 is_comp (item.Sort id) = false
 is_comp (item.Face id) = false
 is_comp (item.Comp id) = true
+
+-- ---- their rows
+
+-- the declared types of a sheet, in order: the rows of its table
+abbrev pub types_in : List Declared → List Declared
+types_in declared = filter (λ d. is_sort d.item) declared
+
+-- its declared interfaces, in order
+abbrev pub faces_in : List Declared → List Declared
+faces_in declared = filter (λ d. is_face d.item) declared
+
+-- its components, in order
+abbrev pub comps_in : List Declared → List Declared
+comps_in declared = filter (λ d. is_comp d.item) declared
+
+-- each of some declared items is the one of its position
+abbrev pub IsByPosition : (ℕ → Item) → List Declared → Type 0
+IsByPosition item_at declared = (k : ℕ) (d : Declared) → slice_get declared k ≡ Some d → d.item ≡ item_at k
+
+abbrev pub type_at : ℕ → Item
+type_at k = item.Sort (record { 0 = k })
+
+abbrev pub face_at : ℕ → Item
+face_at k = item.Face (record { 0 = k })
+
+abbrev pub comp_at : ℕ → Item
+comp_at k = item.Comp (record { 0 = k })

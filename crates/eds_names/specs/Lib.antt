@@ -3,3 +3,4 @@ pub mod Repeats
 pub mod Declarations
 pub mod Around
 pub mod LookUp
+pub mod Surroundings

@@ -1,5 +1,5 @@
 -- The names of a sheet, and what a reference finds.
-use Rattle.std.specs.Prelude.{◌≡◌, ℕ, false, List, [], ◌∷◌, ◌++◌, map, if◌then◌else◌, nat_eq, Option, Some, None, slice_get, Result, Ok, Err}
+use Rattle.std.specs.Prelude.{◌≡◌, ℕ, false, List, [], ◌∷◌, ◌++◌, map, if◌then◌else◌, nat_eq, Option, Some, None, slice_get, IsSomeAnd, Result, Ok, Err}
 use Rattle.eds_base.specs.Reading.{same}
 use Rattle.eds_base.specs.declared.ids.Place.{Place}
 use Rattle.eds_base.specs.declared.refusal.Refusal.{Refusal}
@@ -87,3 +87,11 @@ unless (Some r) names = Err r
 -- the names of a sheet, or the first that is given twice
 unfoldable pub names_in : List (List Node) → Result Names Refusal
 names_in trees = unless (least (duplicates trees)) (names_of trees)
+
+-- each of some declared items is found under its qualified name, as the one of its position
+abbrev pub AreFound : (ℕ → Item) → List Declared → List Declared → Type 0
+AreFound item_at rows declared = (k : ℕ) (d : Declared) → slice_get rows k ≡ Some d → item_named declared d.name ≡ Some (item_at k)
+
+-- a name that leads to the item of a position is the name of the row there
+abbrev pub LeadsToRow : (ℕ → Item) → List Declared → List Declared → Type 0
+LeadsToRow item_at rows declared = (name : List ℕ) (k : ℕ) → item_named declared name ≡ Some (item_at k) → IsSomeAnd (slice_get rows k) (λ d. d.name ≡ name)

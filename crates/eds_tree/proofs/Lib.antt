@@ -10,3 +10,6 @@ pub mod Colons
 pub mod Joined
 pub mod Lowest
 pub mod Counting
+pub mod FirstInOrder
+pub mod Once
+pub mod Reached

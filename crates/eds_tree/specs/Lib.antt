@@ -16,3 +16,4 @@ pub mod BadAttribute
 pub mod BadName
 pub mod Limits
 pub mod ShapeCheck
+pub mod Walks

@@ -7,6 +7,7 @@ mod build;
 mod element;
 mod groups;
 mod halves;
+pub mod law;
 mod link;
 mod order;
 mod read;

@@ -33,9 +33,6 @@ pub mod LeastBound
 pub mod RuleFacts
 pub mod ByRows
 pub mod SampleFacts
-pub mod SampleKeeps
-pub mod FlatSampleKeeps
-pub mod Appended
 pub mod TailSizes
 pub mod PackedSizes
 pub mod PackedFields

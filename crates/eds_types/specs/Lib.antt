@@ -13,10 +13,8 @@ pub mod Sizes
 pub mod Laws
 pub mod Stored
 pub mod Tables
-pub mod Sample
 pub mod FlatTables
 pub mod BuiltTables
-pub mod FlatSample
 pub mod Reasons
 pub mod PackedSizes
 pub mod PlainCode

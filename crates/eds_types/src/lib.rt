@@ -5,34 +5,26 @@ mod binary;
 pub mod built;
 mod chain;
 mod copy;
-mod flat_sample;
 pub mod law;
 mod look;
 pub mod packs;
 mod reason;
 mod row;
 mod same;
-mod sample;
 mod sequence;
 mod sizes;
-pub mod slow;
 mod table;
 mod value;
 mod values;
 
 pub use binary::is_binary;
 pub use chain::Chain;
-pub use flat_sample::flat_table;
 pub use reason::PackReason;
 pub use row::{
     Constraint, Constraints, Container, EntryPath, Kind, Listing, Part, Parts, TypeRow, TypeRows,
     Used,
 };
-pub use sample::sample_table;
 pub use sequence::Sequence;
 pub use table::TypeTable;
 pub use value::Value;
 pub use values::Values;
-
-#[cfg(test)]
-mod tests;

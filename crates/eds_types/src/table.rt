@@ -74,7 +74,7 @@ impl TypeTable {
     }
 
     /// The rows, each at the number of its type.
-    pub(crate) fn rows(&self) -> &[TypeRow]
+    pub fn rows(&self) -> &[TypeRow]
         ensures { result.now ≡ self.now }
     {
         self.rows.as_slice()

@@ -11,4 +11,3 @@ pub mod ReadsBack
 pub mod Named
 pub mod Plains
 pub mod Depths
-pub mod SampleValue

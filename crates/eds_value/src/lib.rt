@@ -14,6 +14,3 @@ pub use fail::ValueFail;
 pub use json_of_value::to_json;
 pub use path::path_text;
 pub use read::from_json;
-
-#[cfg(test)]
-mod tests;

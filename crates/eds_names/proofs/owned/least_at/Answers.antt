@@ -1,4 +1,4 @@
-use Rattle.std.proofs.Common.{get_or, refl, arith}
+use Rattle.std.proofs.Common.{refl, arith}
 use Rattle.eds_names.specs.Repeats.{repeats_by, holding_of}
 use Rattle.eds_names.proofs.RepeatsLemmas.{least-next_item}
 use Rattle.eds_names.proofs.owned.least_at.Goals as goal

@@ -1,5 +1,5 @@
-use Rattle.std.proofs.Common.{rules, ◌≡◌, ◌++◌, [], ◌∷◌, map, true, false, sym, ap, ◌∙◌, string_bytes, not}
-use Rattle.eds_names.specs.Repeats.{is_among, repeat_of}
+use Rattle.std.proofs.Common.{◌≡◌, map, true, false, sym, ◌∙◌, string_bytes}
+use Rattle.eds_names.specs.Repeats.{is_among}
 use Rattle.eds_names.proofs.RepeatsLemmas.{among-map, repeat_of-present, repeat_of-absent, names-present, first_of-none, inserted}
 use Rattle.eds_names.proofs.repeat.note_name.Goals as goal
 

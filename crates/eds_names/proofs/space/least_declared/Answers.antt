@@ -1,4 +1,4 @@
-use Rattle.std.proofs.Common.{map, string_bytes, sym, ap, ◌∙◌, arith}
+use Rattle.std.proofs.Common.{map, string_bytes, arith}
 use Rattle.eds_names.specs.Declarations.{named_of}
 use Rattle.eds_names.proofs.RepeatsLemmas.{least-next}
 use Rattle.eds_names.proofs.space.least_declared.Goals as goal

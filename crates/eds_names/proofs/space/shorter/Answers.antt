@@ -1,7 +1,7 @@
-use Rattle.std.proofs.Common.{◌≡◌, None, Some, sym, ap, ◌∙◌, ◌++◌, drop, lit<}
+use Rattle.std.proofs.Common.{Some, sym, ap, ◌∙◌, ◌++◌, drop, lit<}
 use Rattle.std.proofs.lemmas.Str.{encode_ascii}
 use Rattle.std.proofs.lemmas.Str.Pattern.{NoCharPasses-char}
-use Rattle.eds_names.specs.LookUp.{fronts, longest}
+use Rattle.eds_names.specs.LookUp.{longest}
 use Rattle.eds_names.proofs.LookUpLemmas.{fronts-none, longest-split}
 use Rattle.eds_names.proofs.space.shorter.Goals as goal
 

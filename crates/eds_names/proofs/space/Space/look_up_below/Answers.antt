@@ -1,4 +1,4 @@
-use Rattle.std.proofs.Common.{length, sym, ◌∙◌}
+use Rattle.std.proofs.Common.{sym, ◌∙◌}
 use Rattle.eds_names.proofs.LookUpLemmas.{longest-shorter, found-next}
 use Rattle.eds_names.proofs.space.Space.look_up_below.Goals as goal
 

@@ -1,0 +1,178 @@
+#!/usr/bin/env python3
+"""Runs the program on sheets, frames and values that are made to hurt, and holds it to its answers and to bounds.
+
+  .ci/hostile.py [--measure] [PROGRAM]
+
+PROGRAM is the built program (by default crates/eds_prog/out/eds_prog). Each input has the report that has to come, and a
+run takes at most 2 seconds of processor time, 256 MiB of memory and 1 MiB of stack, or 64 times the size of its files in
+memory where that is more. With --measure the time, the memory and the least stack that suffices are printed.
+"""
+
+import json
+import os
+import resource
+import subprocess
+import sys
+import tempfile
+from concurrent.futures import ThreadPoolExecutor
+
+TOP = os.path.dirname(os.path.dirname(os.path.abspath(__file__)))
+SECONDS, MEMORY, STACK = 2, 256 << 20, 1 << 20
+FILE = 4_194_304
+
+U4 = ["IntegerDataType", {"name": "U4"}, ["IntegerDataEncoding", {"sizeInBits": "4", "encoding": "unsigned"}]]
+U12 = ["IntegerDataType", {"name": "U12"}, ["IntegerDataEncoding", {"sizeInBits": "12", "encoding": "unsigned"}]]
+POSITIVE = ["Range", ["MinMaxRange", {"rangeType": "atLeast", "min": "0"}]]
+
+
+def sheet(*types, package="P"):
+    return ["PackageFile", ["Package", {"name": package}, ["DataTypeSet", *types]]]
+
+
+def container(name, *entries):
+    return ["ContainerDataType", {"name": name}, ["EntryList", *entries]]
+
+
+def entry(name, of):
+    return ["Entry", {"name": name, "type": of}]
+
+
+def sub_range(name, base):
+    return ["SubRangeDataType", {"name": name, "baseType": base}, POSITIVE]
+
+
+WORD = sheet(U4, U12, container("Word", entry("a", "U4"), entry("b", "U12")))
+
+
+def text(content):
+    if isinstance(content, bytes):
+        return content
+    return content.encode() if isinstance(content, str) else json.dumps(content, separators=(",", ":")).encode()
+
+
+def inputs():
+    """Each input: what it is, the words, the files, and the status and the report that have to come."""
+    yield "a circle of 4,096 sub-ranges", "check s", {"s": sheet(*(sub_range(f"S{i}", f"S{(i + 1) % 4096}") for i in range(4096)))}, (
+        1, "refused 15 BaseCycle at 0:3\n")  # fmt: skip
+    yield "a chain of 4,095 sub-ranges", "check s", {"s": sheet(U4, *(sub_range(f"S{i}", f"S{i - 1}" if i else "U4") for i in range(4095)))}, (
+        1, "refused 8 Limit at 0:50 chain\n")  # fmt: skip
+    yield "a chain of 4,095 sub-ranges, the last first", "check s", {
+        "s": sheet(*(sub_range(f"S{i}", f"S{i + 1}" if i < 4094 else "U4") for i in range(4095)), U4)
+    }, (1, "refused 8 Limit at 0:3 chain\n")
+    yield "4,096 types", "check s", {"s": sheet(*([U4[0], {"name": f"T{i}"}] for i in range(4096)))}, (
+        0, "accepted types 4096 containers 0 interfaces 0 components 0\n")  # fmt: skip
+    yield "4,097 types", "check s", {"s": sheet(*([U4[0], {"name": f"T{i}"}] for i in range(4097)))}, (1, "refused 8 Limit at 0:4099 types\n")
+    yield "a container of 32,767 entries", "check s", {"s": sheet(U4, container("C", *(entry(f"e{i}", "U4") for i in range(32767))))}, (
+        0, "accepted types 2 containers 1 interfaces 0 components 0\n")  # fmt: skip
+    yield "32,767 entries of one name", "check s", {"s": sheet(U4, container("C", *(entry("e", "U4") for _ in range(32767))))}, (
+        1, "refused 18 DuplicateEntry at 0:8 e\n")  # fmt: skip
+    yield "a container of 32,768 entries", "check s", {"s": sheet(U4, container("C", *(entry(f"e{i}", "U4") for i in range(32768))))}, (
+        1, "refused 8 Limit at 0:32774 children\n")  # fmt: skip
+    yield "an enumeration of 32,767 labels", "check s", {
+        "s": sheet(["EnumeratedDataType", {"name": "E"}, ["EnumerationList", *(["Enumeration", {"label": f"L{i}", "value": str(i)}] for i in range(32767))]])
+    }, (0, "accepted types 1 containers 0 interfaces 0 components 0\n")
+    yield "an enumeration whose last label is its first", "check s", {
+        "s": sheet(["EnumeratedDataType", {"name": "E"}, ["EnumerationList", *(["Enumeration", {"label": f"L{i % 32766}", "value": str(i)}] for i in range(32767))]])
+    }, (1, "refused 14 BadEnumeration at 0:3\n")
+    yield "200 brackets", "check s", {"s": "[" * 200}, (1, "refused 1 NotJson at 0:0\n")
+    yield "4 MiB of brackets", "check s", {"s": "[" * FILE}, (1, "refused 1 NotJson at 0:0\n")
+    yield "4 MiB of braces", "check s", {"s": '{"a":' * (FILE // 5)}, (1, "refused 1 NotJson at 0:0\n")
+    yield "4 MiB of blanks", "check s", {"s": " " * FILE}, (1, "refused 1 NotJson at 0:0\n")
+    yield "a name of 4 MiB", "check s", {"s": ["PackageFile", ["Package", {"name": "-" * (FILE - 60)}]]}, (
+        1, "refused 7 BadName at 0:1 " + "-" * (FILE - 60) + "\n")  # fmt: skip
+    yield "300,000 attributes of one name", "check s", {"s": '["PackageFile",{' + '"x":1,' * 300000 + '"x":1}]'}, (
+        0, "accepted types 0 containers 0 interfaces 0 components 0\n")  # fmt: skip
+    yield "200,000 attributes", "check s", {"s": ["PackageFile", {f"x{i}": "1" for i in range(200000)}]}, (
+        0, "accepted types 0 containers 0 interfaces 0 components 0\n")  # fmt: skip
+    yield "64 sheets of a type each", "check " + " ".join(f"s{i}" for i in range(64)), {
+        f"s{i}": sheet([U4[0], {"name": "T"}], package=f"P{i}") for i in range(64)
+    }, (0, "accepted types 64 containers 0 interfaces 0 components 0\n")
+    yield "65 sheets", "check " + " ".join(["s"] * 65), {"s": sheet()}, (7, "limit files 64\n")
+    yield "a frame of 1 MiB of blanks", "unpack P/Word f s", {"s": WORD, "f": " " * (1 << 20)}, (3, "fault Short at $.a\n")
+    yield "a frame of 65,536 octets", "unpack P/Word f s", {"s": WORD, "f": "00" * 65536}, (3, "fault Trailing at $\n")
+    yield "a frame of 65,537 octets", "unpack P/Word f s", {"s": WORD, "f": "00" * 65537}, (7, "limit frame 65536\n")
+    yield "a value of 100,000 members", "pack P/Word v s", {"s": WORD, "v": {f"m{i}": i for i in range(100000)}}, (3, "fault WrongShape at $\n")
+    yield "a value with a member 100,000 times", "pack P/Word v s", {"s": WORD, "v": "{" + '"a":2,' * 100000 + '"a":1,"b":564}'}, (
+        0, "1234\nbits 16\n")  # fmt: skip
+    yield "a number of a million digits", "pack P/Word v s", {"s": WORD, "v": '{"a":0.' + "0" * 1000000 + ',"b":0}'}, (3, "fault WrongShape at $.a\n")
+    yield "a text of 4 MiB for a number", "pack P/Word v s", {"s": WORD, "v": '{"a":"' + "x" * (FILE - 20) + '","b":0}'}, (
+        3, "fault WrongShape at $.a\n")  # fmt: skip
+    yield "a list of two million items for a number", "pack P/Word v s", {"s": WORD, "v": '{"a":[' + "1," * 2000000 + '1],"b":0}'}, (
+        3, "fault WrongShape at $.a\n")  # fmt: skip
+    yield "a value 100 lists deep", "pack P/Word v s", {"s": WORD, "v": '{"a":' + "[" * 100 + "]" * 100 + ',"b":0}'}, (3, "fault WrongShape at $.a\n")
+    yield "a value 100,000 lists deep", "pack P/Word v s", {"s": WORD, "v": "[" * 100000 + "]" * 100000}, (3, "fault NotJson at $\n")
+
+
+def run(program, words, room, stack, seconds=60):
+    """The answer, the processor seconds and the octets of memory of a run with so much stack."""
+
+    def begin():
+        resource.setrlimit(resource.RLIMIT_STACK, (stack, stack))
+        resource.setrlimit(resource.RLIMIT_CORE, (0, 0))
+
+    with tempfile.TemporaryFile() as out:
+        child = subprocess.Popen([program, *words], cwd=room, stdin=subprocess.DEVNULL, stdout=out, preexec_fn=begin, start_new_session=True)
+        resource.prlimit(child.pid, resource.RLIMIT_CPU, (seconds, seconds))
+        _, status, used = os.wait4(child.pid, 0)
+        child.returncode = os.waitstatus_to_exitcode(status)
+        out.seek(0)
+        return (child.returncode, out.read()), used.ru_utime + used.ru_stime, used.ru_maxrss * 1024
+
+
+def least_stack(program, words, room, wanted):
+    """The least stack, in KiB, with which the answer is the wanted one."""
+    low, high = 8, 8192
+    while high - low > 4:
+        middle = (low + high) // 2
+        if run(program, words, room, middle << 10)[0] == wanted:
+            high = middle
+        else:
+            low = middle
+    return high
+
+
+def hold(program, given, measures):
+    """What is wrong with the answer to an input, and what it took."""
+    what, words, files, (status, report) = given
+    wanted, words = (status, text(report)), words.split(" ")
+    with tempfile.TemporaryDirectory(prefix="eds-hostile-") as room:
+        os.chmod(room, 0o755)
+        size = 0
+        for name, content in files.items():
+            octets = text(content)
+            size += len(octets)
+            with open(os.path.join(room, name), "wb") as file:
+                file.write(octets)
+        answer, seconds, memory = run(program, words, room, STACK)
+        most = max(MEMORY, 64 * size)
+        wrong = []
+        if answer != wanted:
+            wrong.append("status %s, %r in place of status %s, %r" % (answer[0], answer[1][:100], status, wanted[1][:100]))
+        if seconds > SECONDS:
+            wrong.append("%.1f seconds" % seconds)
+        if memory > most:
+            wrong.append("%d MiB" % (memory >> 20))
+        took = "%6.2f s %5d MiB" % (seconds, memory >> 20)
+        if measures:
+            took += " %5d KiB of stack" % least_stack(program, words, room, wanted)
+        return what, wrong, took
+
+
+def main():
+    words = [it for it in sys.argv[1:] if it != "--measure"]
+    program = os.path.abspath(words[0]) if words else os.path.join(TOP, "crates/eds_prog/out/eds_prog")
+    measures = "--measure" in sys.argv
+    with ThreadPoolExecutor(1 if measures else os.cpu_count()) as pool:
+        held = list(pool.map(lambda it: hold(program, it, measures), inputs()))
+    for what, wrong, took in held:
+        if measures:
+            print(f"{took}  {what}")
+        for it in wrong:
+            print(f"hostile: {what}: {it}")
+    failed = len([it for it in held if it[1]])
+    print("hostile: %d passed, %d failed" % (len(held) - failed, failed))
+    return 1 if failed else 0
+
+
+if __name__ == "__main__":
+    sys.exit(main())
