@@ -1,0 +1,4 @@
+pub mod Packs
+pub mod Scalars
+pub mod Sizes
+pub mod Written

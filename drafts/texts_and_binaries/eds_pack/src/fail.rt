@@ -1,0 +1,53 @@
+//! Where a value doesn't pack, and why.
+
+ghost use Rattle.std.specs.Prelude.{◌≡◌, [], ◌∷◌};
+ghost use Rattle.eds_pack.specs.Packs.{fail_at, no_room as no_room_of};
+
+use eds_base::{Path, Step};
+use eds_types::PackReason;
+
+/// The first fault of a value that is packed.
+#[derive(Debug, Drop)]
+pub struct PackFail {
+    pub reason: PackReason,
+    pub path: Path,
+    /// The octets that the value needs where the room is too small, else 0.
+    pub need: u32,
+}
+
+impl PackFail {
+    /// A fault of the whole value.
+    pub(crate) fn whole(reason: PackReason) -> PackFail
+        ensures { result ≡ fail_at (reason, []) }
+    {
+        PackFail {
+            reason,
+            path: Path::root(),
+            need: 0,
+        }
+    }
+
+    /// A fault one step into the value.
+    pub(crate) fn behind(step: Step, reason: PackReason) -> PackFail
+        ensures { result ≡ fail_at (reason, step ∷ []) }
+    {
+        let mut path = Path::root();
+        path.put_first(step);
+        PackFail {
+            reason,
+            path,
+            need: 0,
+        }
+    }
+
+    /// The fault of a room that is too small: so many octets are needed.
+    pub(crate) fn no_room(octets: u32) -> PackFail
+        ensures { result ≡ no_room_of octets }
+    {
+        PackFail {
+            reason: PackReason::Room,
+            path: Path::root(),
+            need: octets,
+        }
+    }
+}

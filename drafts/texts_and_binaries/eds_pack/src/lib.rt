@@ -1,0 +1,17 @@
+//! Packing: the canonical bits of a value, or where and why it has none.
+#![tactic(auto)]
+
+mod fail;
+mod fields;
+mod octets;
+mod room;
+mod scalar;
+mod size;
+
+pub use fail::PackFail;
+pub use octets::pack;
+pub use room::pack_into;
+pub use size::{conforms, packed_bits};
+
+#[cfg(test)]
+mod tests;

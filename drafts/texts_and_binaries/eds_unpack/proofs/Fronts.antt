@@ -1,0 +1,112 @@
+-- What the reading function gives is the one value that the bits begin with, or the one fault.
+use Rattle.std.proofs.Common.{◌≡◌, ℕ, ◌-◌, ◌<◌, ◌≤◌, List, [], ◌∷◌, ◌++◌, length, take, Result, Ok, Err, refl, sym, ap, subst, ◌∙◌, arith}
+use Rattle.std.specs.Prelude.{IfOk}
+use Rattle.std.proofs.lemmas.List.{length-append}
+use Rattle.eds_base.specs.declared.fail.Fail.{Fail}
+use Rattle.eds_base.specs.declared.fail.Fail.TheVariants.{Named, Memory}
+use Rattle.eds_base.specs.declared.fault.Fault.{Fault}
+use Rattle.eds_bits.specs.Bits.{Bits}
+use Rattle.eds_overlap.specs.Laws.{IsReadable, read_type, IsRead, ReadingIsExact}
+use Rattle.eds_types.specs.declared.value.Value.{Value}
+use Rattle.eds_types.specs.Failing.{Where, FailsAt}
+use Rattle.eds_types.specs.FlatTables.{IsFlatTable}
+use Rattle.eds_types.specs.Plain.{Plain, plain}
+use Rattle.eds_types.specs.Reading.{Read}
+use Rattle.eds_types.specs.Rows.{Table}
+use Rattle.eds_types.specs.Rules.{KeepsRules}
+use Rattle.eds_types.specs.Spelling.{Spells}
+use Rattle.eds_types.proofs.ExactReading.{done, failed, err_is, ok_err, same_ok}
+use Rattle.eds_unpack.specs.Answers.{where_of, IsMemory, IsValue, StopsAt, IsFault, IfNamed, IfFault}
+use Rattle.eds_unpack.specs.Readers.{Stops, Gives, sized}
+use Rattle.eds_unpack.proofs.FlatContainers.{flat_clear}
+
+pub readable : (t : Table) (id : ℕ) → KeepsRules t → IsFlatTable t → id < length t → IsReadable t id
+readable t id rules flat there = record { rules = rules; there = there; clear = flat_clear t flat id }
+
+take_front : {A : Type 0} (c rest : List A) → take (length c) (c ++ rest) ≡ c
+take_front [] rest = refl
+take_front (x ∷ c) rest = ap (λ y. x ∷ y) (take_front c rest)
+
+module _ (law : ReadingIsExact) (t : Table) (id : ℕ) (is : IsReadable t id) (b : Bits) where
+  read_is : (r : Read Plain) → read_type t id b ≡ r → IsRead t id b r
+  read_is r e = subst (IsRead t id b) e (law t id is b).0
+
+  value_is : (v : Plain) (c rest : Bits) → b ≡ c ++ rest → Spells t id v c → read_type t id b ≡ Ok (v, rest)
+  value_is v c rest e s = (law t id is b).1 (Ok (v, rest)) (c, e, s)
+
+  fault_is : (g : Where) → FailsAt t id b g → read_type t id b ≡ Err g
+  fault_is g f = (law t id is b).1 (Err g) f
+
+  -- no more bits are left than there were
+  pub no_longer : (v : Plain) (rest : Bits) → read_type t id b ≡ Ok (v, rest) → length rest ≤ length b
+  no_longer v rest e = let h = read_is (Ok (v, rest)) e in omega (arith, ap length h.1, length-append h.0 rest)
+
+  -- ---- a value and its size
+
+  pub record IsSized (v : Plain) (n : ℕ) : Type 0 where
+    pub rest : Bits
+    pub read : read_type t id b ≡ Ok (v, rest)
+    pub size : n ≡ length b - length rest
+
+  is_sized : (v : Plain) (n : ℕ) → sized b (read_type t id b) ≡ Ok (v, n) → IsSized v n
+  is_sized v n e = go (read_type t id b) refl e
+    where
+      go : (r : Read Plain) → read_type t id b ≡ r → sized b r ≡ Ok (v, n) → IsSized v n
+      go (Err g) p e = absurd (ok_err (sized b (Err g)) (v, n) g e refl)
+      go (Ok x) p e =
+          let q = same_ok (sized b (Ok x)) (x.0, length b - length x.1) (v, n) refl e in
+          record { rest = x.1; read = p ∙ ap (λ w. done (w, x.1)) (ap (λ y. y.0) q); size = sym (ap (λ y. y.1) q) }
+
+  sized_err : (g : Where) → sized b (read_type t id b) ≡ Err g → read_type t id b ≡ Err g
+  sized_err g e = go (read_type t id b) refl e
+    where
+      go : (r : Read Plain) → read_type t id b ≡ r → sized b r ≡ Err g → read_type t id b ≡ Err g
+      go (Err h) p e = p ∙ ap (failed (Plain × Bits)) (err_is (Plain × ℕ) h g e)
+      go (Ok x) p e = absurd (ok_err (sized b (Ok x)) (x.0, length b - length x.1) g refl e)
+
+  spelled : (v : Plain) (n : ℕ) → IsSized v n → (n ≤ length b) × Spells t id v (take n b)
+  spelled v n s =
+      let h = read_is (Ok (v, s.rest)) s.read in
+      let k : n ≡ length h.0 = (let size = s.size in omega (arith, ap length h.1, length-append h.0 s.rest)) in
+      let front : take n b ≡ h.0 = ap (λ m. take m b) k ∙ ap (take (length h.0)) h.1 ∙ take_front h.0 s.rest in
+      (omega (arith, ap length h.1, length-append h.0 s.rest), subst (Spells t id v) (sym front) h.2)
+
+  abbrev pub IsAnswer : Result (Value × ℕ) (Fail Fault) → Type 0
+  IsAnswer result = Gives (λ x. (plain x.0, x.1)) result (sized b (read_type t id b))
+
+  pub fits_size : (r : Result (Value × ℕ) (Fail Fault)) → IsAnswer r → IfOk r (λ x. x.1 ≤ length b)
+  fits_size (Ok x) h = (spelled (plain x.0) x.1 (is_sized (plain x.0) x.1 h)).0
+  fits_size (Err stop) h = tt
+
+  pub is_spelled : (r : Result (Value × ℕ) (Fail Fault)) → IsAnswer r → IfOk r (λ x. Spells t id (plain x.0) (take x.1 b))
+  is_spelled (Ok x) h = (spelled (plain x.0) x.1 (is_sized (plain x.0) x.1 h)).1
+  is_spelled (Err stop) h = tt
+
+  only_memory : (stop : Fail Fault) (v : Plain) (rest : Bits) → Stops stop (sized b (read_type t id b)) → read_type t id b ≡ Ok (v, rest) → IsMemory stop
+  only_memory (Named fault) v rest h e = absurd (ok_err (read_type t id b) (v, rest) (where_of fault) e (sized_err (where_of fault) h))
+  only_memory Memory v rest h e = tt
+
+  pub only_value : (r : Result (Value × ℕ) (Fail Fault)) → IsAnswer r → (v : Plain) (c rest : Bits) → b ≡ c ++ rest → Spells t id v c → IsValue v (length c) r
+  only_value (Ok x) h v c rest e s =
+      let z = is_sized (plain x.0) x.1 h in
+      let p = same_ok (read_type t id b) (plain x.0, z.rest) (v, rest) z.read (value_is v c rest e s) in
+      let q : z.rest ≡ rest = ap (λ y. y.1) p in
+      let size = z.size in
+      (ap (λ y. y.0) p, omega (arith, ap length q, ap length e, length-append c rest))
+  only_value (Err stop) h v c rest e s = only_memory stop v rest h (value_is v c rest e s)
+
+  named_fault : (stop : Fail Fault) → Stops stop (sized b (read_type t id b)) → IfNamed (FailsAt t id b) stop
+  named_fault (Named fault) h = read_is (Err (where_of fault)) (sized_err (where_of fault) h)
+  named_fault Memory h = tt
+
+  pub is_fault : (r : Result (Value × ℕ) (Fail Fault)) → IsAnswer r → IfFault (FailsAt t id b) r
+  is_fault (Ok x) h = tt
+  is_fault (Err stop) h = named_fault stop h
+
+  stops_at : (stop : Fail Fault) (g : Where) → Stops stop (sized b (read_type t id b)) → read_type t id b ≡ Err g → StopsAt g stop
+  stops_at (Named fault) g h e = err_is (Plain × Bits) (where_of fault) g (sym (sized_err (where_of fault) h) ∙ e)
+  stops_at Memory g h e = tt
+
+  pub only_fault : (r : Result (Value × ℕ) (Fail Fault)) → IsAnswer r → (g : Where) → FailsAt t id b g → IsFault g r
+  only_fault (Ok x) h g f = let z = is_sized (plain x.0) x.1 h in absurd (ok_err (read_type t id b) (plain x.0, z.rest) g z.read (fault_is g f))
+  only_fault (Err stop) h g f = stops_at stop g h (fault_is g f)

@@ -1,0 +1,6 @@
+pub mod Values
+pub mod Octets
+pub mod Numbers
+pub mod Labels
+pub mod FlatContainers
+pub mod Fronts

@@ -1,0 +1,13 @@
+//! Values read from bits.
+#![tactic(auto)]
+
+mod fault;
+mod octets;
+mod read;
+mod scalar;
+mod whole;
+
+pub use whole::unpack;
+
+#[cfg(test)]
+mod tests;

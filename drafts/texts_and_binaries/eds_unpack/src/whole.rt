@@ -1,0 +1,74 @@
+//! The value at the front of some bits.
+
+ghost use Rattle.std.specs.Prelude.{◌≡◌, ◌++◌, ◌<◌, ◌≤◌, length, take, IfOk};
+ghost use Rattle.eds_bits.specs.Bits.{Bits};
+ghost use Rattle.eds_bits.specs.Reader.{view_bits};
+ghost use Rattle.eds_overlap.specs.Laws.{read_type};
+ghost use Rattle.eds_types.specs.Failing.{Where, FailsAt};
+ghost use Rattle.eds_types.specs.FlatTables.{IsFlatTable};
+ghost use Rattle.eds_types.specs.Plain.{Plain, plain};
+ghost use Rattle.eds_types.specs.Spelling.{Spells};
+ghost use Rattle.eds_unpack.specs.Answers.{IsOfReading, IsValue, IsFault, IfFault};
+ghost use Rattle.eds_unpack.specs.Readers.{Gives, sized};
+
+use crate::fault::stop_at;
+use crate::read::read_value;
+use eds_base::{Fail, Fault, Path, TypeId};
+use eds_bits::{BitReader, BitView};
+use eds_overlap::law::reading_is_exact;
+use eds_types::{TypeTable, Value};
+use std::alloc::Global;
+
+/// How deep types are nested at most.
+const NESTING: u32 = 32;
+
+/// The value that the bits of a view begin with, and how many bits it takes.
+fn read_front(
+    alloc: Global,
+    table: &TypeTable,
+    id: TypeId,
+    view: BitView,
+) -> Result<(Value, u32), Fail<Fault>>
+    requires known { id.0 < length table.now }
+    requires flat { IsFlatTable table.now }
+    requires most { length (view_bits view) ≤ 524288 }
+    ensures gives { Gives (λ x. (plain x.0, x.1)) result (sized (view_bits view.entry) (read_type table.now id.0 (view_bits view.entry))) }
+    ensures reason { IfFault (λ g. IsOfReading g.0) result }
+{
+    table.keeps_rules();
+    reading_is_exact();
+    let mut reader = BitReader::new(view);
+    let all = reader.left();
+    let mut path = Path::root();
+    match read_value(alloc, table, NESTING, id, &mut path, &mut reader) {
+        Ok(value) => {
+            let left = reader.left();
+            let bits = (all - left) as u32;
+            Ok((value, bits))
+        }
+        Err(stop) => Err(stop_at(path, stop)),
+    }
+}
+
+/// The value of a type that the bits of a view begin with, and how many bits it takes: it is exactly the one that they
+/// spell. Where none is spelled, the first entry at which reading fails, and why. The view has at most 524,288 bits.
+pub fn unpack(
+    alloc: Global,
+    table: &TypeTable,
+    id: TypeId,
+    view: BitView,
+) -> Result<(Value, u32), Fail<Fault>>
+    requires known { id.0 < length table.now }
+    requires flat { IsFlatTable table.now }
+    requires most { length (view_bits view) ≤ 524288 }
+    ensures size { IfOk result (λ x. x.1 ≤ length (view_bits view.entry)) }
+    ensures value { IfOk result (λ x. Spells table.now id.0 (plain x.0) (take x.1 (view_bits view.entry))) }
+    ensures only_value { (v : Plain) (c rest : Bits) → view_bits view.entry ≡ c ++ rest → Spells table.now id.0 v c → IsValue v (length c) result }
+    ensures fault { IfFault (FailsAt table.now id.0 (view_bits view.entry)) result }
+    ensures only_fault { (g : Where) → FailsAt table.now id.0 (view_bits view.entry) g → IsFault g result }
+    ensures reason { IfFault (λ g. IsOfReading g.0) result }
+{
+    table.keeps_rules();
+    reading_is_exact();
+    read_front(alloc, table, id, view)
+}

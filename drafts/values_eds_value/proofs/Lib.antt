@@ -1,0 +1,13 @@
+pub mod Slashes
+pub mod Steps
+pub mod Chains
+pub mod Members
+pub mod WithValues
+pub mod Mapped
+pub mod HeldNumbers
+pub mod EntryValues
+pub mod MembersOfValues
+pub mod ReadsBack
+pub mod Named
+pub mod Plains
+pub mod Depths

@@ -1,0 +1,24 @@
+-- The value that a text stands for.
+use Rattle.std.specs.Prelude.{ℕ, List, Option, None, Result, Ok, Err, if◌then◌else◌}
+use Rattle.std.specs.Str.{is_utf8}
+use Rattle.serde_json.specs.Data.{Data}
+use Rattle.serde_json.specs.Read.{read}
+use Rattle.eds_base.specs.Answering.{◌>>=◌, or_stop}
+use Rattle.eds_base.specs.declared.fault.Step.{Step}
+use Rattle.eds_types.specs.Plain.{Plain}
+use Rattle.eds_types.specs.Rows.{Table}
+use Rattle.eds_value.specs.declared.fail.ValueFail.{ValueFail}
+use Rattle.eds_value.specs.declared.fail.ValueFail.TheVariants.{NotJson, WrongShape}
+use Rattle.eds_value.specs.ValueOfJson.{value_of_json}
+
+-- the JSON that a text is, where it is UTF-8
+abbrev pub json_of : List ℕ → Option Data
+json_of octets = if is_utf8 octets then read octets else None
+
+abbrev pub or_wrong : Result Plain (List Step) → Result Plain ValueFail
+or_wrong (Ok v) = Ok v
+or_wrong (Err path) = Err (WrongShape path)
+
+-- the value that a text stands for where a type is declared
+abbrev pub value_in : Table → ℕ → List ℕ → Result Plain ValueFail
+value_in t id octets = or_stop NotJson (json_of octets) >>= λ d. or_wrong (value_of_json t id d)

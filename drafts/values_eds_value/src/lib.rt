@@ -1,0 +1,16 @@
+//! Values as JSON, and paths into values as text.
+#![tactic(auto)]
+
+mod entry;
+mod fail;
+mod json_of_value;
+pub mod law;
+mod path;
+mod read;
+mod stop;
+mod value_of_json;
+
+pub use fail::ValueFail;
+pub use json_of_value::to_json;
+pub use path::path_text;
+pub use read::from_json;
