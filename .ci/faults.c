@@ -126,6 +126,8 @@ ssize_t write(int file, const void *octets, size_t n) {
   return writes(file) ? syscall(SYS_write, file, octets, cut(n)) : error ? -1 : 0;
 }
 
+ssize_t __write(int file, const void *octets, size_t n) { return write(file, octets, n); }
+
 ssize_t writev(int file, const struct iovec *pieces, int n) {
   if (most > 0 && n > 0) return write(file, pieces[0].iov_base, pieces[0].iov_len);
   return writes(file) ? syscall(SYS_writev, file, pieces, n) : error ? -1 : 0;

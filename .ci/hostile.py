@@ -3,9 +3,9 @@
 
   .ci/hostile.py [--measure] [PROGRAM]
 
-PROGRAM is the built program (by default crates/eds_prog/out/eds_prog). Each input has the report that has to come, and a
-run takes at most 2 seconds of processor time, 256 MiB of memory and 1 MiB of stack, or 64 times the size of its files in
-memory where that is more. With --measure the time, the memory and the least stack that suffices are printed.
+PROGRAM is the built program (by default crates/eds_prog/out/eds_prog). Each input has the report that has to come, where
+the program has 256 MiB of memory and 1 MiB of stack; it takes at most 2 seconds of processor time. With --measure the time
+is printed, and the least memory and the least stack that suffice.
 """
 
 import json
@@ -103,31 +103,29 @@ def inputs():
     yield "a value 100,000 lists deep", "pack P/Word v s", {"s": WORD, "v": "[" * 100000 + "]" * 100000}, (3, "fault NotJson at $\n")
 
 
-def run(program, words, room, stack, seconds=60):
-    """The answer, the processor seconds and the octets of memory of a run with so much stack."""
+def run(program, words, room, stack=STACK, memory=MEMORY):
+    """The answer and the processor seconds of a run with so many octets of stack and of memory in all."""
 
     def begin():
         resource.setrlimit(resource.RLIMIT_STACK, (stack, stack))
+        resource.setrlimit(resource.RLIMIT_AS, (memory, memory))
+        resource.setrlimit(resource.RLIMIT_CPU, (60, 60))
         resource.setrlimit(resource.RLIMIT_CORE, (0, 0))
 
     with tempfile.TemporaryFile() as out:
-        child = subprocess.Popen([program, *words], cwd=room, stdin=subprocess.DEVNULL, stdout=out, preexec_fn=begin, start_new_session=True)
-        resource.prlimit(child.pid, resource.RLIMIT_CPU, (seconds, seconds))
+        child = subprocess.Popen([program, *words], cwd=room, stdin=subprocess.DEVNULL, stdout=out, preexec_fn=begin)
         _, status, used = os.wait4(child.pid, 0)
         child.returncode = os.waitstatus_to_exitcode(status)
         out.seek(0)
-        return (child.returncode, out.read()), used.ru_utime + used.ru_stime, used.ru_maxrss * 1024
+        return (child.returncode, out.read()), used.ru_utime + used.ru_stime
 
 
-def least_stack(program, words, room, wanted):
-    """The least stack, in KiB, with which the answer is the wanted one."""
-    low, high = 8, 8192
-    while high - low > 4:
+def least(suffices, most, close):
+    """The least number that suffices, but for so many."""
+    low, high = 0, most
+    while high - low > close:
         middle = (low + high) // 2
-        if run(program, words, room, middle << 10)[0] == wanted:
-            high = middle
-        else:
-            low = middle
+        low, high = (low, middle) if suffices(middle) else (middle, high)
     return high
 
 
@@ -137,24 +135,20 @@ def hold(program, given, measures):
     wanted, words = (status, text(report)), words.split(" ")
     with tempfile.TemporaryDirectory(prefix="eds-hostile-") as room:
         os.chmod(room, 0o755)
-        size = 0
         for name, content in files.items():
-            octets = text(content)
-            size += len(octets)
             with open(os.path.join(room, name), "wb") as file:
-                file.write(octets)
-        answer, seconds, memory = run(program, words, room, STACK)
-        most = max(MEMORY, 64 * size)
+                file.write(text(content))
+        answer, seconds = run(program, words, room)
         wrong = []
         if answer != wanted:
             wrong.append("status %s, %r in place of status %s, %r" % (answer[0], answer[1][:100], status, wanted[1][:100]))
         if seconds > SECONDS:
             wrong.append("%.1f seconds" % seconds)
-        if memory > most:
-            wrong.append("%d MiB" % (memory >> 20))
-        took = "%6.2f s %5d MiB" % (seconds, memory >> 20)
+        took = "%6.2f s" % seconds
         if measures:
-            took += " %5d KiB of stack" % least_stack(program, words, room, wanted)
+            memory = least(lambda it: run(program, words, room, memory=it << 20)[0] == wanted, MEMORY >> 20, 1)
+            stack = least(lambda it: run(program, words, room, stack=it << 10)[0] == wanted, STACK >> 10, 2)
+            took += " %4d MiB %4d KiB of stack" % (memory, stack)
         return what, wrong, took
 
 

@@ -3,12 +3,12 @@
 
   bench/fuzz.py [--minutes M] [--seed S] [--jobs J] [--found FOLDER] [PROGRAM]
 
-PROGRAM is a built program (by default crates/eds_prog/out/eds_prog). Inputs are made from those of examples/ and of the
-crates' data/ folders: octets are changed, elements and attributes are moved, doubled, dropped, renamed and given other
-texts, and frames and values are made up. A run must end within two seconds, by no signal, with a status from 0 to 8 and a
-report that fits it, and must write nothing to standard error; and the same words over the same files give the same
-report again. What doesn't is kept in FOLDER (by default fuzz-found), with its words. The last line counts the runs by
-status. The same seed makes the same inputs.
+PROGRAM is a built program (by default crates/eds_prog/out/eds_prog). Inputs are made from the examples and the cases: octets
+are changed, elements and attributes are moved, doubled, dropped, renamed and given other texts, and frames and values are
+made up. A run must end within two seconds, by no signal, with a status from 0 to 8 and a report that fits it, and must
+write nothing to standard error; and the same words over the same files give the same report again. What doesn't is kept in
+FOLDER (by default fuzz-found), with its words. The last line counts the runs by status. The same seed makes the same
+inputs.
 """
 
 import argparse
@@ -25,7 +25,13 @@ import time
 from concurrent.futures import ThreadPoolExecutor
 
 TOP = os.path.dirname(os.path.dirname(os.path.abspath(__file__)))
+sys.dont_write_bytecode = True
+sys.path.insert(0, os.path.join(TOP, ".ci"))
+import cases as case_files  # noqa: E402
+
 SECONDS = 2
+# the most octets of a file to begin with
+FILE = 20_000
 REPORTS = {
     1: rb"refused \d+ \w+ at \d+:\d+( [^\n]*)?\n",
     2: rb"usage: eds COMMAND ARGUMENTS\n",
@@ -44,54 +50,53 @@ TEXTS = [
 
 def elements(tree):
     """All elements of a tree, the root first."""
-    yield tree
+    if tree and isinstance(tree[0], str):
+        yield tree
     for it in tree:
         if isinstance(it, list):
             yield from elements(it)
 
 
 class Seeds:
-    """The inputs to begin with: sheets, frames and values, and the words that occur in them."""
+    """The inputs to begin with: commands with their files, the sheets, frames and values among these, and the words that
+    occur in them."""
 
     def __init__(self):
-        self.sheets, self.frames, self.values = [], [], []
-        roots = [os.path.join(TOP, "examples")]
-        roots += [os.path.join(TOP, "crates", it, "data") for it in sorted(os.listdir(os.path.join(TOP, "crates")))]
-        for root in roots:
-            for folder, _, files in sorted(os.walk(root)):
-                for name in sorted(files):
-                    with open(os.path.join(folder, name), "rb") as file:
-                        self.take(name, file.read())
+        self.commands, self.sheets, self.frames, self.values = [], [], [], []
+        for _, case in case_files.cases():
+            words = case_files.text_of(case["words"], case["parts"]).split(" ")
+            self.take(words, {it: case_files.octets_of(octets, case["parts"]) for it, octets in case["files"].items()})
+        for folder, _, names in sorted(os.walk(os.path.join(TOP, "examples"))):
+            for name in sorted(it for it in names if it.endswith(".words")):
+                with open(os.path.join(folder, name), encoding="utf-8") as file:
+                    words = file.read().split()
+                named = {it: f"f{at}" for at, it in enumerate(words) if os.path.isfile(os.path.join(TOP, it))}
+                files = {}
+                for it, short in named.items():
+                    with open(os.path.join(TOP, it), "rb") as file:
+                        files[short] = file.read()
+                self.take([named.get(it, it) for it in words], files)
         nodes = [it for sheet in self.sheets for it in elements(sheet)]
         self.names = sorted({it[0] for it in nodes} | set(self.known()))
         attributes = [it[1] for it in nodes if len(it) > 1 and isinstance(it[1], dict)]
         self.keys = sorted({key for it in attributes for key in it})
         self.texts = sorted({str(value) for it in attributes for value in it.values()}) + TEXTS
 
-    def take(self, name, octets):
-        if name.endswith(".hex"):
-            self.frames.append(octets)
-        elif name.endswith(".json"):
+    def take(self, words, files):
+        """Takes a command with its files, where they are small."""
+        if any(len(it) > FILE for it in files.values()) or len(words) > 20:
+            return
+        self.commands.append((words, files))
+        for octets in files.values():
             try:
                 found = json.loads(octets)
             except ValueError:
-                return
-            self.look(found)
-
-    def look(self, found):
-        """Takes the sheets and the values that stand in a file, also in one of cases."""
-        if isinstance(found, list) and found and found[0] in ("PackageFile", "DataSheet"):
-            self.sheets.append(found)
-        elif isinstance(found, dict) and "$type" in found:
-            self.values.append(found)
-        elif isinstance(found, (list, dict)):
-            for it in found if isinstance(found, list) else found.values():
-                if isinstance(it, str) and it[:1] in "[{":
-                    try:
-                        it = json.loads(it)
-                    except ValueError:
-                        continue
-                self.look(it)
+                self.frames.append(octets)
+                continue
+            if isinstance(found, list) and found[:1] in (["PackageFile"], ["DataSheet"]):
+                self.sheets.append(found)
+            elif isinstance(found, dict):
+                self.values.append(found)
 
     def known(self):
         """The names of elements that the sheet language has."""
@@ -110,10 +115,23 @@ class Maker:
 
     def sheet(self, is_whole):
         tree = copy.deepcopy(self.dice.choice(self.seeds.sheets))
-        for _ in range(0 if is_whole else self.dice.choice([1, 1, 2, 3, 6])):
+        return json.dumps(tree).encode() if is_whole else self.changed_sheet(tree)
+
+    def changed_sheet(self, tree):
+        for _ in range(self.dice.choice([1, 1, 2, 3, 6])):
             self.change(tree)
         text = json.dumps(tree).encode()
-        return text if is_whole or self.dice.random() < 0.9 else self.spoiled(text)
+        return text if self.dice.random() < 0.9 else self.spoiled(text)
+
+    def changed(self, octets):
+        """A file in the place of this one, of the same sort."""
+        try:
+            found = json.loads(octets)
+        except ValueError:
+            return self.spoiled(octets) if self.dice.random() < 0.7 else self.frame()
+        if isinstance(found, list) and found and isinstance(found[0], str):
+            return self.changed_sheet(found)
+        return self.changed_value(found) if isinstance(found, dict) and found else self.spoiled(octets)
 
     def change(self, tree):
         """Changes one thing of a tree."""
@@ -159,7 +177,10 @@ class Maker:
         dice = self.dice
         if dice.random() < 0.1 or not self.seeds.values:
             return self.spoiled(b'{"$type":"A/B","a":[1,true,"x"]}')
-        value = copy.deepcopy(dice.choice(self.seeds.values))
+        return self.changed_value(copy.deepcopy(dice.choice(self.seeds.values)))
+
+    def changed_value(self, value):
+        dice = self.dice
         for _ in range(dice.choice([0, 1, 2])):
             at = dice.choice(sorted(value))
             value[at] = dice.choice([0, -1, 2**64, 2**64 - 1, 1.5, "", "ON", "00ff", True, None, [], [1, 2], {}, copy.copy(value)])
@@ -178,14 +199,21 @@ class Maker:
         return self.dice.choice(found or ["A/B"]) if self.dice.random() < 0.9 else self.dice.choice(self.seeds.texts)
 
     def made(self):
-        """The words of a run, where a file has a number, and the files."""
+        """The words of a run, and the files by their names: a command to begin with, one of whose files is changed, or one
+        that is made up of others."""
+        if self.dice.random() < 0.6:
+            words, files = self.dice.choice(self.seeds.commands)
+            if files:
+                name = self.dice.choice(sorted(files))
+                return words, {**files, name: self.changed(files[name])}
         command = self.dice.choice(["check", "unpack", "pack"])
         is_whole = command != "check" and self.dice.random() < 0.6
         sheets = [self.sheet(is_whole) for _ in range(self.dice.choice([1, 1, 1, 2]))]
+        files = {f"s{at}": sheet for at, sheet in enumerate(sheets)}
         if command == "check":
-            return ["check", *range(len(sheets))], sheets
-        files = [*sheets, self.frame() if command == "unpack" else self.value()]
-        return [command, self.type_of(sheets).replace("\0", ""), len(sheets), *range(len(sheets))], files
+            return ["check", *files], files
+        words = [command, self.type_of(sheets).replace("\0", ""), "input", *files]
+        return words, {**files, "input": self.frame() if command == "unpack" else self.value()}
 
 
 def run(program, words, room):
@@ -208,18 +236,17 @@ def turn(program, seeds, number, found):
     """Makes the inputs of a number and runs the program on them twice."""
     words, files = Maker(seeds, number).made()
     with tempfile.TemporaryDirectory(prefix="eds-fuzz-") as room:
-        for at, octets in enumerate(files):
-            with open(os.path.join(room, f"f{at}"), "wb") as file:
+        for name, octets in files.items():
+            with open(os.path.join(room, name), "wb") as file:
                 file.write(octets)
-        words = [f"f{it}" if isinstance(it, int) else it for it in words]
         status, report, wrong = run(program, words, room)
         if not wrong and run(program, words, room)[:2] != (status, report):
             wrong = "another run gave another answer"
         if wrong:
             kept = os.path.join(found, str(number))
             os.makedirs(kept, exist_ok=True)
-            for at, octets in enumerate(files):
-                with open(os.path.join(kept, f"f{at}"), "wb") as file:
+            for name, octets in files.items():
+                with open(os.path.join(kept, name), "wb") as file:
                     file.write(octets)
             with open(os.path.join(kept, "words"), "w", encoding="utf-8") as file:
                 file.write("\n".join(words) + "\n" + wrong + "\n")

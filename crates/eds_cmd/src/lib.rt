@@ -20,6 +20,3 @@ pub use law::answer_is_one;
 pub use status::{DataFault, Status, What};
 pub use top::eds;
 pub use words::Words;
-
-#[cfg(test)]
-mod tests;

@@ -163,11 +163,6 @@ fn the_later_of_two_elements_of_one_name_is_refused(rt: HostRuntime) -> Result<(
     let alloc = rt.alloc();
     let table = [
         (
-            r#"["DataTypeSet",["IntegerDataType",{"name":"X"}],["BooleanDataType",{"name":"X"}]]"#,
-            4,
-            "X",
-        ),
-        (
             r#"["DataTypeSet",["IntegerDataType",{"name":"X"}]],["DeclaredInterfaceSet",["Interface",{"name":"X"}]]"#,
             5,
             "X",
@@ -265,49 +260,6 @@ fn one_name_may_stand_in_several_owners(rt: HostRuntime) -> Result<(), Memory> {
     ];
     for inner in table {
         assert!(rt; refusal_within(alloc, inner)?.is_none(), "{inner}");
-    }
-    Ok(())
-}
-
-#[test]
-fn packages_of_one_name_are_one(rt: HostRuntime) -> Result<(), Memory> {
-    let alloc = rt.alloc();
-    let refusal = refusal_of(alloc, &[FIRST, SECOND, FIRST])?;
-    assert!(rt; is_duplicate(refusal, 2, 3, "T"));
-    Ok(())
-}
-
-// A file of some types in a package of its own.
-fn types_file(alloc: Global, file: usize, count: usize) -> Result<String, Memory> {
-    let mut text = format!(in alloc;
-        "[\"DataSheet\",[\"Package\",{{\"name\":\"Mission/P{file}\"}},[\"DataTypeSet\""
-    )?;
-    for i in 0..count {
-        let one = format!(in alloc; ",[\"IntegerDataType\",{{\"name\":\"T{i}\"}}]")?;
-        text.push_str(one.as_str())?;
-    }
-    text.push_str("]]]")?;
-    Ok(text)
-}
-
-#[test]
-fn many_types_are_found(rt: HostRuntime) -> Result<(), Fail<Refusal>> {
-    let alloc = rt.alloc();
-    let mut trees = Items::new(alloc);
-    for file in 0..64_u16 {
-        let text = types_file(alloc, file as usize, 64)?;
-        if text.len() < 1_000_000 {
-            trees.push(read_tree(alloc, file, text.as_bytes())?)?;
-        }
-    }
-    if trees.len() > 64 {
-        return Err(Fail::Memory);
-    }
-    let space = Space::build(alloc, &trees)?;
-    assert_eq!(rt; space.types(), 4096);
-    for one in space.declared() {
-        let found = space.look_up(alloc, one.place, one.own.as_str())?;
-        assert_eq!(rt; found, Some(one.item));
     }
     Ok(())
 }

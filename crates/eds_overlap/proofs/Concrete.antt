@@ -1,19 +1,18 @@
 -- The rules of a table that is written out, by tests that compute.
-use Rattle.std.proofs.Common.{◌≡◌, ℕ, zero, suc, ◌+◌, ◌<◌, ◌≤◌, ℤ, Bool, true, false, cond, List, [], ◌∷◌, ◌++◌, length, filter, reverse, Option, Some, None, refl, sym, ap, subst, ◌∙◌, arith, inl, inr, int_eq}
-use Rattle.std.specs.Prelude.{slice_get, slice_index, nat_lt, not, ◌&&◌}
-use Rattle.std.specs.List.{AllByRecursion, flat_map, filter_map, range_with_len}
-use Rattle.std.proofs.lemmas.Bool.{and_parts, both_ways, cases_lt, ltb-true, leb-true, not-true}
+use Rattle.std.proofs.Common.{◌≡◌, ℕ, zero, suc, ◌<◌, ℤ, Bool, true, false, cond, List, [], ◌∷◌, ◌++◌, length, filter, Option, Some, None, refl, sym, ap, subst, ◌∙◌, arith, inl, inr, int_eq}
+use Rattle.std.specs.Prelude.{slice_get, slice_index, nat_lt, ◌&&◌, ◌==◌}
+use Rattle.std.specs.List.{AllByRecursion, filter_map, list_all}
+use Rattle.std.proofs.lemmas.Bool.{and_parts, cases_lt, eqb-true, ltb-true, leb-true}
 use Rattle.std.specs.Prelude.{nat_le}
 use Rattle.std.proofs.lemmas.Bool.Decides.{Decides-int_eq}
 use Rattle.std.proofs.lemmas.Option.{slice_get_past}
 use Rattle.eds_base.specs.Reading.{same as same_text}
 use Rattle.eds_types.specs.declared.row.TypeRow.{TypeRow}
 use Rattle.eds_types.specs.Fields.{type_by}
-use Rattle.eds_types.specs.Rows.{Table, numbers, base_of, base_in, container_in, entries_in, trailers_in, entries_of, trailers_of, chain, chain_before, chain_within, list_has, derived, is_concrete, Placed, placed_from, placed_entries, placed_trailers, own_parts, sequence}
-use Rattle.eds_types.specs.Rules.{AreDistinct, IsHollow, IsNested, name_of, is_length, SequenceKeeps}
+use Rattle.eds_types.specs.Rows.{Table, base_of, base_in, container_in, entries_in, trailers_in, entries_of, trailers_of, list_has, Placed, placed_from, own_parts, sequence}
+use Rattle.eds_types.specs.Rules.{AreDistinct, IsNested, name_of, is_length, SequenceKeeps}
 use Rattle.eds_types.proofs.ByRows.{AllFrom, by_row, sequence_past, distinct, distinct_is}
 use Rattle.eds_types.proofs.SameValues.{text_same}
-use Rattle.eds_types.proofs.ReadingTests.{has_in}
 
 -- ---- rows and numbers
 
@@ -35,10 +34,22 @@ below_is p zero k e h = absurd (omega arith)
 below_is p (suc n) k e h = let q = and_parts (p n) (below p n) e in elim (cases_lt k n) [ inl l ↦ below_is p n k q.1 l | inr l ↦ (let s : n ≡ k = omega arith in subst (λ x. p x ≡ true) s q.0) ]
 
 -- a number of a list, or 0 past it, is below the bound
-pub index_below : (xs : List ℕ) (k : ℕ) → 0 < k → AllByRecursion (λ x. x < k) xs → (i : ℕ) → slice_index xs i < k
-index_below [] k h a i = h
-index_below (x ∷ xs) k h a zero = a.0
-index_below (x ∷ xs) k h a (suc i) = index_below xs k h a.1 i
+pub index_small : (xs : List ℕ) (k : ℕ) → nat_lt 0 k ≡ true → list_all (λ x. nat_lt x k) xs ≡ true → (i : ℕ) → slice_index xs i < k
+index_small [] k h e i = ltb-true 0 k h
+index_small (x ∷ xs) k h e zero = ltb-true x k (and_parts (nat_lt x k) (list_all (λ x. nat_lt x k) xs) e).0
+index_small (x ∷ xs) k h e (suc i) = index_small xs k h (and_parts (nat_lt x k) (list_all (λ x. nat_lt x k) xs) e).1 i
+
+-- what is tested of each number of a list
+pub in_list : (p : ℕ → Bool) (xs : List ℕ) (x : ℕ) → list_all p xs ≡ true → list_has xs x ≡ true → p x ≡ true
+in_list p [] x e h = absurd cc
+in_list p (y ∷ ys) x e h = go (y == x) refl h (in_list p ys x q.1)
+  where
+    q : (p y ≡ true) × (list_all p ys ≡ true)
+    q = and_parts (p y) (list_all p ys) e
+
+    go : (b : Bool) → (y == x) ≡ b → cond b true (list_has ys x) ≡ true → (list_has ys x ≡ true → p x ≡ true) → p x ≡ true
+    go true s h ih = subst (λ z. p z ≡ true) (eqb-true y x s) q.0
+    go false s h ih = ih h
 
 -- ---- bases
 

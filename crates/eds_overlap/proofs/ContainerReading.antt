@@ -22,7 +22,7 @@ use Rattle.eds_types.specs.Plain.{Plain, fields, list_of, plains_of}
 use Rattle.eds_types.specs.Reading.{Read, Ends, ended, read_to_end}
 use Rattle.eds_types.specs.Rows.{Table, chain, base_of, constraints_of, Placed, placed_entries, placed_trailers, sequence}
 use Rattle.eds_types.proofs.TailSizes.{EntriesPass, only_parts}
-use Rattle.eds_types.specs.Spelling.{Progress, started, PartsPass, SizeFits, ContainerSpells, KindSpells}
+use Rattle.eds_types.specs.Spelling.{Progress, started, SizeFits, ContainerSpells, KindSpells}
 use Rattle.eds_types.specs.Tables.{IsTable}
 use Rattle.eds_types.proofs.AllOf.{All-weaker, All-both, All-front, All-back, All-apply}
 

@@ -10,17 +10,16 @@ use Rattle.eds_base.specs.declared.fault.Step.TheVariants as step
 use Rattle.eds_base.specs.declared.fault.Reason.TheVariants.{Constraint, NoDerived, LengthDiffers}
 use Rattle.eds_types.specs.declared.row.Constraint.{Constraint as Condition}
 use Rattle.eds_bits.specs.Bits.{Bits, octets_for}
-use Rattle.eds_bits.specs.Style.{any}
 use Rattle.eds_types.proofs.ChainLaws.{chain_end, child_is, child_of, chain_length, under_in}
 use Rattle.eds_types.proofs.ExactReading.{same_ok, ok_err, Is}
 use Rattle.eds_types.proofs.PartReading.{PartGood, entry_exact}
 use Rattle.eds_types.proofs.ReadingTests.{holds_from, holds_in, found_is, none_is}
-use Rattle.eds_types.specs.Failing.{Station, condition, entry, choice, end, later, own, course, Where, behind, path_steps, length_path, StationPasses, StationFails, EntryPasses, EntryFails}
+use Rattle.eds_types.specs.Failing.{Station, condition, entry, choice, end, later, own, course, Where, path_steps, length_path, StationPasses, StationFails, EntryPasses, EntryFails}
 use Rattle.eds_types.specs.Fields.{IsAtOrUnder, IsCandidate}
 use Rattle.eds_types.specs.Plain.{Plain}
 use Rattle.eds_types.specs.Reading.{Read, Ends, ◌>>=◌, read_entry, read_parts, check_all, holds, candidate_under, stay, nowhere, under, next_of, size_fits, finish, read_own, trailers_up, read_chain, go_on, read_under, read_to_end}
 use Rattle.eds_types.specs.Rows.{Table, chain, is_concrete, constraints_of, Placed, placed_entries, placed_trailers, id_of}
-use Rattle.eds_types.specs.Spelling.{Progress, started, PartPasses}
+use Rattle.eds_types.specs.Spelling.{Progress, started}
 use Rattle.eds_types.specs.Tables.{IsTable}
 
 pub bind_assoc : {A B C : Type 0} (r : Result A Where) (f : A → Result B Where) (g : B → Result C Where) → ((r >>= f) >>= g) ≡ (r >>= λ x. f x >>= g)

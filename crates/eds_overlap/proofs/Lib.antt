@@ -11,7 +11,5 @@ pub mod ExampleRules
 pub mod ExampleReading
 pub mod ExampleFrames
 pub mod WhatIsRead
-pub mod TailRules
 pub mod TailReading
-pub mod TailPacking
-pub mod TailFrames
+pub mod ExamplePacking

@@ -1,11 +1,11 @@
 //! The laws of values and bits: functions with no body, whose contracts are what was proved.
 //! Those of types and values alone are offered here again.
 
-ghost use Rattle.std.specs.Prelude.{ℕ};
+ghost use Rattle.std.specs.Prelude.{◌≡◌, ℕ, None};
 ghost use Rattle.eds_types.specs.Overlap.{IsClear};
 ghost use Rattle.eds_types.specs.Rules.{KeepsRules};
-ghost use Rattle.eds_overlap.specs.Example.{example, WorkedFrames};
-ghost use Rattle.eds_overlap.specs.Tails.{tailed, WorkedTails};
+ghost use Rattle.eds_types.specs.Sizes.{open_of};
+ghost use Rattle.eds_overlap.specs.Example.{example, WorkedFrames, WorkedPacking, WorkedTails};
 ghost use Rattle.eds_overlap.specs.Laws.{ReadingIsExact, SpellingIsCourse, OneOutcome, OneReading, FaultsStay, SameValue, PackedIsRead, ReadIsPacked};
 
 pub use eds_types::law::{canonical_spelling, empty_types, least_size, packing_is_decided};
@@ -52,7 +52,7 @@ pub fn there_and_back()
 /// The table of the examples keeps the rules, and no two of its containers overlap: so each law speaks of some values.
 pub fn example_keeps_the_rules()
     ensures rules { KeepsRules example }
-    ensures clear { (id : ℕ) → IsClear example id }
+    ensures clear { (id : ℕ) → open_of example id ≡ None → IsClear example id }
 {}
 
 /// What some frames say by the table of the examples.
@@ -60,15 +60,12 @@ pub fn worked_frames()
     ensures { WorkedFrames }
 {}
 
-/// So does the table with open binaries, and no two containers that are read through its packets overlap.
-pub fn tails_keep_the_rules()
-    ensures rules { KeepsRules tailed }
-    ensures packet { IsClear tailed 2 }
-    ensures pairs { IsClear tailed 3 }
-{}
-
-/// What some frames and values say by the table with open binaries: a tail has the size that the length entry tells, or the
-/// length entry is refused.
+/// What some frames with a tail say: it has the size that the length entry tells, or the length entry is refused.
 pub fn worked_tails()
     ensures { WorkedTails }
+{}
+
+/// Where and why some values don't pack by the table of the examples.
+pub fn worked_packing()
+    ensures { WorkedPacking }
 {}

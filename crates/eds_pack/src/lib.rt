@@ -8,6 +8,7 @@ mod room;
 mod scalar;
 mod size;
 
+pub use eds_types::PackReason;
 pub use fail::PackFail;
 pub use octets::pack;
 pub use room::pack_into;

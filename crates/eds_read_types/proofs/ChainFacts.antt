@@ -6,7 +6,9 @@ use Rattle.std.proofs.lemmas.Bool.Decides.{nat_tests}
 use Rattle.eds_base.specs.declared.ids.Place.{Place}
 use Rattle.eds_base.specs.declared.ids.TypeId.{TypeId}
 use Rattle.eds_base.specs.declared.refusal.Refusal.{Refusal}
-use Rattle.eds_read_types.specs.Bases.{base_at, bases_above, bases_within, all_bases, is_in_cycle, meets_cycle, is_long, breaks_over, cycle_at, chain_at}
+use Rattle.eds_read_types.specs.Bases.{base_at, bases_above, bases_within, all_bases, is_in_cycle, breaks_over}
+use Rattle.eds_read_types.specs.LimitChain.{meets_cycle, is_long, chain_at}
+use Rattle.eds_read_types.specs.BaseCycle.{cycle_at}
 use Rattle.eds_read_types.proofs.NoBreaks.{append-none}
 
 -- ---- rules that are broken nowhere

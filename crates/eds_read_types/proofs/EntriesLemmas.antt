@@ -11,7 +11,7 @@ use Rattle.eds_names.specs.Repeats.{is_among}
 use Rattle.eds_names.proofs.RepeatsLemmas.{SameNames}
 use Rattle.eds_read_types.specs.Places.{own_name}
 use Rattle.eds_read_types.specs.References.{broken_with}
-use Rattle.eds_read_types.specs.Entries.{repeat_of, repeats}
+use Rattle.eds_read_types.specs.DuplicateEntry.{repeat_of, repeats}
 
 pub repeat_of-present : (before : List (List ℕ)) (at : Place) (name : List ℕ) → is_among before name ≡ true → repeat_of before at name ≡ broken_with DuplicateEntry at name ∷ []
 repeat_of-present before at name h = rw h refl

@@ -27,7 +27,11 @@ use Rattle.eds_read_types.specs.Listings.{listing_of, label, value, is_empty, al
 use Rattle.eds_tree.specs.declared.tree.Node.{Node}
 use Rattle.eds_tree.specs.Trees.{name_at}
 use Rattle.eds_read_types.specs.Forms.{int_form_of, bool_form_of}
-use Rattle.eds_read_types.specs.ScalarRules.{is_integer, is_enumerated, is_boolean, broken_where, lacks_form, lacks_numbers_by, lacks_numbers, misses_listing_by, misses_listing, encoding_breaks, range_breaks, enumeration_breaks, HasDomain, HasListing}
+use Rattle.eds_read_types.specs.ScalarKinds.{is_integer, is_enumerated, is_boolean, broken_where}
+use Rattle.eds_read_types.specs.BadEncoding.{lacks_form, encoding_breaks}
+use Rattle.eds_read_types.specs.EmptyRange.{lacks_numbers_by, lacks_numbers, range_breaks}
+use Rattle.eds_read_types.specs.BadEnumeration.{misses_listing_by, misses_listing, enumeration_breaks}
+use Rattle.eds_read_types.specs.Unbroken.{HasDomain, HasListing}
 use Rattle.eds_read_types.proofs.DomainFacts.{domain_within, narrowed_within}
 
 -- ---- domains

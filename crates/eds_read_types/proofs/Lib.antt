@@ -7,10 +7,12 @@ mod EntriesLemmas
 mod NoBreaks
 mod BaseSteps
 mod NumberSteps
-mod TableLeast
 mod RowSteps
+mod SheetPlaces
+mod Unbroken
 pub mod TableFacts
 pub mod FlatRules
 pub mod ChainFacts
 pub mod NumberFacts
 pub mod TableRules
+pub mod Limits

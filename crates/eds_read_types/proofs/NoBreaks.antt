@@ -17,9 +17,12 @@ use Rattle.eds_names.specs.Repeats.{is_among}
 use Rattle.eds_names.specs.LookUp.{Names, AreApart, NamesDiffer, look_up}
 use Rattle.eds_names.proofs.LookUpLemmas.{bytes_eq-sym}
 use Rattle.eds_read_types.specs.Places.{own_name, is_type, types, type_places}
-use Rattle.eds_read_types.specs.References.{broken_with, word_place, unresolved, unresolved_by, wrong_kind, wrong_kind_by, no_type_by}
-use Rattle.eds_read_types.specs.Entries.{repeat_of, repeats}
+use Rattle.eds_read_types.specs.declared.reference_row.Wanted.TheVariants.{AnyType}
+use Rattle.eds_read_types.specs.References.{broken_with, word_place, judged_text}
 use Rattle.eds_read_types.specs.ReadTypes.{word_type}
+use Rattle.eds_read_types.specs.Unresolved.{unresolved_by, unresolved_at}
+use Rattle.eds_read_types.specs.WrongKind.{kind_by, wrong_kind_by, wrong_kind_at}
+use Rattle.eds_read_types.specs.DuplicateEntry.{repeat_of, repeats}
 
 -- ---- no least, no breaks
 
@@ -41,18 +44,18 @@ append-none (x ∷ xs) ys h = cc
 abbrev pub IsKnown : List (List Node) → Names → Option (List ℕ) → Type 0
 IsKnown trees names word = IfSome (word_type trees names word) (λ id. id.0 < length (types names)) × (is_some (word_type trees names word) ≡ is_some word)
 
-pub known : (trees : List (List Node)) (names : Names) (word : Option (List ℕ)) → unresolved names (word_place trees) word ≡ [] → wrong_kind names (word_place trees) word ≡ [] → IsKnown trees names word
+pub known : (trees : List (List Node)) (names : Names) (word : Option (List ℕ)) → judged_text (unresolved_at trees names) (word_place trees) AnyType word ≡ [] → judged_text (wrong_kind_at trees names) (word_place trees) AnyType word ≡ [] → IsKnown trees names word
 known trees names None h k = (tt, refl)
 known trees names (Some text) h k = go (look_up names (word_place trees) text) refl h k
   where
     at : Place
     at = word_place trees
 
-    sort : (id : TypeId) (o : Option Place) → slice_get (type_places names) id.0 ≡ o → no_type_by at text o ≡ [] → id.0 < length (types names)
+    sort : (id : TypeId) (o : Option Place) → slice_get (type_places names) id.0 ≡ o → kind_by trees at text AnyType o ≡ [] → id.0 < length (types names)
     sort id None e l = cc
     sort id (Some p) e l = subst (λ n. id.0 < n) (length-map (types names) (λ d. d.place)) (slice_get_within (type_places names) id.0 p e)
 
-    go : (o : Option Item) → look_up names at text ≡ o → unresolved_by at text o ≡ [] → wrong_kind_by names at text o ≡ [] → IsKnown trees names (Some text)
+    go : (o : Option Item) → look_up names at text ≡ o → unresolved_by at text o ≡ [] → wrong_kind_by trees names at text AnyType o ≡ [] → IsKnown trees names (Some text)
     go None e u w = cc
     go (Some (item.Sort id)) e u w = rw e (sort id (slice_get (type_places names) id.0) refl w, refl)
     go (Some (item.Face id)) e u w = cc

@@ -11,20 +11,23 @@ use Rattle.eds_bits.specs.declared.forms.IntForm.{IntForm}
 use Rattle.eds_tree.specs.declared.tree.Node.{Node}
 use Rattle.eds_names.specs.LookUp.{Names}
 use Rattle.eds_types.specs.Rules.{IsDomain, IsSubRange}
-use Rattle.eds_read_types.specs.declared.numbers.Numbers.{Numbers}
-use Rattle.eds_read_types.specs.Places.{type_places}
+use Rattle.eds_read_types.specs.declared.numbers.FormAndDomain.{FormAndDomain}
+use Rattle.eds_read_types.specs.Places.{type_places, is_sub_range}
 use Rattle.eds_read_types.specs.Forms.{int_form_of}
 use Rattle.eds_read_types.specs.Ranges.{no_range, range_of}
 use Rattle.eds_read_types.specs.Domains.{has_none}
-use Rattle.eds_read_types.specs.ScalarRules.{is_integer, lacks_form, encoding_breaks, range_breaks}
-use Rattle.eds_read_types.specs.Bases.{is_sub_range, base_found, bases_of, base_at, bases_within, breaks_cycle, breaks_chain}
+use Rattle.eds_read_types.specs.Bases.{base_found, bases_of, base_at, bases_within}
 use Rattle.eds_read_types.specs.Numbers.{wide_form, form_or_wide, numbers_with, all_numbers, own_numbers_in, own_numbers_at, range_at, narrowed_numbers, numbers_by, numbers_within, numbers_of}
-use Rattle.eds_read_types.specs.TableBreaks.{breaks_in, breaks_at, breaks_each, lacks_form_in, lacks_form_at, is_empty_type, is_faulty, lost_numbers, sub_range_at, breaks_sub_range}
+use Rattle.eds_read_types.specs.ScalarKinds.{is_integer, breaks_in, breaks_at, breaks_each}
+use Rattle.eds_read_types.specs.BadEncoding.{lacks_form, encoding_breaks}
+use Rattle.eds_read_types.specs.EmptyRange.{range_breaks, lacks_form_in, lacks_form_at, is_empty_type, is_faulty, is_empty_by_itself, sub_range_at, breaks_sub_range}
+use Rattle.eds_read_types.specs.BaseCycle.{breaks_cycle}
+use Rattle.eds_read_types.specs.LimitChain.{breaks_chain}
 use Rattle.eds_read_types.proofs.LawFacts.{none_broken, domain_kept, narrowed_kept, narrowed_derives, integer_unbroken}
 use Rattle.eds_read_types.proofs.ChainFacts.{over-none, each-none, unmet, no_bases, bases_none, bases_step, level, few_bases, less_bases}
 
 -- the type of a number has a domain
-abbrev pub HasNumbers : Numbers → Type 0
+abbrev pub HasNumbers : FormAndDomain → Type 0
 HasNumbers numbers = IsDomain numbers.form numbers.spans
 
 pub all_domain : HasNumbers all_numbers
@@ -116,7 +119,7 @@ module _ (trees : List (List Node)) (names : Names) where
         go None e = all_domain
         go (Some at) e = in_tree at (slice_get trees at.file) (each-none (breaks_at encoding_breaks trees names) (type_places names) encodings id at e) (each-none (breaks_at range_breaks trees names) (type_places names) ranges id at e)
 
-    abbrev numbers_at : ℕ → Numbers
+    abbrev numbers_at : ℕ → FormAndDomain
     numbers_at id = numbers_of trees (type_places names) (bases_of trees names) id
 
     abbrev faulty : ℕ → Bool
@@ -143,9 +146,9 @@ module _ (trees : List (List Node)) (names : Names) where
         let less = less_levels id base e in
         let numbers = have base.0 (omega (arith, less, h)) in
         let sub = base_is_sub at base (sym (base_there id at there) ∙ e) in
-        let kept : is_empty_type trees (type_places names) (bases_of trees names) id ≡ false = own_fault (is_sub_range trees at) (is_empty_type trees (type_places names) (bases_of trees names) id) _ sub (sound_bases n have 16 id h) (unmet (is_sub_range trees at && lost_numbers trees (type_places names) (bases_of trees names) id) _ (over-none (sub_range_at trees (type_places names) (bases_of trees names)) 0 (type_places names) subs id at there id (omega arith))) in
+        let kept : is_empty_type trees (type_places names) (bases_of trees names) id ≡ false = own_fault (is_sub_range trees at) (is_empty_type trees (type_places names) (bases_of trees names) id) _ sub (sound_bases n have 16 id h) (unmet (is_sub_range trees at && is_empty_by_itself trees (type_places names) (bases_of trees names) id) _ (over-none (sub_range_at trees (type_places names) (bases_of trees names)) 0 (type_places names) subs id at there id (omega arith))) in
         let step = numbers_step trees (type_places names) (bases_of trees names) id base e (few_levels id) in
-        subst HasNumbers (sym step) (narrowed_kept (numbers_at base.0).form (numbers_at base.0).spans (range_at trees (slice_get (type_places names) id)) numbers (ap (λ (m : Numbers). has_none m.spans) (sym step) ∙ kept))
+        subst HasNumbers (sym step) (narrowed_kept (numbers_at base.0).form (numbers_at base.0).spans (range_at trees (slice_get (type_places names) id)) numbers (ap (λ (m : FormAndDomain). has_none m.spans) (sym step) ∙ kept))
       where
         own_fault : (sub empty any : Bool) → sub ≡ true → any ≡ false → (sub && (empty && not any)) ≡ false → empty ≡ false
         own_fault true true false p q r = cc
@@ -171,5 +174,5 @@ module _ (trees : List (List Node)) (names : Names) where
     -- a sub-range derives from its base
     pub derives_from : (id : ℕ) (base : TypeId) → base_at (bases_of trees names) id ≡ Some base → IsSubRange (numbers_at id).form (numbers_at id).spans (numbers_at base.0).form (numbers_at base.0).spans
     derives_from id base e =
-        subst (λ (m : Numbers). IsSubRange m.form m.spans (numbers_at base.0).form (numbers_at base.0).spans) (sym (numbers_step trees (type_places names) (bases_of trees names) id base e (few_levels id)))
+        subst (λ (m : FormAndDomain). IsSubRange m.form m.spans (numbers_at base.0).form (numbers_at base.0).spans) (sym (numbers_step trees (type_places names) (bases_of trees names) id base e (few_levels id)))
         (narrowed_derives (numbers_at base.0).form (numbers_at base.0).spans (range_at trees (slice_get (type_places names) id)))

@@ -4,12 +4,12 @@ use Rattle.std.specs.Prelude.{IfOk, if◌then◌else◌}
 use Rattle.eds_base.specs.declared.ids.Place.{Place}
 use Rattle.eds_base.specs.declared.ids.TypeId.{TypeId}
 use Rattle.eds_tree.specs.declared.tree.Node.{Node}
-use Rattle.eds_read_types.specs.declared.numbers.Numbers.{Numbers}
+use Rattle.eds_read_types.specs.declared.numbers.FormAndDomain.{FormAndDomain}
 use Rattle.eds_read_types.specs.Forms.{int_form_of}
 use Rattle.eds_read_types.specs.Ranges.{range_of}
-use Rattle.eds_read_types.specs.ScalarRules.{is_integer}
 use Rattle.eds_read_types.specs.Bases.{base_at}
 use Rattle.eds_read_types.specs.Numbers.{form_or_wide, numbers_with, all_numbers, own_numbers, own_numbers_in, own_numbers_at, range_at, narrowed_numbers, numbers_by, numbers_within}
+use Rattle.eds_read_types.specs.ScalarKinds.{is_integer}
 
 -- an answer by another name
 pub ok-is : {A E : Type 0} (r : Result A E) (x y : A) → x ≡ y → IfOk r (λ a. a ≡ x) → IfOk r (λ a. a ≡ y)
@@ -33,7 +33,7 @@ unfolding numbers_within
 up-own zero trees places bases id e = refl
 up-own (suc n) trees places bases id e = sym (ap (numbers_by (numbers_within n trees places bases) (range_at trees (slice_get places id)) (own_numbers_at trees (slice_get places id))) e)
 
-pub up-base : (most : ℕ) (trees : List (List Node)) (places : List Place) (bases : List (Option TypeId)) (id : ℕ) (base : TypeId) (below : Numbers) → 0 < most → base_at bases id ≡ Some base → below ≡ numbers_within (most - 1) trees places bases base.0
+pub up-base : (most : ℕ) (trees : List (List Node)) (places : List Place) (bases : List (Option TypeId)) (id : ℕ) (base : TypeId) (below : FormAndDomain) → 0 < most → base_at bases id ≡ Some base → below ≡ numbers_within (most - 1) trees places bases base.0
     → narrowed_numbers (range_at trees (slice_get places id)) below ≡ numbers_within most trees places bases id
 unfolding numbers_within
 up-base zero trees places bases id base below h e f = absurd (omega arith)

@@ -1,6 +1,6 @@
 -- The rows of a sheet that breaks no rule on types keep the rules of a table, and are flat.
 use Rattle.std.proofs.Common.{◌≡◌, ℕ, zero, suc, ◌+◌, ◌≤◌, Bool, true, false, ◌||◌, List, [], ◌∷◌, ◌++◌, length, map, slice_get, option_map, Option, Some, None, refl, sym, ap, subst, ◌∙◌, arith, lit≤}
-use Rattle.std.specs.Prelude.{nat_le, codes, if◌then◌else◌}
+use Rattle.std.specs.Prelude.{nat_le, codes, not, Ok, if◌then◌else◌}
 use Rattle.std.specs.List.{AllByRecursion, filter_map, flat_map, list_all}
 use Rattle.std.proofs.Common.{leb-true}
 use Rattle.std.proofs.lemmas.Bool.{and_parts}
@@ -12,34 +12,45 @@ use Rattle.eds_base.specs.Refusals.{least}
 use Rattle.eds_base.specs.declared.ids.Place.{Place}
 use Rattle.eds_base.specs.declared.ids.TypeId.{TypeId}
 use Rattle.eds_base.specs.declared.refusal.Refusal.{Refusal}
+use Rattle.eds_base.specs.declared.rule.Rule.TheVariants.{Unsupported}
 use Rattle.eds_bits.specs.Lists.{Has}
 use Rattle.eds_tree.specs.declared.tree.Node.{Node}
 use Rattle.eds_tree.specs.Trees.{node_name, name_at}
+use Rattle.eds_tree.specs.ShapeCheck.{shape_verdict}
 use Rattle.eds_names.specs.declared.declared.Declared.{Declared}
 use Rattle.eds_names.specs.declared.declared.Item.{Item}
 use Rattle.eds_names.specs.declared.declared.Item.TheVariants as item
 use Rattle.eds_names.specs.Repeats.{is_among}
-use Rattle.eds_names.specs.LookUp.{Names, AreApart, NamesDiffer, look_up}
+use Rattle.eds_names.specs.LookUp.{Names, AreApart, NamesDiffer, look_up, names_in}
+use Rattle.eds_names.proofs.Differing.{differ}
 use Rattle.eds_types.specs.declared.row.TypeRow.{TypeRow}
 use Rattle.eds_types.specs.declared.row.Kind.{Kind}
 use Rattle.eds_types.specs.declared.row.Kind.TheVariants as kind
 use Rattle.eds_types.specs.FlatTables.{IsScalarEntry, IsFlatKind, IsFlatTable}
 use Rattle.eds_types.specs.Rows.{base_in, base_of, number_of_id, entries_in, constraints_in}
 use Rattle.eds_types.specs.Rules.{AreDistinct, IsListing, KindKeeps, HasKind, IsScalarKind, DerivesFrom, name_of, KeepsRules}
-use Rattle.eds_read_types.specs.declared.numbers.Numbers.{Numbers}
-use Rattle.eds_read_types.specs.Places.{element, is_element, own_name, is_container, types, type_places}
-use Rattle.eds_read_types.specs.References.{type_named, type_of, type_found}
-use Rattle.eds_read_types.specs.ReadTypes.{id_of}
-use Rattle.eds_read_types.specs.Entries.{entries_at, repeats, duplicates_at, breaks_empty, breaks_duplicate}
+use Rattle.eds_read_types.specs.declared.numbers.FormAndDomain.{FormAndDomain}
+use Rattle.eds_read_types.specs.Places.{element, is_element, is_container, is_sub_range, is_number, attribute, own_name, elements, types, type_places}
+use Rattle.eds_read_types.specs.References.{references, row_for, judged_text, judged_by, judged_at, broken_with}
+use Rattle.eds_read_types.specs.ReadTypes.{id_of, id_found}
+use Rattle.eds_read_types.specs.Entries.{entries_at}
 use Rattle.eds_read_types.specs.Forms.{int_form_of, bool_form_of}
 use Rattle.eds_read_types.specs.Listings.{listing_of}
-use Rattle.eds_read_types.specs.ScalarRules.{is_enumerated, is_boolean, encoding_breaks, range_breaks, enumeration_breaks}
-use Rattle.eds_read_types.specs.TypeReferences.{breaks_finding, breaks_kind}
-use Rattle.eds_read_types.specs.Bases.{is_sub_range, is_number, base_named, base_found, bases_of, base_kind_by, base_kind, base_kind_at, breaks_base_kind, breaks_cycle, breaks_chain}
+use Rattle.eds_read_types.specs.Bases.{base_found, bases_of}
 use Rattle.eds_read_types.specs.Numbers.{form_or_wide, truth_or_octet, numbers_of}
-use Rattle.eds_read_types.specs.TableRows.{entry_type, id_or_first, entry_part, container_at, scalar_kind_in, kind_of, table_row, rows_from, table_rows, has_few_entries, are_few}
-use Rattle.eds_read_types.specs.TableBreaks.{not_scalar_by, not_scalar_at, not_flat_at, breaks_flat, breaks_in, breaks_at, breaks_each, breaks_sub_range, reference_breaks, chain_breaks, scalar_breaks, container_breaks, table_breaks}
+use Rattle.eds_read_types.specs.TableRows.{entry_id, entry_part, container_at, scalar_kind_in, kind_of, table_row, rows_from, table_rows, has_few_entries, are_few}
+use Rattle.eds_read_types.specs.TableBreaks.{table_breaks}
+use Rattle.eds_read_types.specs.DuplicateEntry.{repeats, duplicates_at}
+use Rattle.eds_read_types.specs.ScalarKinds.{is_enumerated, is_boolean, breaks_in, breaks_at}
+use Rattle.eds_read_types.specs.BadEncoding.{encoding_breaks}
+use Rattle.eds_read_types.specs.BadEnumeration.{enumeration_breaks}
+use Rattle.eds_read_types.specs.WrongKind.{kind_by, wrong_kind_by, wrong_kind_at}
+use Rattle.eds_read_types.specs.UnsupportedEntry.{is_scalar, not_scalar_at, not_flat_at}
+use Rattle.eds_read_types.specs.declared.reference_row.Wanted.TheVariants.{NumberType}
 use Rattle.eds_read_types.proofs.NoBreaks.{least-none, append-none, types-apart, no_repeats}
+use Rattle.eds_read_types.proofs.Unbroken.{IsUnbroken, unbroken}
+use Rattle.eds_read_types.proofs.SheetPlaces.{at_one, each-none as nowhere, of_types}
+use Rattle.eds_read_types.proofs.Limits.{few_types}
 use Rattle.eds_read_types.proofs.LawFacts.{name_apart, enumerated_unbroken}
 use Rattle.eds_read_types.proofs.FlatRules.{KeepsRow, AreFlatRows, scalar_by_kind, flat_by_rows, keeps_by_rows}
 use Rattle.eds_read_types.proofs.ChainFacts.{each-none, level}
@@ -116,7 +127,7 @@ number_apart name other p q h = either (same name (codes "IntegerDataType")) (sa
 abbrev is_number_named : Option Node → Bool
 is_number_named node = same (node_name node) (codes "IntegerDataType") || same (node_name node) (codes "SubRangeDataType")
 
-in_tree_number : (o : Option (List Node)) (n : ℕ) (numbers : Numbers) → is_number_named (o >>= λ t. slice_get t n) ≡ true → scalar_kind_in o n numbers ≡ kind.Int numbers.form numbers.spans
+in_tree_number : (o : Option (List Node)) (n : ℕ) (numbers : FormAndDomain) → is_number_named (o >>= λ t. slice_get t n) ≡ true → scalar_kind_in o n numbers ≡ kind.Int numbers.form numbers.spans
 in_tree_number None n numbers h = refl
 in_tree_number (Some t) n numbers h =
     let enumerated : is_enumerated t n ≡ false = number_apart (name_at t n) (codes "EnumeratedDataType") refl refl h in
@@ -132,7 +143,7 @@ number_kind trees names id at h =
     rw container (in_tree_number (slice_get trees at.file) at.node (numbers_of trees (type_places names) (bases_of trees names) id) h)
 
 -- whatever is no container is scalar
-scalar_is_scalar : (o : Option (List Node)) (n : ℕ) (numbers : Numbers) → IsScalarKind (scalar_kind_in o n numbers)
+scalar_is_scalar : (o : Option (List Node)) (n : ℕ) (numbers : FormAndDomain) → IsScalarKind (scalar_kind_in o n numbers)
 scalar_is_scalar None n numbers = tt
 scalar_is_scalar (Some t) n numbers = go (is_enumerated t n) (is_boolean t n)
   where
@@ -143,35 +154,6 @@ scalar_is_scalar (Some t) n numbers = go (is_enumerated t n) (is_boolean t n)
 
 -- ---- entries
 
--- the type of an entry that is scalar
-record IsEntryOf (trees : List (List Node)) (names : Names) (at : Place) : Type 0 where
-  id : TypeId
-  names_it : entry_type trees names at ≡ Some id
-  place : Place
-  there : slice_get (type_places names) id.0 ≡ Some place
-  scalar : is_container trees place ≡ false
-
-entry_scalar : (trees : List (List Node)) (names : Names) (at : Place) → not_scalar_at trees names at ≡ [] → IsEntryOf trees names at
-entry_scalar trees names at h = named (type_named trees at) refl h
-  where
-    not_container : (b : Bool) (r : Refusal) → (if b then r ∷ [] else []) ≡ [] → b ≡ false
-    not_container true r h = absurd cc
-    not_container false r h = refl
-
-    placed : (text : List ℕ) (id : TypeId) → type_named trees at ≡ Some text → look_up names at text ≡ Some (item.Sort id) → (o : Option Place) → slice_get (type_places names) id.0 ≡ o → not_scalar_by trees at o ≡ [] → IsEntryOf trees names at
-    placed text id e f None q k = absurd cc
-    placed text id e f (Some place) q k = record { id = id; names_it = rw e (rw f refl); place = place; there = q; scalar = not_container (is_container trees place) _ k }
-
-    found : (text : List ℕ) → type_named trees at ≡ Some text → (o : Option Item) → look_up names at text ≡ o → not_scalar_by trees at (o >>= type_of names) ≡ [] → IsEntryOf trees names at
-    found text e None f k = absurd cc
-    found text e (Some (item.Sort id)) f k = placed text id e f (slice_get (type_places names) id.0) refl k
-    found text e (Some (item.Face id)) f k = absurd cc
-    found text e (Some (item.Comp id)) f k = absurd cc
-
-    named : (o : Option (List ℕ)) → type_named trees at ≡ o → not_scalar_by trees at (o >>= type_found names at) ≡ [] → IsEntryOf trees names at
-    named None e k = absurd cc
-    named (Some text) e k = found text e (look_up names at text) refl k
-
 -- a type that is no container is scalar in the table
 scalar_there : (trees : List (List Node)) (names : Names) (id : ℕ) (place : Place) → slice_get (type_places names) id ≡ Some place → is_container trees place ≡ false → HasKind (table_rows trees names) id IsScalarKind
 scalar_there trees names id place there scalar =
@@ -179,12 +161,21 @@ scalar_there trees names id place there scalar =
     let same_place : is_container trees (d.0).place ≡ false = ap (is_container trees) d.2 ∙ scalar in
     (table_row trees names id d.0, row_there trees names 0 (types names) id d.0 d.1 id (omega arith), rw same_place (scalar_is_scalar (slice_get trees (d.0).place.file) (d.0).place.node (numbers_of trees (type_places names) (bases_of trees names) id)))
 
+entry_scalar : (trees : List (List Node)) (names : Names) (at : Place) → not_scalar_at trees names at ≡ [] → HasKind (table_rows trees names) (entry_id trees names at).0 IsScalarKind
+entry_scalar trees names at h = there (slice_get (type_places names) (entry_id trees names at).0) refl h
+  where
+    no_container : (b : Bool) (r : Refusal) → (if not b then [] else r ∷ []) ≡ [] → b ≡ false
+    no_container true r k = absurd cc
+    no_container false r k = refl
+
+    there : (o : Option Place) → slice_get (type_places names) (entry_id trees names at).0 ≡ o → (if is_scalar trees o then [] else broken_with Unsupported at (codes "Entry") ∷ []) ≡ [] → HasKind (table_rows trees names) (entry_id trees names at).0 IsScalarKind
+    there None e k = absurd cc
+    there (Some place) e k = scalar_there trees names (entry_id trees names at).0 place e (no_container (is_container trees place) _ k)
+
 entries_scalar : (trees : List (List Node)) (names : Names) (ats : List Place) → flat_map (not_scalar_at trees names) ats ≡ [] → AllByRecursion (IsScalarEntry (table_rows trees names)) (map (entry_part trees names) ats)
 entries_scalar trees names [] h = tt
 entries_scalar trees names (at ∷ ats) h =
-    let p = append-none (not_scalar_at trees names at) (flat_map (not_scalar_at trees names) ats) h in
-    let e = entry_scalar trees names at p.0 in
-    (subst (λ (o : Option TypeId). HasKind (table_rows trees names) (id_or_first o).0 IsScalarKind) (sym e.names_it) (scalar_there trees names e.id.0 e.place e.there e.scalar), entries_scalar trees names ats p.1)
+    let p = append-none (not_scalar_at trees names at) (flat_map (not_scalar_at trees names) ats) h in (entry_scalar trees names at p.0, entries_scalar trees names ats p.1)
 
 part_names : (trees : List (List Node)) (names : Names) (ats : List Place) → filter_map name_of (map (entry_part trees names) ats) ≡ map (own_name trees) ats
 part_names trees names [] = refl
@@ -198,56 +189,43 @@ record IsBaseOf (trees : List (List Node)) (names : Names) (base : TypeId) : Typ
   there : slice_get (type_places names) base.0 ≡ Some place
   number : is_number trees place ≡ true
 
-base_of_sub : (trees : List (List Node)) (names : Names) (at : Place) (base : TypeId) → base_kind_at trees names at ≡ [] → base_found trees names at ≡ Some base → IsBaseOf trees names base
-base_of_sub trees names at base h e = named (base_named trees at) h e
+base_of_sub : (trees : List (List Node)) (names : Names) (at : Place) (base : TypeId) → judged_at (wrong_kind_at trees names) trees at ≡ [] → base_found trees names at ≡ Some base → IsBaseOf trees names base
+base_of_sub trees names at base h e = text_of (attribute trees (codes "baseType") at) (sym by_row ∙ h) (sym by_attribute ∙ e)
   where
-    is_one : (b : Bool) (r : Refusal) → (if b then [] else r ∷ []) ≡ [] → b ≡ true
-    is_one true r h = refl
-    is_one false r h = absurd cc
+    sub : is_sub_range trees at ≡ true
+    sub = base_is_sub trees names at base e
 
-    placed : (text : List ℕ) (o : Option Place) → slice_get (type_places names) base.0 ≡ o → base_kind_by trees at text o ≡ [] → IsBaseOf trees names base
+    by_row : judged_at (wrong_kind_at trees names) trees at ≡ judged_text (wrong_kind_at trees names) at NumberType (attribute trees (codes "baseType") at)
+    by_row = ap (λ name. judged_by (wrong_kind_at trees names) trees at (row_for references name)) ((bytes_eq-Decides (node_name (element trees at)) (codes "SubRangeDataType")).0 sub)
+
+    by_attribute : base_found trees names at ≡ id_found names at (attribute trees (codes "baseType") at)
+    by_attribute = rw sub refl
+
+    is_one : (b : Bool) (r : Refusal) → (if b then [] else r ∷ []) ≡ [] → b ≡ true
+    is_one true r k = refl
+    is_one false r k = absurd cc
+
+    placed : (text : List ℕ) (o : Option Place) → slice_get (type_places names) base.0 ≡ o → kind_by trees at text NumberType o ≡ [] → IsBaseOf trees names base
     placed text None q k = absurd cc
     placed text (Some place) q k = record { place = place; there = q; number = is_one (is_number trees place) _ k }
 
-    found : (text : List ℕ) (o : Option Item) → base_kind_by trees at text (o >>= type_of names) ≡ [] → (o >>= id_of) ≡ Some base → IsBaseOf trees names base
+    found : (text : List ℕ) (o : Option Item) → wrong_kind_by trees names at text NumberType o ≡ [] → (o >>= id_of) ≡ Some base → IsBaseOf trees names base
     found text None k f = absurd cc
-    found text (Some (item.Sort id)) k f = let is : id ≡ base = cc in placed text (slice_get (type_places names) base.0) refl (subst (λ (i : TypeId). base_kind_by trees at text (slice_get (type_places names) i.0) ≡ []) is k)
+    found text (Some (item.Sort id)) k f = let is : id ≡ base = cc in placed text (slice_get (type_places names) base.0) refl (subst (λ (i : TypeId). kind_by trees at text NumberType (slice_get (type_places names) i.0) ≡ []) is k)
     found text (Some (item.Face id)) k f = absurd cc
     found text (Some (item.Comp id)) k f = absurd cc
 
-    named : (o : Option (List ℕ)) → base_kind trees names at o ≡ [] → (o >>= λ text. look_up names at text >>= id_of) ≡ Some base → IsBaseOf trees names base
-    named None k f = absurd cc
-    named (Some text) k f = found text (look_up names at text) k f
+    text_of : (o : Option (List ℕ)) → judged_text (wrong_kind_at trees names) at NumberType o ≡ [] → id_found names at o ≡ Some base → IsBaseOf trees names base
+    text_of None k f = absurd cc
+    text_of (Some text) k f = found text (look_up names at text) k f
 
 -- ---- the rows of a sheet
 
--- the breaks that the table asks about are none
-record IsUnbroken (trees : List (List Node)) (names : Names) : Type 0 where
-  kinds : breaks_base_kind trees names ≡ []
-  cycles : breaks_cycle trees names ≡ []
-  chains : breaks_chain trees names ≡ []
-  flat : breaks_flat trees names ≡ []
-  encodings : breaks_each encoding_breaks trees names ≡ []
-  ranges : breaks_each range_breaks trees names ≡ []
-  subs : breaks_sub_range trees names ≡ []
-  enumerations : breaks_each enumeration_breaks trees names ≡ []
-  duplicates : breaks_duplicate trees names ≡ []
+module _ (trees : List (List Node)) (names : Names) (word : Option (List ℕ)) (named : names_in trees ≡ Ok names) (u : IsUnbroken trees names word) where
+  -- what the reference of a type finds is of the wanted kind
+  fitting : AllByRecursion (λ at. judged_at (wrong_kind_at trees names) trees at ≡ []) (type_places names)
+  fitting = of_types (λ at. judged_at (wrong_kind_at trees names) trees at ≡ []) trees names named (nowhere (judged_at (wrong_kind_at trees names) trees) (elements trees) u.kinds)
 
-unbroken : (trees : List (List Node)) (names : Names) (word : Option (List ℕ)) → table_breaks trees names word ≡ [] → IsUnbroken trees names
-unbroken trees names word h =
-    let d = append-none (reference_breaks trees names word ++ chain_breaks trees names ++ scalar_breaks trees names) (container_breaks trees names word) h in
-    let c = append-none (reference_breaks trees names word ++ chain_breaks trees names) (scalar_breaks trees names) d.0 in
-    let b = append-none (reference_breaks trees names word) (chain_breaks trees names) c.0 in
-    let r = append-none (breaks_finding trees names word ++ breaks_kind trees names word) (breaks_base_kind trees names) b.0 in
-    let f = append-none (breaks_cycle trees names ++ breaks_chain trees names) (breaks_flat trees names) b.1 in
-    let g = append-none (breaks_cycle trees names) (breaks_chain trees names) f.0 in
-    let s = append-none (breaks_each encoding_breaks trees names ++ breaks_each range_breaks trees names ++ breaks_sub_range trees names) (breaks_each enumeration_breaks trees names) c.1 in
-    let u = append-none (breaks_each encoding_breaks trees names ++ breaks_each range_breaks trees names) (breaks_sub_range trees names) s.0 in
-    let e = append-none (breaks_each encoding_breaks trees names) (breaks_each range_breaks trees names) u.0 in
-    let o = append-none (breaks_empty trees names word) (breaks_duplicate trees names) d.1 in
-    record { kinds = r.1; cycles = g.0; chains = g.1; flat = f.1; encodings = e.0; ranges = e.1; subs = u.1; enumerations = s.1; duplicates = o.1 }
-
-module _ (trees : List (List Node)) (names : Names) (u : IsUnbroken trees names) where
   -- ---- containers
 
   container_row : (id : ℕ) (d : Declared) → slice_get (types names) id ≡ Some d → is_container trees d.place ≡ true → length (entries_at trees d.place) ≤ 32767
@@ -300,7 +278,7 @@ module _ (trees : List (List Node)) (names : Names) (u : IsUnbroken trees names)
   derives : (id : ℕ) (d : Declared) → slice_get (types names) id ≡ Some d → (base : TypeId) → base_found trees names d.place ≡ Some base → HasKind (table_rows trees names) base.0 (DerivesFrom (kind_of trees names id d.place))
   derives id d there base e =
       let place = place_there (types names) id d there in
-      let b = base_of_sub trees names d.place base (each-none (base_kind_at trees names) (type_places names) u.kinds id d.place place) e in
+      let b = base_of_sub trees names d.place base (at_one (λ at. judged_at (wrong_kind_at trees names) trees at ≡ []) (type_places names) fitting id d.place place) e in
       let other = declared_there (types names) base.0 b.place b.there in
       let base_number : is_number trees (other.0).place ≡ true = ap (is_number trees) other.2 ∙ b.number in
       let number = sub_is_number trees d.place (base_is_sub trees names d.place base e) in (
@@ -377,13 +355,14 @@ module _ (trees : List (List Node)) (names : Names) (u : IsUnbroken trees names)
 
 -- ---- the laws
 
-unbroken_sheet : (trees : List (List Node)) (names : Names) (word : Option (List ℕ)) → NamesDiffer names.declared → are_few (table_rows trees names) ≡ true → least (table_breaks trees names word) ≡ None → AreFlatRows (table_rows trees names)
-unbroken_sheet trees names word apart few none = flat_rows trees names (unbroken trees names word (least-none (table_breaks trees names word) none)) apart few
+unbroken_sheet : (trees : List (List Node)) (names : Names) (word : Option (List ℕ)) → shape_verdict trees ≡ Ok tt → names_in trees ≡ Ok names → least (table_breaks trees names word) ≡ None → AreFlatRows (table_rows trees names)
+unbroken_sheet trees names word shaped named none =
+    flat_rows trees names word named (unbroken trees names word (least-none (table_breaks trees names word) none)) (differ trees names named) (few_types trees names shaped named)
 
 -- the rows of a sheet that is not refused keep the rules
-pub table_keeps : (trees : List (List Node)) (names : Names) (word : Option (List ℕ)) → NamesDiffer names.declared → are_few (table_rows trees names) ≡ true → least (table_breaks trees names word) ≡ None → KeepsRules (table_rows trees names)
-table_keeps trees names word apart few none = keeps_by_rows (table_rows trees names) (unbroken_sheet trees names word apart few none)
+pub table_keeps : (trees : List (List Node)) (names : Names) (word : Option (List ℕ)) → shape_verdict trees ≡ Ok tt → names_in trees ≡ Ok names → least (table_breaks trees names word) ≡ None → KeepsRules (table_rows trees names)
+table_keeps trees names word shaped named none = keeps_by_rows (table_rows trees names) (unbroken_sheet trees names word shaped named none)
 
 -- and are scalar types and flat containers
-pub table_flat : (trees : List (List Node)) (names : Names) (word : Option (List ℕ)) → NamesDiffer names.declared → are_few (table_rows trees names) ≡ true → least (table_breaks trees names word) ≡ None → IsFlatTable (table_rows trees names)
-table_flat trees names word apart few none = flat_by_rows (table_rows trees names) (unbroken_sheet trees names word apart few none)
+pub table_flat : (trees : List (List Node)) (names : Names) (word : Option (List ℕ)) → shape_verdict trees ≡ Ok tt → names_in trees ≡ Ok names → least (table_breaks trees names word) ≡ None → IsFlatTable (table_rows trees names)
+table_flat trees names word shaped named none = flat_by_rows (table_rows trees names) (unbroken_sheet trees names word shaped named none)

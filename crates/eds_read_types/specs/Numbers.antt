@@ -8,13 +8,13 @@ use Rattle.eds_bits.specs.declared.forms.ByteOrder.TheVariants.{Big}
 use Rattle.eds_bits.specs.declared.forms.IntForm.{IntForm}
 use Rattle.eds_bits.specs.declared.forms.BoolForm.{BoolForm}
 use Rattle.eds_tree.specs.declared.tree.Node.{Node}
-use Rattle.eds_read_types.specs.declared.numbers.Numbers.{Numbers}
+use Rattle.eds_read_types.specs.declared.numbers.FormAndDomain.{FormAndDomain}
 use Rattle.eds_read_types.specs.declared.range.Range.{Range}
 use Rattle.eds_read_types.specs.Sizes.{is_form, some_bits, few_bits}
 use Rattle.eds_read_types.specs.Forms.{int_form_of}
 use Rattle.eds_read_types.specs.Ranges.{no_range, range_of}
 use Rattle.eds_read_types.specs.Domains.{domain_of, narrowed}
-use Rattle.eds_read_types.specs.ScalarRules.{is_integer}
+use Rattle.eds_read_types.specs.ScalarKinds.{is_integer}
 use Rattle.eds_read_types.specs.Bases.{base_at}
 
 -- ---- forms
@@ -38,21 +38,21 @@ truth_or_octet form = unwrap_or form octet_form
 -- ---- one type
 
 -- the numbers of a form that a range admits
-abbrev pub numbers_with : IntForm → Range → Numbers
+abbrev pub numbers_with : IntForm → Range → FormAndDomain
 numbers_with form range = record { form = form; spans = domain_of form range }
 
-abbrev pub all_numbers : Numbers
+abbrev pub all_numbers : FormAndDomain
 all_numbers = numbers_with wide_form no_range
 
 -- the numbers of an integer type; whatever is none is read as one without an encoding and a range
-abbrev pub own_numbers : List Node → ℕ → Numbers
+abbrev pub own_numbers : List Node → ℕ → FormAndDomain
 own_numbers t n = if is_integer t n then numbers_with (form_or_wide (int_form_of t n)) (range_of t n) else all_numbers
 
-abbrev pub own_numbers_in : Option (List Node) → ℕ → Numbers
+abbrev pub own_numbers_in : Option (List Node) → ℕ → FormAndDomain
 own_numbers_in None n = all_numbers
 own_numbers_in (Some t) n = own_numbers t n
 
-abbrev pub own_numbers_at : List (List Node) → Option Place → Numbers
+abbrev pub own_numbers_at : List (List Node) → Option Place → FormAndDomain
 own_numbers_at trees None = all_numbers
 own_numbers_at trees (Some at) = own_numbers_in (slice_get trees at.file) at.node
 
@@ -68,19 +68,19 @@ range_at trees (Some at) = range_held_in (slice_get trees at.file) at.node
 -- ---- a type and its bases
 
 -- the base's form, and the base's numbers that a range admits
-abbrev pub narrowed_numbers : Range → Numbers → Numbers
+abbrev pub narrowed_numbers : Range → FormAndDomain → FormAndDomain
 narrowed_numbers range base = record { form = base.form; spans = narrowed range base.spans }
 
 -- the numbers of a type: its own, or, where it has a base, those of the base that its range admits
-abbrev pub numbers_by : (ℕ → Numbers) → Range → Numbers → Option TypeId → Numbers
+abbrev pub numbers_by : (ℕ → FormAndDomain) → Range → FormAndDomain → Option TypeId → FormAndDomain
 numbers_by up range own None = own
 numbers_by up range own (Some base) = narrowed_numbers range (up base.0)
 
 -- the same over at most n bases; places and bases are those of all types
-unfoldable pub numbers_within : ℕ → List (List Node) → List Place → List (Option TypeId) → ℕ → Numbers
+unfoldable pub numbers_within : ℕ → List (List Node) → List Place → List (Option TypeId) → ℕ → FormAndDomain
 numbers_within zero trees places bases id = own_numbers_at trees (slice_get places id)
 numbers_within (suc n) trees places bases id = numbers_by (numbers_within n trees places bases) (range_at trees (slice_get places id)) (own_numbers_at trees (slice_get places id)) (base_at bases id)
 
 -- the form and the domain of the type of a number: no chain is longer than 16 types
-abbrev pub numbers_of : List (List Node) → List Place → List (Option TypeId) → ℕ → Numbers
+abbrev pub numbers_of : List (List Node) → List Place → List (Option TypeId) → ℕ → FormAndDomain
 numbers_of trees places bases id = numbers_within 16 trees places bases id

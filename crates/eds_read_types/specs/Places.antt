@@ -1,5 +1,5 @@
 -- The elements and the types of a sheet by their places.
-use Rattle.std.specs.Prelude.{ℕ, ◌+◌, List, [], ◌∷◌, ◌++◌, map, filter, codes, Bool, Option, slice_get, unwrap_or}
+use Rattle.std.specs.Prelude.{ℕ, ◌+◌, List, [], ◌∷◌, ◌++◌, map, filter, codes, Bool, ◌||◌, Option, slice_get, unwrap_or}
 use Rattle.eds_base.specs.Reading.{◌>>=◌, same}
 use Rattle.eds_base.specs.declared.ids.Place.{Place}
 use Rattle.eds_tree.specs.declared.tree.Node.{Node}
@@ -28,6 +28,14 @@ own_name trees at = unwrap_or (attribute trees (codes "name") at) []
 -- it is a container
 abbrev pub is_container : List (List Node) → Place → Bool
 is_container trees at = is_element trees (codes "ContainerDataType") at
+
+-- it is a sub-range
+abbrev pub is_sub_range : List (List Node) → Place → Bool
+is_sub_range trees at = is_element trees (codes "SubRangeDataType") at
+
+-- it is an integer type or a sub-range
+abbrev pub is_number : List (List Node) → Place → Bool
+is_number trees at = is_element trees (codes "IntegerDataType") at || is_sub_range trees at
 
 -- an element of the same file
 abbrev pub in_file : Place → ℕ → Place

@@ -1,17 +1,21 @@
--- What references to types find, and the rules on it.
-use Rattle.std.specs.Prelude.{ℕ, List, [], ◌∷◌, length, codes, if◌then◌else◌, Option, Some, None, slice_get}
-use Rattle.eds_base.specs.Reading.{◌>>=◌}
+-- The references to types that a sheet has, and what they find.
+use Rattle.std.specs.Prelude.{ℕ, List, [], ◌∷◌, ◌++◌, length, codes, Bool, true, if◌then◌else◌, Option, Some, None, slice_get}
+use Rattle.std.specs.List.{flat_map}
+use Rattle.eds_base.specs.Reading.{◌>>=◌, same}
 use Rattle.eds_base.specs.declared.ids.Place.{Place}
 use Rattle.eds_base.specs.declared.refusal.Refusal.{Refusal}
 use Rattle.eds_base.specs.declared.refusal.Kept.TheVariants.{Nothing}
 use Rattle.eds_base.specs.declared.rule.Rule.{Rule}
-use Rattle.eds_base.specs.declared.rule.Rule.TheVariants.{Unresolved, WrongKind}
 use Rattle.eds_tree.specs.declared.tree.Node.{Node}
 use Rattle.eds_tree.specs.Breaks.{refusal_at}
+use Rattle.eds_tree.specs.Trees.{node_name}
 use Rattle.eds_names.specs.declared.declared.Item.{Item}
 use Rattle.eds_names.specs.declared.declared.Item.TheVariants as item
 use Rattle.eds_names.specs.LookUp.{Names, look_up}
-use Rattle.eds_read_types.specs.Places.{is_element, attribute, type_places}
+use Rattle.eds_read_types.specs.declared.reference_row.Wanted.{Wanted}
+use Rattle.eds_read_types.specs.declared.reference_row.Wanted.TheVariants.{AnyType, NumberType, ContainerType}
+use Rattle.eds_read_types.specs.declared.reference_row.ReferenceRow.{ReferenceRow}
+use Rattle.eds_read_types.specs.Places.{element, is_container, is_number, attribute, elements, type_places}
 
 -- ---- refusals at a place
 
@@ -23,15 +27,66 @@ broken_with rule at word = refusal_at rule at.file at.node word
 abbrev pub broken : Rule → Place → Refusal
 broken rule at = record { rule = rule; place = at; kept = Nothing }
 
--- ---- what a reference finds
+-- ---- the elements that refer to types
+
+-- an element, the attribute by which it refers, and what it is to find
+pub record Reference : Type 0 where
+  pub element : List ℕ
+  pub attribute : List ℕ
+  pub wanted : Wanted
+
+abbrev pub reference : List ℕ → List ℕ → Wanted → Reference
+reference element attribute wanted = record { element = element; attribute = attribute; wanted = wanted }
+
+abbrev pub references : List Reference
+references =
+    reference (codes "Entry") (codes "type") AnyType
+    ∷ reference (codes "FixedValueEntry") (codes "type") AnyType
+    ∷ reference (codes "ListEntry") (codes "type") AnyType
+    ∷ reference (codes "LengthEntry") (codes "type") AnyType
+    ∷ reference (codes "ErrorControlEntry") (codes "type") AnyType
+    ∷ reference (codes "TypeConstraint") (codes "type") AnyType
+    ∷ reference (codes "ArrayDataType") (codes "dataTypeRef") AnyType
+    ∷ reference (codes "SubRangeDataType") (codes "baseType") NumberType
+    ∷ reference (codes "ContainerDataType") (codes "baseType") ContainerType
+    ∷ []
+
+-- a row of the table as the code has it
+abbrev pub reference_of : ReferenceRow → Reference
+reference_of r = record { element = r.element.now; attribute = r.attribute.now; wanted = r.wanted }
+
+-- the first row of a name
+abbrev pub row_for : List Reference → List ℕ → Option Reference
+row_for [] name = None
+row_for (row ∷ rows) name = if same row.element name then Some row else row_for rows name
 
 -- the place of the TYPE word: it stands behind all files
 abbrev pub word_place : List (List Node) → Place
 word_place trees = record { file = length trees; node = 0 }
 
--- the reference to its type that an entry has
-abbrev pub type_named : List (List Node) → Place → Option (List ℕ)
-type_named trees at = if is_element trees (codes "Entry") at then attribute trees (codes "type") at else None
+-- ---- a rule that is judged at each reference
+
+-- what breaks it at a place, by a text that is to find something
+abbrev pub ReferenceJudgement : Type 0
+ReferenceJudgement = Place → (text : List ℕ) → Wanted → List Refusal
+
+abbrev pub judged_text : ReferenceJudgement → Place → Wanted → Option (List ℕ) → List Refusal
+judged_text judge at wanted None = []
+judged_text judge at wanted (Some text) = judge at text wanted
+
+abbrev pub judged_by : ReferenceJudgement → List (List Node) → Place → Option Reference → List Refusal
+judged_by judge trees at None = []
+judged_by judge trees at (Some row) = judged_text judge at row.wanted (attribute trees row.attribute at)
+
+-- at the element at a place
+abbrev pub judged_at : ReferenceJudgement → List (List Node) → Place → List Refusal
+judged_at judge trees at = judged_by judge trees at (row_for references (node_name (element trees at)))
+
+-- at all elements, and at the TYPE word, which is to find a type
+abbrev pub at_references : ReferenceJudgement → List (List Node) → (word : Option (List ℕ)) → List Refusal
+at_references judge trees word = flat_map (judged_at judge trees) (elements trees) ++ judged_text judge (word_place trees) AnyType word
+
+-- ---- what a reference finds
 
 -- the element of the type that an item is
 abbrev pub type_of : Names → Item → Option Place
@@ -43,26 +98,8 @@ type_of names (item.Comp id) = None
 abbrev pub type_found : Names → Place → List ℕ → Option Place
 type_found names at text = look_up names at text >>= type_of names
 
--- ---- a reference to a type finds something
-
-abbrev pub unresolved_by : Place → List ℕ → Option Item → List Refusal
-unresolved_by at text None = broken_with Unresolved at text ∷ []
-unresolved_by at text (Some found) = []
-
-abbrev pub unresolved : Names → Place → Option (List ℕ) → List Refusal
-unresolved names at None = []
-unresolved names at (Some text) = unresolved_by at text (look_up names at text)
-
--- ---- what it finds is a type
-
-abbrev pub no_type_by : Place → List ℕ → Option Place → List Refusal
-no_type_by at text None = broken_with WrongKind at text ∷ []
-no_type_by at text (Some found) = []
-
-abbrev pub wrong_kind_by : Names → Place → List ℕ → Option Item → List Refusal
-wrong_kind_by names at text None = []
-wrong_kind_by names at text (Some found) = no_type_by at text (type_of names found)
-
-abbrev pub wrong_kind : Names → Place → Option (List ℕ) → List Refusal
-wrong_kind names at None = []
-wrong_kind names at (Some text) = wrong_kind_by names at text (look_up names at text)
+-- the type at a place is one that is wanted
+abbrev pub admits : List (List Node) → Wanted → Place → Bool
+admits trees AnyType found = true
+admits trees NumberType found = is_number trees found
+admits trees ContainerType found = is_container trees found

@@ -4,19 +4,19 @@ use Rattle.eds_base.specs.declared.refusal.Refusal.{Refusal}
 use Rattle.eds_base.specs.Refusals.{least}
 use Rattle.eds_tree.specs.declared.tree.Node.{Node}
 use Rattle.eds_names.specs.LookUp.{Names}
-use Rattle.eds_read_types.specs.declared.table.Typed.{Typed}
+use Rattle.eds_read_types.specs.declared.table.SheetTypes.{SheetTypes}
 use Rattle.eds_read_types.specs.ReadTypes.{word_type}
 use Rattle.eds_read_types.specs.TableBreaks.{table_breaks}
 use Rattle.eds_read_types.specs.TableRows.{table_rows, used_types}
 
 -- a row for each declared type in order, the types that are used, and the type that the TYPE word names
-abbrev pub typed_of : List (List Node) → Names → Option (List ℕ) → Typed
-typed_of trees names word = record { table = table_rows trees names; used = used_types trees names (word_type trees names word); word = word_type trees names word }
+abbrev pub typed_of : List (List Node) → Names → Option (List ℕ) → SheetTypes
+typed_of trees names word = record { table = table_rows trees names; used = used_types trees names (word_type trees names word); asked_type = word_type trees names word }
 
-abbrev pub unless : Option Refusal → Typed → Result Typed Refusal
+abbrev pub unless : Option Refusal → SheetTypes → Result SheetTypes Refusal
 unless None typed = Ok typed
 unless (Some r) typed = Err r
 
 -- the table of a sheet, or the first rule on types that it breaks
-unfoldable pub table_read : List (List Node) → Names → Option (List ℕ) → Result Typed Refusal
+unfoldable pub table_read : List (List Node) → Names → Option (List ℕ) → Result SheetTypes Refusal
 table_read trees names word = unless (least (table_breaks trees names word)) (typed_of trees names word)

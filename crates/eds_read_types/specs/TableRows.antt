@@ -14,14 +14,13 @@ use Rattle.eds_types.specs.declared.row.Container.{Container}
 use Rattle.eds_types.specs.declared.row.Part.{Part}
 use Rattle.eds_types.specs.declared.row.Part.TheVariants as part
 use Rattle.eds_types.specs.Rows.{container_by, entries_in}
-use Rattle.eds_read_types.specs.declared.numbers.Numbers.{Numbers}
+use Rattle.eds_read_types.specs.declared.numbers.FormAndDomain.{FormAndDomain}
 use Rattle.eds_read_types.specs.Places.{own_name, is_container, types, type_places}
-use Rattle.eds_read_types.specs.References.{type_named}
-use Rattle.eds_read_types.specs.Entries.{entries_at}
+use Rattle.eds_read_types.specs.Entries.{entries_at, type_named}
 use Rattle.eds_read_types.specs.ReadTypes.{id_found}
 use Rattle.eds_read_types.specs.Forms.{int_form_of, bool_form_of}
 use Rattle.eds_read_types.specs.Listings.{listing_of}
-use Rattle.eds_read_types.specs.ScalarRules.{is_enumerated, is_boolean}
+use Rattle.eds_read_types.specs.ScalarKinds.{is_enumerated, is_boolean}
 use Rattle.eds_read_types.specs.Bases.{base_found, bases_of}
 use Rattle.eds_read_types.specs.Numbers.{form_or_wide, truth_or_octet, numbers_of}
 
@@ -35,9 +34,12 @@ entry_type trees names at = id_found names at (type_named trees at)
 abbrev pub id_or_first : Option TypeId → TypeId
 id_or_first id = unwrap_or id (record { 0 = 0 })
 
+abbrev pub entry_id : List (List Node) → Names → Place → TypeId
+entry_id trees names at = id_or_first (entry_type trees names at)
+
 -- an entry by its name and its type
 abbrev pub entry_part : List (List Node) → Names → Place → Part
-entry_part trees names at = part.Plain (own_name trees at) (id_or_first (entry_type trees names at))
+entry_part trees names at = part.Plain (own_name trees at) (entry_id trees names at)
 
 -- the container at a place, which has entries alone
 abbrev pub container_at : List (List Node) → Names → Place → Container
@@ -46,12 +48,12 @@ container_at trees names at = record { hidden = false; constraints = []; entries
 -- ---- types
 
 -- an enumerated type, a boolean type, or one of such numbers
-abbrev pub scalar_kind : List Node → ℕ → Numbers → Kind
+abbrev pub scalar_kind : List Node → ℕ → FormAndDomain → Kind
 scalar_kind t n numbers =
     if is_enumerated t n then kind.Enum (form_or_wide (int_form_of t n)) (listing_of t n) else
     if is_boolean t n then kind.Bool (truth_or_octet (bool_form_of t n)) else kind.Int numbers.form numbers.spans
 
-abbrev pub scalar_kind_in : Option (List Node) → ℕ → Numbers → Kind
+abbrev pub scalar_kind_in : Option (List Node) → ℕ → FormAndDomain → Kind
 scalar_kind_in None n numbers = kind.Int numbers.form numbers.spans
 scalar_kind_in (Some t) n numbers = scalar_kind t n numbers
 
@@ -88,7 +90,7 @@ are_few rows = nat_le (length rows) 4096 && list_all has_few_entries rows
 
 -- those that the entries of a type name
 abbrev pub entry_types : List (List Node) → Names → Place → List TypeId
-entry_types trees names at = if is_container trees at then map (λ entry. id_or_first (entry_type trees names entry)) (entries_at trees at) else []
+entry_types trees names at = if is_container trees at then map (entry_id trees names) (entries_at trees at) else []
 
 abbrev pub optional : Option TypeId → List TypeId
 optional None = []

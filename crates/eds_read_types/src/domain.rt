@@ -55,7 +55,7 @@ fn interval(alloc: Global, low: i128, high: i128) -> Result<Spans, Memory>
 
 /// The domain of an integer type (CCSDS 876.0-B, integer data types): the numbers of its form that its range admits. Fails only
 /// where no memory is left.
-pub fn domain_of(alloc: Global, form: IntForm, range: Range) -> Result<Spans, Memory>
+pub(crate) fn domain_of(alloc: Global, form: IntForm, range: Range) -> Result<Spans, Memory>
     ensures { IfOk result (λ s. s ≡ domain_of form range) }
 {
     let bounds = bounds_of(form);
@@ -67,7 +67,7 @@ pub fn domain_of(alloc: Global, form: IntForm, range: Range) -> Result<Spans, Me
 }
 
 /// Whether a form has no number that a range admits, so that the domain of an integer type is empty.
-pub fn is_empty_domain(form: IntForm, range: Range) -> bool
+pub(crate) fn is_empty_domain(form: IntForm, range: Range) -> bool
     ensures { result ≡ has_none (domain_of form range) }
 {
     let bounds = bounds_of(form);
@@ -83,7 +83,7 @@ fn rises(spans: &Spans)
 
 /// The domain of a sub-range (CCSDS 876.0-B, sub-range data types): the numbers of its base that its range admits. Fails only
 /// where no memory is left.
-pub fn narrowed(alloc: Global, base: &Spans, range: Range) -> Result<Spans, Memory>
+pub(crate) fn narrowed(alloc: Global, base: &Spans, range: Range) -> Result<Spans, Memory>
     ensures { IfOk result (λ s. s ≡ narrowed range base.now) }
 {
     let admitted = interval(alloc, raised(range.low, BOTTOM), lowered(range.high, TOP))?;

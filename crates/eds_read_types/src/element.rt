@@ -3,7 +3,7 @@
 ghost use Rattle.std.specs.Prelude.{◌≡◌, ◌++◌, OnOk, IfOk, option_map, slice_get};
 ghost use Rattle.std.specs.Option.{option_copied};
 ghost use Rattle.eds_tree.specs.Trees.{node_name, node_children};
-ghost use Rattle.eds_read_types.specs.Places.{element as element_of, is_element as is_named, attribute as attribute_of, own_name as own_name_of, is_container as is_container_at, held};
+ghost use Rattle.eds_read_types.specs.Places.{element as element_of, is_element as is_named, attribute as attribute_of, own_name as own_name_of, is_container as is_container_at, is_sub_range as is_sub_range_at, is_number as is_number_at, held};
 ghost use Rattle.eds_read_types.specs.Held.{child_named, number_at};
 
 use eds_base::{Memory, Place};
@@ -25,7 +25,8 @@ fn element<'a>(trees: &'a [Tree], at: Place) -> Option<&'a Node>
     }
 }
 
-fn name_at(trees: &[Tree], at: Place) -> &str
+/// The name of the element at a place, empty where there is none.
+pub(crate) fn name_at(trees: &[Tree], at: Place) -> &str
     ensures { result.now ≡ node_name (element_of trees.now at) }
 {
     match element(trees, at) {
@@ -55,6 +56,20 @@ pub(crate) fn is_container(trees: &[Tree], at: Place) -> bool
     ensures { result ≡ is_container_at trees.now at }
 {
     is_element(trees, "ContainerDataType", at)
+}
+
+/// Whether it is a sub-range.
+pub(crate) fn is_sub_range(trees: &[Tree], at: Place) -> bool
+    ensures { result ≡ is_sub_range_at trees.now at }
+{
+    is_element(trees, "SubRangeDataType", at)
+}
+
+/// Whether it is an integer type or a sub-range.
+pub(crate) fn is_number(trees: &[Tree], at: Place) -> bool
+    ensures { result ≡ is_number_at trees.now at }
+{
+    is_element(trees, "IntegerDataType", at) || is_sub_range(trees, at)
 }
 
 /// The text of an attribute of it.

@@ -84,7 +84,7 @@ fn given_int_form(tree: &Tree, encoding: u32) -> Option<IntForm>
 /// The integer form of an integer or enumerated type (CCSDS 876.0-B, integer data encodings): that of its encoding, and without
 /// one 64 bits in two's complement, big-endian. None exactly where the encoding is no form: its size is outside 1 to 64 bits,
 /// has no whole decimal digits or, in little-endian order, no whole octets.
-pub fn int_form_of(tree: &Tree, node: u32) -> Option<IntForm>
+pub(crate) fn int_form_of(tree: &Tree, node: u32) -> Option<IntForm>
     ensures { result ≡ int_form_of tree.now node }
 {
     match child_named(tree, node, "IntegerDataEncoding") {
@@ -136,7 +136,7 @@ fn given_bool_form(tree: &Tree, encoding: u32) -> Option<BoolForm>
 
 /// The form of a boolean type (CCSDS 876.0-B, boolean data encodings): that of its encoding, and without one 8 bits, of which
 /// zero is false. None exactly where the encoding's size is outside 1 to 64 bits.
-pub fn bool_form_of(tree: &Tree, node: u32) -> Option<BoolForm>
+pub(crate) fn bool_form_of(tree: &Tree, node: u32) -> Option<BoolForm>
     ensures { result ≡ bool_form_of tree.now node }
 {
     match child_named(tree, node, "BooleanDataEncoding") {

@@ -12,7 +12,11 @@ ghost use Rattle.eds_read_types.specs.Forms.{int_form, bool_form, bool_form_of};
 ghost use Rattle.eds_read_types.specs.Ranges.{Admits};
 ghost use Rattle.eds_read_types.specs.Domains.{domain_of, narrowed, has_none};
 ghost use Rattle.eds_read_types.specs.Listings.{is_listing};
-ghost use Rattle.eds_read_types.specs.ScalarRules.{is_integer, is_enumerated, is_boolean, encoding_breaks, range_breaks, enumeration_breaks, HasDomain, HasListing};
+ghost use Rattle.eds_read_types.specs.ScalarKinds.{is_integer, is_enumerated, is_boolean};
+ghost use Rattle.eds_read_types.specs.BadEncoding.{encoding_breaks};
+ghost use Rattle.eds_read_types.specs.EmptyRange.{range_breaks};
+ghost use Rattle.eds_read_types.specs.BadEnumeration.{enumeration_breaks};
+ghost use Rattle.eds_read_types.specs.Unbroken.{HasDomain, HasListing};
 
 use crate::range::Range;
 use eds_base::{Place, Spans};

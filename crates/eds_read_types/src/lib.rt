@@ -2,33 +2,33 @@
 //! the rules that they keep.
 #![tactic(auto)]
 
-mod base;
+mod bad_encoding;
+mod bad_enumeration;
+mod base_cycle;
+mod base_graph;
 mod breaks;
-mod chain_rules;
 mod domain;
+mod duplicate_entry;
 mod element;
+mod empty_range;
+mod empty_type;
 mod entry;
 mod form;
 pub mod law;
+mod limit_chain;
 mod listing;
+mod named_trees;
 mod numbers;
 mod range;
 mod reference;
-mod scalar_rules;
-mod sheet;
+mod reference_row;
+mod rules;
+mod scalar_kind;
 mod table;
 mod table_row;
-mod table_rules;
-mod type_reference;
+mod unresolved;
+mod unsupported_entry;
+mod wrong_kind;
 
-pub use domain::{domain_of, is_empty_domain, narrowed};
-pub use form::{bool_form_of, int_form_of};
-pub use listing::{is_listing, listing_of};
-pub use range::{End, Range, range_in, range_of};
-pub use scalar_rules::{bad_encoding, bad_enumeration, empty_range};
-pub use table::{Typed, read_types};
-
-#[cfg(test)]
-mod scalar_tests;
-#[cfg(test)]
-mod tests;
+pub use range::{End, Range};
+pub use table::{SheetTypes, read_types};

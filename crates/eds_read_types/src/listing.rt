@@ -45,7 +45,7 @@ fn push_enumeration(
 
 /// The labels of an enumerated type with their values (CCSDS 876.0-B, enumerated data types), in document order. Fails only where
 /// no memory is left.
-pub fn listing_of(alloc: Global, tree: &Tree, node: u32) -> Result<Listing, Memory>
+pub(crate) fn listing_of(alloc: Global, tree: &Tree, node: u32) -> Result<Listing, Memory>
     ensures { IfOk result (λ l. l ≡ listing_of tree.now node) }
 {
     let mut listing = Listing::new(alloc);
@@ -135,7 +135,7 @@ fn values_differ(alloc: Global, entries: &[(Text, i128)]) -> Result<bool, Memory
 
 /// Whether an enumerated type of a form may list these: there is an enumeration, no label or value stands twice, no label is
 /// empty, and the form has all values.
-pub fn is_listing(alloc: Global, form: IntForm, entries: &[(Text, i128)]) -> Result<bool, Memory>
+pub(crate) fn is_listing(alloc: Global, form: IntForm, entries: &[(Text, i128)]) -> Result<bool, Memory>
     ensures { IfOk result (λ b. b ≡ is_listing form entries.now) }
 {
     if entries.is_empty() || !are_entries(form, entries) {

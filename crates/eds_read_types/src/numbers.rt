@@ -3,12 +3,12 @@
 ghost use Rattle.std.specs.Prelude.{◌≡◌, IfOk, option_map};
 ghost use Rattle.eds_read_types.specs.Numbers.{form_or_wide as form_or_wide_of, truth_or_octet as truth_or_octet_of, numbers_with as numbers_by_form, own_numbers as own_numbers_of, own_numbers_at as own_numbers_in, range_at as range_in_tree, narrowed_numbers, all_numbers, numbers_within as numbers_up, numbers_of as numbers_by_id};
 
-use crate::base::{Chains, base_at, type_at};
+use crate::base_graph::{BaseGraph, base_at, type_at};
 use crate::domain::{domain_of, narrowed};
 use crate::element::tree_at;
 use crate::form::int_form_of;
 use crate::range::{NO_RANGE, Range, range_of};
-use crate::scalar_rules::is_integer;
+use crate::scalar_kind::is_integer;
 use eds_base::{Memory, Place, Spans};
 use eds_bits::{BoolForm, ByteOrder, Encoding, IntForm};
 use eds_tree::Tree;
@@ -16,7 +16,7 @@ use std::alloc::Global;
 
 /// The form of an integer type or sub-range, and its domain.
 #[derive(Debug, Drop)]
-pub(crate) struct Numbers {
+pub(crate) struct FormAndDomain {
     pub(crate) form: IntForm,
     pub(crate) spans: Spans,
 }
@@ -52,22 +52,22 @@ pub(crate) fn truth_or_octet(form: Option<BoolForm>) -> BoolForm
 }
 
 /// The numbers of a form that a range admits.
-fn numbers_with(alloc: Global, form: IntForm, range: Range) -> Result<Numbers, Memory>
+fn numbers_with(alloc: Global, form: IntForm, range: Range) -> Result<FormAndDomain, Memory>
     ensures { IfOk result (λ n. n ≡ numbers_by_form form range) }
 {
     let spans = domain_of(alloc, form, range)?;
-    Ok(Numbers { form, spans })
+    Ok(FormAndDomain { form, spans })
 }
 
 /// All numbers of the wide form.
-fn all_numbers(alloc: Global) -> Result<Numbers, Memory>
+fn all_numbers(alloc: Global) -> Result<FormAndDomain, Memory>
     ensures { IfOk result (λ n. n ≡ all_numbers) }
 {
     numbers_with(alloc, form_or_wide(None), NO_RANGE)
 }
 
 /// The numbers of an integer type.
-fn own_numbers(alloc: Global, tree: &Tree, node: u32) -> Result<Numbers, Memory>
+fn own_numbers(alloc: Global, tree: &Tree, node: u32) -> Result<FormAndDomain, Memory>
     ensures { IfOk result (λ n. n ≡ own_numbers_of tree.now node) }
 {
     if is_integer(tree, node) {
@@ -82,7 +82,7 @@ fn own_numbers(alloc: Global, tree: &Tree, node: u32) -> Result<Numbers, Memory>
 }
 
 /// The numbers of the integer type at a place.
-fn own_numbers_at(alloc: Global, trees: &[Tree], at: Option<Place>) -> Result<Numbers, Memory>
+fn own_numbers_at(alloc: Global, trees: &[Tree], at: Option<Place>) -> Result<FormAndDomain, Memory>
     ensures { IfOk result (λ n. n ≡ own_numbers_in trees.now at) }
 {
     let at = match at {
@@ -110,11 +110,15 @@ fn range_at(trees: &[Tree], at: Option<Place>) -> Range
 }
 
 /// The numbers of a sub-range, from those of its base.
-fn narrowed_numbers(alloc: Global, range: Range, base: Numbers) -> Result<Numbers, Memory>
+fn narrowed_numbers(
+    alloc: Global,
+    range: Range,
+    base: FormAndDomain,
+) -> Result<FormAndDomain, Memory>
     ensures { IfOk result (λ n. n ≡ narrowed_numbers range base) }
 {
     let spans = narrowed(alloc, &base.spans, range)?;
-    Ok(Numbers {
+    Ok(FormAndDomain {
         form: base.form,
         spans,
     })
@@ -122,26 +126,35 @@ fn narrowed_numbers(alloc: Global, range: Range, base: Numbers) -> Result<Number
 
 /// The numbers of a type over at most so many bases.
 #[tactic(auto, unfolding(crate::specs::Numbers::numbers_within))]
-fn numbers_within(alloc: Global, chains: &Chains, most: u32, id: usize) -> Result<Numbers, Memory>
-    ensures { IfOk result (λ n. n ≡ numbers_up most chains.now.sheet.now.trees.now chains.now.sheet.now.types.now chains.now.bases.now id) }
+fn numbers_within(
+    alloc: Global,
+    graph: &BaseGraph,
+    most: u32,
+    id: usize,
+) -> Result<FormAndDomain, Memory>
+    ensures { IfOk result (λ n. n ≡ numbers_up most graph.now.sheet.now.trees.now graph.now.sheet.now.types.now graph.now.bases.now id) }
 {
-    let trees = chains.sheet.trees;
-    let at = type_at(chains, id);
+    let trees = graph.sheet.trees;
+    let at = type_at(graph, id);
     if most == 0 {
         return own_numbers_at(alloc, trees, at);
     }
-    match base_at(chains.bases, id) {
+    match base_at(graph.bases, id) {
         None => own_numbers_at(alloc, trees, at),
         Some(base) => {
-            let base = numbers_within(alloc, chains, most - 1, base.0 as usize)?;
+            let base = numbers_within(alloc, graph, most - 1, base.0 as usize)?;
             narrowed_numbers(alloc, range_at(trees, at), base)
         }
     }
 }
 
 /// The form and the domain of a type: its own, or those of its base that its range admits.
-pub(crate) fn numbers_of(alloc: Global, chains: &Chains, id: usize) -> Result<Numbers, Memory>
-    ensures { IfOk result (λ n. n ≡ numbers_by_id chains.now.sheet.now.trees.now chains.now.sheet.now.types.now chains.now.bases.now id) }
+pub(crate) fn numbers_of(
+    alloc: Global,
+    graph: &BaseGraph,
+    id: usize,
+) -> Result<FormAndDomain, Memory>
+    ensures { IfOk result (λ n. n ≡ numbers_by_id graph.now.sheet.now.trees.now graph.now.sheet.now.types.now graph.now.bases.now id) }
 {
-    numbers_within(alloc, chains, 16, id)
+    numbers_within(alloc, graph, 16, id)
 }

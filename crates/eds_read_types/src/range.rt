@@ -126,7 +126,7 @@ fn range_by(tree: &Tree, bounds: u32, range_type: Option<&str>) -> Range
 
 /// The range of an element that holds bounds: the `Range` of a type, or a range constraint. Where it holds none, any number
 /// is admitted.
-pub fn range_in(tree: &Tree, node: u32) -> Range
+pub(crate) fn range_in(tree: &Tree, node: u32) -> Range
     ensures { result ≡ range_in tree.now node }
 {
     match child_named(tree, node, "MinMaxRange") {
@@ -136,7 +136,7 @@ pub fn range_in(tree: &Tree, node: u32) -> Range
 }
 
 /// The range of an integer type or sub-range, which admits any number where the type has none.
-pub fn range_of(tree: &Tree, node: u32) -> Range
+pub(crate) fn range_of(tree: &Tree, node: u32) -> Range
     ensures { result ≡ range_of tree.now node }
 {
     match child_named(tree, node, "Range") {

@@ -1,29 +1,28 @@
-//! What references to types find.
+//! What references to types find, and rules that are judged at each reference.
 
-ghost use Rattle.std.specs.Prelude.{◌≡◌, option_map, IfOk};
-ghost use Rattle.eds_read_types.specs.References.{type_named as type_named_in, type_of as type_of_item, type_found as type_found_by};
+ghost use Rattle.std.specs.Prelude.{◌≡◌, ◌++◌, ℕ, List, option_map, IfOk};
+ghost use Rattle.std.specs.List.{flat_map};
+ghost use Rattle.eds_base.specs.declared.ids.Place.{Place as place};
+ghost use Rattle.eds_base.specs.declared.refusal.Refusal.{Refusal as refusal};
+ghost use Rattle.eds_base.specs.Refusals.{least};
+ghost use Rattle.eds_tree.specs.declared.tree.Node.{Node as node};
+ghost use Rattle.eds_names.specs.LookUp.{Names};
+ghost use Rattle.eds_read_types.specs.declared.reference_row.Wanted.{Wanted as wanted_type};
+ghost use Rattle.eds_read_types.specs.References.{type_of as type_of_item, type_found as type_found_by, admits as admits_type, judged_text, at_references};
 ghost use Rattle.eds_read_types.specs.ReadTypes.{id_of, id_found as id_found_by, word_type as word_type_of};
 
-use crate::element::{attribute, is_element};
-use crate::sheet::Sheet;
-use eds_base::{Memory, Place, TypeId};
+use crate::breaks::{PlaceRule, least_over};
+use crate::element::{attribute, is_container, is_number, name_at};
+use crate::named_trees::NamedTrees;
+use crate::reference_row::{Wanted, row_for};
+use eds_base::{Memory, Place, Refusal, TypeId};
 use eds_names::Item;
 use eds_tree::Tree;
 use std::alloc::Global;
-
-/// The reference to its type that an entry has.
-pub(crate) fn type_named(trees: &[Tree], at: Place) -> Option<&str>
-    ensures { option_map (λ t. t.now) result ≡ type_named_in trees.now at }
-{
-    if is_element(trees, "Entry", at) {
-        attribute(trees, "type", at)
-    } else {
-        None
-    }
-}
+use std::marker::PhantomData;
 
 /// The element of the type that an item is.
-pub(crate) fn type_of(sheet: &Sheet, item: Item) -> Option<Place>
+pub(crate) fn type_of(sheet: &NamedTrees, item: Item) -> Option<Place>
     ensures { result ≡ type_of_item sheet.now.space.now item }
 {
     match item {
@@ -36,7 +35,7 @@ pub(crate) fn type_of(sheet: &Sheet, item: Item) -> Option<Place>
 /// The element of the type that a reference from a place finds.
 pub(crate) fn type_found(
     alloc: Global,
-    sheet: &Sheet,
+    sheet: &NamedTrees,
     at: Place,
     text: &str,
 ) -> Result<Option<Place>, Memory>
@@ -62,7 +61,7 @@ fn id_of(item: Item) -> Option<TypeId>
 /// The number of the type that a reference from a place finds, where there is a reference.
 pub(crate) fn id_found(
     alloc: Global,
-    sheet: &Sheet,
+    sheet: &NamedTrees,
     at: Place,
     reference: Option<&str>,
 ) -> Result<Option<TypeId>, Memory>
@@ -79,12 +78,84 @@ pub(crate) fn id_found(
 }
 
 /// The number of the type that the TYPE word names.
-pub(crate) fn word_type(
-    alloc: Global,
-    sheet: &Sheet,
-    word: Option<&str>,
-) -> Result<Option<TypeId>, Memory>
-    ensures { IfOk result (λ id. id ≡ word_type_of sheet.now.trees.now sheet.now.space.now (option_map (λ w. w.now) word.entry)) }
+pub(crate) fn word_type(alloc: Global, sheet: &NamedTrees) -> Result<Option<TypeId>, Memory>
+    ensures { IfOk result (λ id. id ≡ word_type_of sheet.now.trees.now sheet.now.space.now (option_map (λ w. w.now) sheet.now.asked)) }
 {
-    id_found(alloc, sheet, sheet.word_place(), word)
+    id_found(alloc, sheet, sheet.word_place(), sheet.asked)
+}
+
+/// Whether the type at a place is one that is wanted.
+pub(crate) fn admits(trees: &[Tree], wanted: Wanted, found: Place) -> bool
+    ensures { result ≡ admits_type trees.now wanted found }
+{
+    match wanted {
+        Wanted::AnyType => true,
+        Wanted::NumberType => is_number(trees, found),
+        Wanted::ContainerType => is_container(trees, found),
+    }
+}
+
+// ---- rules that are judged at each reference
+
+/// A rule that is judged at one reference at a time.
+pub(crate) trait ReferenceRule {
+    /// All that breaks it in a sheet, of which the trees and the names are given, at a place, by a text that is to find something.
+    ghost breaks: { List (List node) → Names → place → List ℕ → wanted_type → List refusal };
+
+    /// The least of them.
+    fn least_at(
+        alloc: Global,
+        sheet: &NamedTrees,
+        at: Place,
+        text: &str,
+        wanted: Wanted,
+    ) -> Result<Option<Refusal>, Memory>
+        ensures { IfOk result (λ r. r ≡ least (breaks sheet.now.trees.now sheet.now.space.now at text.now wanted)) };
+}
+
+fn least_by_text<R: ReferenceRule>(
+    alloc: Global,
+    sheet: &NamedTrees,
+    at: Place,
+    wanted: Wanted,
+    text: Option<&str>,
+) -> Result<Option<Refusal>, Memory>
+    ensures { IfOk result (λ r. r ≡ least (judged_text (R.breaks sheet.now.trees.now sheet.now.space.now) at wanted (option_map (λ t. t.now) text.entry))) }
+{
+    match text {
+        None => Ok(None),
+        Some(text) => R::least_at(alloc, sheet, at, text, wanted),
+    }
+}
+
+/// A rule that is judged at the reference of an element.
+struct AtElement<R>(PhantomData<R>);
+
+impl<R: ReferenceRule> PlaceRule for AtElement<R> {
+    ghost use Rattle.eds_read_types.specs.References.{judged_at};
+
+    ghost breaks = { λ trees names. judged_at (R.breaks trees names) trees };
+
+    fn least_at(alloc: Global, sheet: &NamedTrees, at: Place) -> Result<Option<Refusal>, Memory> {
+        match row_for(name_at(sheet.trees, at)) {
+            None => Ok(None),
+            Some(row) => {
+                let text = attribute(sheet.trees, row.attribute, at);
+                least_by_text::<R>(alloc, sheet, at, row.wanted, text)
+            }
+        }
+    }
+}
+
+/// The least break of a rule at all references of a sheet, that of the TYPE word among them.
+pub(crate) fn least_over_references<R: ReferenceRule>(
+    alloc: Global,
+    sheet: &NamedTrees,
+) -> Result<Option<Refusal>, Memory>
+    ensures { IfOk result (λ r. r ≡ least (at_references (R.breaks sheet.now.trees.now sheet.now.space.now) sheet.now.trees.now (option_map (λ w. w.now) sheet.now.asked))) }
+{
+    let elements = least_over::<AtElement<R>>(alloc, sheet, sheet.elements)?;
+    let at = sheet.word_place();
+    let word = least_by_text::<R>(alloc, sheet, at, Wanted::AnyType, sheet.asked)?;
+    Ok(Refusal::first(elements, word))
 }

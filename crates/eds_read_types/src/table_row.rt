@@ -4,17 +4,17 @@ ghost use Rattle.std.specs.Prelude.{◌≡◌, ◌++◌, ◌∷◌, [], map, fil
 ghost use Rattle.eds_read_types.specs.Places.{is_type, type_places};
 ghost use Rattle.eds_read_types.specs.Bases.{bases_of as bases_in};
 ghost use Rattle.eds_read_types.specs.Numbers.{numbers_of as numbers_by_id};
-ghost use Rattle.eds_read_types.specs.TableRows.{entry_type as entry_type_of, id_or_first, entry_part as entry_part_of, container_at as container_by, scalar_kind as scalar_kind_of, scalar_kind_in as scalar_kind_by, kind_of as kind_by_id, table_row as table_row_of, rows_from, table_rows as table_rows_of, entry_types, used_types as used_types_of};
+ghost use Rattle.eds_read_types.specs.TableRows.{entry_type as entry_type_of, entry_id as entry_id_of, entry_part as entry_part_of, container_at as container_by, scalar_kind as scalar_kind_of, scalar_kind_in as scalar_kind_by, kind_of as kind_by_id, table_row as table_row_of, rows_from, table_rows as table_rows_of, entry_types, used_types as used_types_of};
 
-use crate::base::{Chains, base_found};
+use crate::base_graph::{BaseGraph, base_found};
 use crate::element::{is_container, own_name, tree_at};
-use crate::entry::entries_at;
+use crate::entry::{entries_at, type_named};
 use crate::form::{bool_form_of, int_form_of};
 use crate::listing::listing_of;
-use crate::numbers::{Numbers, form_or_wide, numbers_of, truth_or_octet};
-use crate::reference::{id_found, type_named};
-use crate::scalar_rules::{is_boolean, is_enumerated};
-use crate::sheet::Sheet;
+use crate::named_trees::NamedTrees;
+use crate::numbers::{FormAndDomain, form_or_wide, numbers_of, truth_or_octet};
+use crate::reference::id_found;
+use crate::scalar_kind::{is_boolean, is_enumerated};
 use eds_base::{Memory, Place, Text, TypeId};
 use eds_names::Declared;
 use eds_tree::Tree;
@@ -22,15 +22,15 @@ use eds_types::{Constraints, Container, Kind, Part, Parts, TypeRow, TypeRows, Us
 use std::alloc::Global;
 
 /// The number of the type that an entry names.
-fn entry_type(alloc: Global, sheet: &Sheet, at: Place) -> Result<Option<TypeId>, Memory>
+fn entry_type(alloc: Global, sheet: &NamedTrees, at: Place) -> Result<Option<TypeId>, Memory>
     ensures { IfOk result (λ id. id ≡ entry_type_of sheet.now.trees.now sheet.now.space.now at) }
 {
     id_found(alloc, sheet, at, type_named(sheet.trees, at))
 }
 
 /// The same, the first type's where it names none.
-fn entry_id(alloc: Global, sheet: &Sheet, at: Place) -> Result<TypeId, Memory>
-    ensures { IfOk result (λ id. id ≡ id_or_first (entry_type_of sheet.now.trees.now sheet.now.space.now at)) }
+pub(crate) fn entry_id(alloc: Global, sheet: &NamedTrees, at: Place) -> Result<TypeId, Memory>
+    ensures { IfOk result (λ id. id ≡ entry_id_of sheet.now.trees.now sheet.now.space.now at) }
 {
     let found = entry_type(alloc, sheet, at)?;
     match found {
@@ -40,7 +40,7 @@ fn entry_id(alloc: Global, sheet: &Sheet, at: Place) -> Result<TypeId, Memory>
 }
 
 /// An entry by its name and its type.
-fn entry_part(alloc: Global, sheet: &Sheet, at: Place) -> Result<Part, Memory>
+fn entry_part(alloc: Global, sheet: &NamedTrees, at: Place) -> Result<Part, Memory>
     ensures { IfOk result (λ p. p ≡ entry_part_of sheet.now.trees.now sheet.now.space.now at) }
 {
     let id = entry_id(alloc, sheet, at)?;
@@ -49,7 +49,7 @@ fn entry_part(alloc: Global, sheet: &Sheet, at: Place) -> Result<Part, Memory>
 }
 
 /// The container at a place, which has entries alone.
-fn container_at(alloc: Global, sheet: &Sheet, at: Place) -> Result<Container, Memory>
+fn container_at(alloc: Global, sheet: &NamedTrees, at: Place) -> Result<Container, Memory>
     ensures { IfOk result (λ c. c ≡ container_by sheet.now.trees.now sheet.now.space.now at) }
 {
     let places = entries_at(alloc, sheet.trees, at)?;
@@ -67,7 +67,12 @@ fn container_at(alloc: Global, sheet: &Sheet, at: Place) -> Result<Container, Me
 }
 
 /// An enumerated type, a boolean type, or one of such numbers.
-fn scalar_kind(alloc: Global, tree: &Tree, node: u32, numbers: Numbers) -> Result<Kind, Memory>
+fn scalar_kind(
+    alloc: Global,
+    tree: &Tree,
+    node: u32,
+    numbers: FormAndDomain,
+) -> Result<Kind, Memory>
     ensures { IfOk result (λ k. k ≡ scalar_kind_of tree.now node numbers) }
 {
     if is_enumerated(tree, node) {
@@ -85,7 +90,7 @@ fn scalar_kind_in(
     alloc: Global,
     trees: &[Tree],
     at: Place,
-    numbers: Numbers,
+    numbers: FormAndDomain,
 ) -> Result<Kind, Memory>
     ensures { IfOk result (λ k. k ≡ scalar_kind_by (slice_get trees.now at.file) at.node numbers) }
 {
@@ -96,33 +101,33 @@ fn scalar_kind_in(
 }
 
 /// The form and the domain of a type.
-fn numbers_in_table(alloc: Global, chains: &Chains, id: usize) -> Result<Numbers, Memory>
-    ensures { IfOk result (λ n. n ≡ numbers_by_id chains.now.sheet.now.trees.now (type_places chains.now.sheet.now.space.now) (bases_in chains.now.sheet.now.trees.now chains.now.sheet.now.space.now) id) }
+fn numbers_in_table(alloc: Global, graph: &BaseGraph, id: usize) -> Result<FormAndDomain, Memory>
+    ensures { IfOk result (λ n. n ≡ numbers_by_id graph.now.sheet.now.trees.now (type_places graph.now.sheet.now.space.now) (bases_in graph.now.sheet.now.trees.now graph.now.sheet.now.space.now) id) }
 {
-    numbers_of(alloc, chains, id)
+    numbers_of(alloc, graph, id)
 }
 
 /// What the type at a place is, of which the number among all types is given.
-fn kind_of(alloc: Global, chains: &Chains, id: usize, at: Place) -> Result<Kind, Memory>
-    ensures { IfOk result (λ k. k ≡ kind_by_id chains.now.sheet.now.trees.now chains.now.sheet.now.space.now id at) }
+fn kind_of(alloc: Global, graph: &BaseGraph, id: usize, at: Place) -> Result<Kind, Memory>
+    ensures { IfOk result (λ k. k ≡ kind_by_id graph.now.sheet.now.trees.now graph.now.sheet.now.space.now id at) }
 {
-    let sheet = chains.sheet;
+    let sheet = graph.sheet;
     if is_container(sheet.trees, at) {
         let container = container_at(alloc, sheet, at)?;
         Ok(Kind::Con(container))
     } else {
-        let numbers = numbers_in_table(alloc, chains, id)?;
+        let numbers = numbers_in_table(alloc, graph, id)?;
         scalar_kind_in(alloc, sheet.trees, at, numbers)
     }
 }
 
 /// A declared type as a row.
-fn table_row(alloc: Global, chains: &Chains, id: usize, one: &Declared) -> Result<TypeRow, Memory>
-    ensures { IfOk result (λ row. row ≡ table_row_of chains.now.sheet.now.trees.now chains.now.sheet.now.space.now id one.now) }
+fn table_row(alloc: Global, graph: &BaseGraph, id: usize, one: &Declared) -> Result<TypeRow, Memory>
+    ensures { IfOk result (λ row. row ≡ table_row_of graph.now.sheet.now.trees.now graph.now.sheet.now.space.now id one.now) }
 {
     let name = Text::of(alloc, one.name.as_str())?;
-    let base = base_found(alloc, chains.sheet, one.place)?;
-    let kind = kind_of(alloc, chains, id, one.place)?;
+    let base = base_found(alloc, graph.sheet, one.place)?;
+    let kind = kind_of(alloc, graph, id, one.place)?;
     Ok(TypeRow { name, base, kind })
 }
 
@@ -130,38 +135,38 @@ fn table_row(alloc: Global, chains: &Chains, id: usize, one: &Declared) -> Resul
 fn push_row(
     alloc: Global,
     rows: &mut TypeRows,
-    chains: &Chains,
+    graph: &BaseGraph,
     one: &Declared,
 ) -> Result<(), Memory>
-    ensures { OnOk result (rows.new ≡ rows.old ++ rows_from chains.now.sheet.now.trees.now chains.now.sheet.now.space.now (length rows.old) (filter is_type (one.now ∷ []))) }
+    ensures { OnOk result (rows.new ≡ rows.old ++ rows_from graph.now.sheet.now.trees.now graph.now.sheet.now.space.now (length rows.old) (filter is_type (one.now ∷ []))) }
 {
     if one.item.is_sort() {
-        let row = table_row(alloc, chains, rows.len(), one)?;
+        let row = table_row(alloc, graph, rows.len(), one)?;
         rows.push(row)?;
     }
     Ok(())
 }
 
 /// A row for each type of what is declared, in order.
-fn rows_among(alloc: Global, chains: &Chains, declared: &[Declared]) -> Result<TypeRows, Memory>
-    ensures { IfOk result (λ rows. rows ≡ rows_from chains.now.sheet.now.trees.now chains.now.sheet.now.space.now 0 (filter is_type declared.now)) }
+fn rows_among(alloc: Global, graph: &BaseGraph, declared: &[Declared]) -> Result<TypeRows, Memory>
+    ensures { IfOk result (λ rows. rows ≡ rows_from graph.now.sheet.now.trees.now graph.now.sheet.now.space.now 0 (filter is_type declared.now)) }
 {
     let mut rows = TypeRows::new(alloc);
     for one in declared {
-        push_row(alloc, &mut rows, chains, one)?;
+        push_row(alloc, &mut rows, graph, one)?;
     }
     Ok(rows)
 }
 
 /// A row for each declared type, in order.
-pub(crate) fn table_rows(alloc: Global, chains: &Chains) -> Result<TypeRows, Memory>
-    ensures { IfOk result (λ rows. rows ≡ table_rows_of chains.now.sheet.now.trees.now chains.now.sheet.now.space.now) }
+pub(crate) fn table_rows(alloc: Global, graph: &BaseGraph) -> Result<TypeRows, Memory>
+    ensures { IfOk result (λ rows. rows ≡ table_rows_of graph.now.sheet.now.trees.now graph.now.sheet.now.space.now) }
 {
-    rows_among(alloc, chains, chains.sheet.space.declared())
+    rows_among(alloc, graph, graph.sheet.space.declared())
 }
 
 /// Puts the types last that the entries of a type name.
-fn push_used(alloc: Global, used: &mut Used, sheet: &Sheet, at: Place) -> Result<(), Memory>
+fn push_used(alloc: Global, used: &mut Used, sheet: &NamedTrees, at: Place) -> Result<(), Memory>
     ensures { OnOk result (used.new ≡ used.old ++ entry_types sheet.now.trees.now sheet.now.space.now at) }
 {
     if !is_container(sheet.trees, at) {
@@ -176,7 +181,11 @@ fn push_used(alloc: Global, used: &mut Used, sheet: &Sheet, at: Place) -> Result
 }
 
 /// The types that an entry names, in the order of types and entries, and then the one that the TYPE word names.
-pub(crate) fn used_types(alloc: Global, sheet: &Sheet, word: Option<TypeId>) -> Result<Used, Memory>
+pub(crate) fn used_types(
+    alloc: Global,
+    sheet: &NamedTrees,
+    word: Option<TypeId>,
+) -> Result<Used, Memory>
     ensures { IfOk result (λ used. used ≡ used_types_of sheet.now.trees.now sheet.now.space.now word) }
 {
     let mut used = Used::new(alloc);

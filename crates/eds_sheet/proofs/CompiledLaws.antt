@@ -7,17 +7,15 @@ use Rattle.eds_base.specs.Refusals.{first_of, least}
 use Rattle.eds_tree.specs.declared.tree.Node.{Node}
 use Rattle.eds_tree.specs.ShapeCheck.{shape_breaks, shape_verdict, unless_broken}
 use Rattle.eds_names.specs.LookUp.{Names, names_in, names_of, duplicates, unless as names_unless}
-use Rattle.eds_read_types.specs.declared.table.Typed.{Typed}
+use Rattle.eds_read_types.specs.declared.table.SheetTypes.{SheetTypes}
 use Rattle.eds_read_types.specs.TableBreaks.{table_breaks}
 use Rattle.eds_read_types.specs.TableRead.{typed_of, unless as types_unless, table_read}
-use Rattle.eds_sheet.specs.Judging.{judged_first}
+use Rattle.eds_read_types.specs.Judging.{judged_first}
 use Rattle.eds_sheet.specs.Files.{trees_in, reading_breaks}
 use Rattle.eds_sheet.specs.Pending.{pending_breaks, pending_verdict}
 use Rattle.eds_sheet.specs.Compiled.{tree_breaks, breaks_where_read, all_breaks, sheet_of, compiled_trees, compiled}
-use Rattle.eds_sheet.proofs.Stages.{or_then, or_then-assoc, least-staged, least-judged_first, judged_first-is, stop_of, stop_of-Err, stop_of-then}
+use Rattle.eds_sheet.proofs.Stages.{or_then, least-judged_first, stop_of, stop_of-Err, stop_of-then}
 use Rattle.eds_sheet.proofs.FilesLemmas.{least-reading}
-use Rattle.eds_sheet.proofs.Phases.{IsEarly, IsLate, shape-early, pending-early, duplicates-late}
-use Rattle.eds_sheet.proofs.TypePhases.{types-late}
 
 -- ---- the stops of the steps
 
@@ -52,7 +50,7 @@ types-stop trees names word = go (least (table_breaks trees names word))
 -- ---- trees
 
 -- the sheet of the types, or why there are none
-sheet-stop : (names : Names) (typed : Result Typed Refusal) → stop_of (typed >>= λ t. Ok (sheet_of names t)) ≡ stop_of typed
+sheet-stop : (names : Names) (typed : Result SheetTypes Refusal) → stop_of (typed >>= λ t. Ok (sheet_of names t)) ≡ stop_of typed
 sheet-stop names (Ok t) = refl
 sheet-stop names (Err r) = refl
 
@@ -75,12 +73,9 @@ module _ (trees : List (List Node)) (word : Option (List ℕ)) where
       ≡ or_then (least (shape_breaks trees)) (or_then (least (pending_breaks trees)) (or_then (least (duplicates trees)) (least (table_breaks trees (names_of trees) word))))
   least-staged_trees =
       let types = table_breaks trees (names_of trees) word in
-      least-staged 2 (judged_first (shape_breaks trees) (pending_breaks trees)) (judged_first (duplicates trees) types)
-      (judged_first-is IsEarly (shape_breaks trees) (pending_breaks trees) (shape-early trees) (pending-early trees))
-      (judged_first-is IsLate (duplicates trees) types (duplicates-late trees) (types-late trees (names_of trees) word))
-      ∙ (ap (λ o. or_then o (least (judged_first (duplicates trees) types))) (least-judged_first (shape_breaks trees) (pending_breaks trees))
-      ∙ (ap (or_then (or_then (least (shape_breaks trees)) (least (pending_breaks trees)))) (least-judged_first (duplicates trees) types)
-      ∙ or_then-assoc (least (shape_breaks trees)) (least (pending_breaks trees)) (or_then (least (duplicates trees)) (least types))))
+      let named = judged_first (duplicates trees) types in
+      least-judged_first (shape_breaks trees) (judged_first (pending_breaks trees) named)
+      ∙ ap (or_then (least (shape_breaks trees))) (least-judged_first (pending_breaks trees) named ∙ ap (or_then (least (pending_breaks trees))) (least-judged_first (duplicates trees) types))
 
   trees-stop : stop_of (compiled_trees trees word) ≡ least (tree_breaks trees word)
   trees-stop = staged-stop ∙ sym least-staged_trees

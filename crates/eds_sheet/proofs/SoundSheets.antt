@@ -5,10 +5,9 @@ use Rattle.eds_base.specs.Answering.{◌>>=◌}
 use Rattle.eds_tree.specs.declared.tree.Node.{Node}
 use Rattle.eds_tree.specs.ShapeCheck.{shape_verdict}
 use Rattle.eds_names.specs.LookUp.{Names, names_in}
-use Rattle.eds_names.proofs.Differing.{differ}
 use Rattle.eds_types.specs.Rules.{KeepsRules}
 use Rattle.eds_types.specs.FlatTables.{IsFlatTable}
-use Rattle.eds_read_types.specs.declared.table.Typed.{Typed}
+use Rattle.eds_read_types.specs.declared.table.SheetTypes.{SheetTypes}
 use Rattle.eds_read_types.specs.TableRead.{table_read}
 use Rattle.eds_read_types.proofs.TableFacts.{table_unbroken, table_word}
 use Rattle.eds_read_types.proofs.TableRules.{table_keeps, table_flat}
@@ -17,22 +16,19 @@ use Rattle.eds_sheet.specs.Files.{trees_in}
 use Rattle.eds_sheet.specs.Pending.{pending_verdict}
 use Rattle.eds_sheet.specs.Compiled.{sheet_of, compiled_trees, compiled}
 use Rattle.eds_sheet.specs.Laws.{IsSound, SheetsAreSound}
-use Rattle.eds_sheet.proofs.Limits.{few_types}
 
 -- where two steps give an answer, the first gives one too, and the second gives it from that
 answered : {A B : Type 0} (a : Result A Refusal) (f : A → Result B Refusal) (b : B) → (a >>= f) ≡ Ok b → (x : A) × (a ≡ Ok x) × (f x ≡ Ok b)
 answered (Ok x) f b h = (x, refl, h)
 answered (Err r) f b h = absurd cc
 
-typed-sound : (trees : List (List Node)) (word : Option (List ℕ)) (names : Names) (typed : Typed) → shape_verdict trees ≡ Ok tt → names_in trees ≡ Ok names → table_read trees names word ≡ Ok typed → IsSound word (sheet_of names typed)
+typed-sound : (trees : List (List Node)) (word : Option (List ℕ)) (names : Names) (typed : SheetTypes) → shape_verdict trees ≡ Ok tt → names_in trees ≡ Ok names → table_read trees names word ≡ Ok typed → IsSound word (sheet_of names typed)
 typed-sound trees word names typed shaped named read =
     let unbroken = table_unbroken trees names word typed read in
     let known = table_word trees names word typed read in
-    let apart = differ trees names named in
-    let few = few_types trees names shaped named in
     record {
-      rules = subst (λ (t : Typed). KeepsRules t.table) unbroken.1 (table_keeps trees names word apart few unbroken.0);
-      flat = subst (λ (t : Typed). IsFlatTable t.table) unbroken.1 (table_flat trees names word apart few unbroken.0);
+      rules = subst (λ (t : SheetTypes). KeepsRules t.table) unbroken.1 (table_keeps trees names word shaped named unbroken.0);
+      flat = subst (λ (t : SheetTypes). IsFlatTable t.table) unbroken.1 (table_flat trees names word shaped named unbroken.0);
       named = known.0;
       asked = known.1;
     }

@@ -1,13 +1,11 @@
 -- The least break, where some rules are judged before others.
-use Rattle.std.proofs.Common.{◌≡◌, ℕ, ◌<◌, ◌≤◌, Bool, true, false, List, [], ◌∷◌, ◌++◌, Option, Some, None, Result, Ok, Err, refl, ◌∙◌, arith}
+use Rattle.std.proofs.Common.{◌≡◌, Bool, true, false, List, [], ◌∷◌, Option, Some, None, Result, Ok, Err, refl}
 use Rattle.std.specs.Prelude.{IfSome}
 use Rattle.std.specs.List.{AllByRecursion}
-use Rattle.std.proofs.lemmas.Bool.Decides.{nat_tests}
 use Rattle.eds_base.specs.declared.refusal.Refusal.{Refusal}
 use Rattle.eds_base.specs.Answering.{◌>>=◌}
-use Rattle.eds_base.specs.Refusals.{phase_of, lexicographic, comes_before, earlier, first_of, least}
-use Rattle.eds_base.proofs.LeastLaws.{least-append}
-use Rattle.eds_sheet.specs.Judging.{judged_first}
+use Rattle.eds_base.specs.Refusals.{comes_before, earlier, first_of, least}
+use Rattle.eds_read_types.specs.Judging.{judged_first}
 
 -- ---- the least of some breaks
 
@@ -34,27 +32,6 @@ abbrev pub or_then : Option Refusal → Option Refusal → Option Refusal
 or_then None other = other
 or_then (Some r) other = Some r
 
-pub or_then-assoc : (a b c : Option Refusal) → or_then (or_then a b) c ≡ or_then a (or_then b c)
-or_then-assoc None b c = refl
-or_then-assoc (Some r) b c = refl
-
-other_phase : (a b : ℕ) (later : Bool) → a < b → lexicographic b a later ≡ false
-other_phase a b later h = grind (arith, nat_tests)
-
--- what is judged in a later phase does not come before
-pub later_phase : (x y : Refusal) → phase_of x < phase_of y → comes_before y x ≡ false
-unfolding comes_before
-later_phase x y h = other_phase (phase_of x) (phase_of y) _ h
-
-first-staged : (k : ℕ) (a b : Option Refusal) → IfSome a (λ r. phase_of r ≤ k) → IfSome b (λ r. k < phase_of r) → first_of a b ≡ or_then a b
-first-staged k None b p q = refl
-first-staged k (Some x) None p q = refl
-first-staged k (Some x) (Some y) p q = rw (later_phase x y (omega (arith, p, q))) refl
-
--- of the breaks of earlier and of later phases the least is that of the earlier ones, if there is one
-pub least-staged : (k : ℕ) (xs ys : List Refusal) → AllByRecursion (λ r. phase_of r ≤ k) xs → AllByRecursion (λ r. k < phase_of r) ys → least (xs ++ ys) ≡ or_then (least xs) (least ys)
-least-staged k xs ys p q = least-append xs ys ∙ first-staged k (least xs) (least ys) (least-is (λ r. phase_of r ≤ k) xs p) (least-is (λ r. k < phase_of r) ys q)
-
 first-there : (x : Refusal) (a b : Option Refusal) → first_of (Some x) a ≡ or_then (first_of (Some x) a) b
 first-there x None b = refl
 first-there x (Some y) b = refl
@@ -62,10 +39,6 @@ first-there x (Some y) b = refl
 pub least-judged_first : (xs ys : List Refusal) → least (judged_first xs ys) ≡ or_then (least xs) (least ys)
 least-judged_first [] ys = refl
 least-judged_first (x ∷ xs) ys = first-there x (least xs) (least ys)
-
-pub judged_first-is : (P : Refusal → Type 0) (xs ys : List Refusal) → AllByRecursion P xs → AllByRecursion P ys → AllByRecursion P (judged_first xs ys)
-judged_first-is P [] ys p q = q
-judged_first-is P (x ∷ xs) ys p q = p
 
 -- ---- stops
 

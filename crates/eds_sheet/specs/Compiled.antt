@@ -1,5 +1,5 @@
 -- A sheet compiled, or refused for the first rule that it breaks.
-use Rattle.std.specs.Prelude.{ℕ, List, [], ◌++◌, count_by, Bool, is_some, Option, Some, Result, Ok, Err}
+use Rattle.std.specs.Prelude.{ℕ, List, [], count_by, Bool, is_some, Option, Some, Result, Ok, Err}
 use Rattle.eds_base.specs.declared.refusal.Refusal.{Refusal}
 use Rattle.eds_base.specs.Answering.{◌>>=◌}
 use Rattle.eds_tree.specs.declared.tree.Node.{Node}
@@ -8,21 +8,24 @@ use Rattle.eds_names.specs.Declarations.{is_sort, is_face, is_comp}
 use Rattle.eds_names.specs.LookUp.{Names, names_in, names_of, duplicates}
 use Rattle.eds_types.specs.declared.row.TypeRow.{TypeRow}
 use Rattle.eds_types.specs.Rows.{container_in}
-use Rattle.eds_read_types.specs.declared.table.Typed.{Typed}
+use Rattle.eds_read_types.specs.declared.table.SheetTypes.{SheetTypes}
+use Rattle.eds_read_types.specs.Judging.{judged_first}
 use Rattle.eds_read_types.specs.TableBreaks.{table_breaks}
 use Rattle.eds_read_types.specs.TableRead.{table_read}
 use Rattle.eds_sheet.specs.declared.sheet.Counts.{Counts}
 use Rattle.eds_sheet.specs.declared.sheet.Sheet.{Sheet}
-use Rattle.eds_sheet.specs.Judging.{judged_first}
 use Rattle.eds_sheet.specs.Files.{trees_in, reading_breaks}
 use Rattle.eds_sheet.specs.Pending.{pending_breaks, pending_verdict}
 
 -- ---- what a sheet breaks
 
--- All that some trees break: what is not compiled yet is judged only where all elements are as they should be, and
--- references and what rests on them only where no name is given twice.
+-- All that some trees break, each stage judged only where the stages before it are not broken: the elements and their
+-- attributes, what is not compiled yet, the names, and then the references and the types.
 abbrev pub tree_breaks : List (List Node) → (word : Option (List ℕ)) → List Refusal
-tree_breaks trees word = judged_first (shape_breaks trees) (pending_breaks trees) ++ judged_first (duplicates trees) (table_breaks trees (names_of trees) word)
+tree_breaks trees word =
+    judged_first (shape_breaks trees)
+    (judged_first (pending_breaks trees)
+    (judged_first (duplicates trees) (table_breaks trees (names_of trees) word)))
 
 -- the same of files that are element trees
 abbrev pub breaks_where_read : Result (List (List Node)) Refusal → (word : Option (List ℕ)) → List Refusal
@@ -40,7 +43,7 @@ abbrev pub is_container : TypeRow → Bool
 is_container row = is_some (container_in (Some row))
 
 -- how many types, containers, interfaces and components there are
-abbrev pub counts_of : Names → Typed → Counts
+abbrev pub counts_of : Names → SheetTypes → Counts
 counts_of names typed = record {
   types = count_by (λ d. is_sort d.item) names.declared;
   containers = count_by is_container typed.table;
@@ -48,8 +51,8 @@ counts_of names typed = record {
   components = count_by (λ d. is_comp d.item) names.declared;
 }
 
-abbrev pub sheet_of : Names → Typed → Sheet
-sheet_of names typed = record { table = typed.table; word = typed.word; counts = counts_of names typed }
+abbrev pub sheet_of : Names → SheetTypes → Sheet
+sheet_of names typed = record { table = typed.table; word = typed.asked_type; counts = counts_of names typed }
 
 -- the sheet of some trees, or the first of the rules that they break, judged in their order
 abbrev pub compiled_trees : List (List Node) → (word : Option (List ℕ)) → Result Sheet Refusal

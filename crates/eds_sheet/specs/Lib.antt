@@ -1,5 +1,4 @@
 pub mod Files
 pub mod Pending
-pub mod Judging
 pub mod Compiled
 pub mod Laws

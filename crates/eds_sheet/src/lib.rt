@@ -8,6 +8,3 @@ mod sheet;
 
 pub use files::Files;
 pub use sheet::{Counts, Sheet, compile};
-
-#[cfg(test)]
-mod tests;

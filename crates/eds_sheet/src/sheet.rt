@@ -10,7 +10,7 @@ use crate::files::{Files, read_trees};
 use crate::pending::check_pending;
 use eds_base::{Fail, Memory, Refusal, TypeId};
 use eds_names::Space;
-use eds_read_types::{Typed, read_types};
+use eds_read_types::{SheetTypes, read_types};
 use eds_tree::shape_check;
 use eds_types::{Kind, TypeRow, TypeTable};
 use std::alloc::Global;
@@ -64,7 +64,7 @@ fn narrow(count: usize) -> Result<u32, Memory>
     Ok(count as u32)
 }
 
-fn counts_of(space: &Space, typed: &Typed) -> Result<Counts, Memory>
+fn counts_of(space: &Space, typed: &SheetTypes) -> Result<Counts, Memory>
     ensures { IfOk result (λ c. c ≡ counted space.now typed.now) }
 {
     Ok(Counts {
@@ -96,7 +96,7 @@ pub fn compile(alloc: Global, files: &Files, extra: Option<&str>) -> Result<Shee
     let counts = counts_of(&space, &typed)?;
     Ok(Sheet {
         table: typed.table,
-        word: typed.word,
+        word: typed.asked_type,
         counts,
     })
 }

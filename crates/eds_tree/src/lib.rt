@@ -33,6 +33,3 @@ pub use shape_rules::shape_check;
 pub use table::{ELEMENTS, element_rows};
 pub use texts::{flag_value, whole_number};
 pub use tree::{Node, Tree, Trees};
-
-#[cfg(test)]
-mod tests;

@@ -1,5 +1,5 @@
 -- What holds of a table, from what holds of each of its rows.
-use Rattle.std.proofs.Common.{◌≡◌, ℕ, zero, suc, ◌+◌, ◌<◌, ◌≤◌, Bool, true, false, cond, List, [], ◌∷◌, ◌++◌, length, filter, slice_get, Option, Some, None, refl, sym, ap, ap₂, subst, ◌∙◌, arith, ◌&&◌, ◌==◌, inl, inr}
+use Rattle.std.proofs.Common.{◌≡◌, ℕ, zero, suc, ◌+◌, ◌<◌, ◌≤◌, Bool, true, false, cond, List, [], ◌∷◌, ◌++◌, length, filter, slice_get, Option, Some, None, refl, ap, subst, ◌∙◌, arith, ◌&&◌, ◌==◌, inl, inr}
 use Rattle.std.specs.Prelude.{not, IsTrue}
 use Rattle.std.specs.List.{list_all, range_with_len}
 use Rattle.std.proofs.lemmas.Bool.{and_parts, eq-eqb, cases_lt}
@@ -7,7 +7,7 @@ use Rattle.std.proofs.lemmas.List.FromFn.{length-range_with_len}
 use Rattle.std.proofs.lemmas.Option.{slice_get_within}
 use Rattle.eds_bits.specs.Lists.{Has}
 use Rattle.eds_types.specs.declared.row.TypeRow.{TypeRow}
-use Rattle.eds_types.specs.Rows.{Table, base_in, base_of, container_in, concrete_in, Placed, chain, list_has, is_concrete, derived, numbers, sequence, chain_before, chain_within}
+use Rattle.eds_types.specs.Rows.{Table, base_in, container_in, concrete_in, Placed, chain, list_has, is_concrete, derived, numbers, sequence, chain_before, chain_within}
 use Rattle.eds_types.specs.Rules.{AreDistinct, IsHollow}
 
 -- ---- of each row

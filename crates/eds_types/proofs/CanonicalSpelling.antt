@@ -14,7 +14,7 @@ use Rattle.eds_types.specs.declared.row.Kind.{Kind}
 use Rattle.eds_types.specs.declared.row.Kind.TheVariants as kind
 use Rattle.eds_types.specs.declared.row.Part.{Part}
 use Rattle.eds_types.specs.declared.row.Part.TheVariants as part
-use Rattle.eds_types.specs.Fields.{Field, value_at, values_of, listed, Holds, IsCandidate, constraints_along}
+use Rattle.eds_types.specs.Fields.{value_at, values_of, listed, Holds, IsCandidate, constraints_along}
 use Rattle.eds_types.specs.Plain.{Plain, num, items, list_of}
 use Rattle.eds_types.specs.Rows.{Table, Placed, sequence}
 use Rattle.eds_types.specs.Rules.{IsInt, IsIntBy, HoldsCheck, KindKeeps}

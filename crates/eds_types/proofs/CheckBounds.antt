@@ -1,5 +1,5 @@
 -- Each check is a number of an unsigned form of its size.
-use Rattle.std.proofs.Common.{◌≡◌, List, ◌-◌, ◌^◌, pos, refl, sym, subst, arith}
+use Rattle.std.proofs.Common.{List, ◌-◌, ◌^◌, pos, sym, subst, arith}
 use Rattle.std.specs.Prelude.{◌≤ℤ◌}
 use Rattle.std.proofs.lemmas.Int.{ints}
 use Rattle.eds_base.specs.declared.spans.Span.{Span}

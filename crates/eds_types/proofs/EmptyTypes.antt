@@ -3,7 +3,6 @@ use Rattle.std.proofs.Common.{◌≡◌, ℕ, zero, suc, ◌*◌, ◌<◌, ◌�
 use Rattle.std.specs.Prelude.{slice_get, IsSome, IfSome, IsTrue}
 use Rattle.std.specs.List.{AllByRecursion, flat_map}
 use Rattle.std.proofs.lemmas.Bool.{cases_eq}
-use Rattle.std.proofs.lemmas.List.{length-append}
 use Rattle.eds_base.specs.declared.ids.TypeId.{TypeId}
 use Rattle.eds_bits.specs.Bits.{Bits, first_pieces}
 use Rattle.eds_bits.specs.Lists.{Has, HasOne}
@@ -15,15 +14,15 @@ use Rattle.eds_types.specs.declared.row.Part.{Part}
 use Rattle.eds_types.specs.declared.row.Part.TheVariants as part
 use Rattle.eds_types.specs.declared.row.Constraint.{Constraint}
 use Rattle.eds_types.specs.declared.row.Container.{Container}
-use Rattle.eds_types.specs.Fields.{Holds, IsAtOrUnder, StartsInEntries, constraints_along, IsCandidate}
-use Rattle.eds_types.specs.Laws.{IsThere, EmptyTypes}
+use Rattle.eds_types.specs.Fields.{Holds, StartsInEntries, constraints_along}
+use Rattle.eds_types.specs.Laws.{EmptyTypes}
 use Rattle.eds_types.specs.Plain.{Plain, bits, fields, none, list_of, plain}
-use Rattle.eds_types.specs.Rows.{Table, chain, chain_within, chain_before, base_of, base_in, container_of, container_by, container_in, concrete_in, is_concrete, entries_of, trailers_of, constraints_of, Placed, placed_from, placed_entries, placed_trailers, sequence}
-use Rattle.eds_types.specs.Rules.{KindKeeps, IsContainer, IsValueOf, HasKind, IsNested, ItemsNest, IsHollow, DerivesFrom, PartKeeps, ConstraintKeeps, KeepsRules}
+use Rattle.eds_types.specs.Rows.{Table, chain, chain_within, chain_before, base_of, container_of, container_by, container_in, concrete_in, is_concrete, entries_of, constraints_of, Placed, placed_from, placed_entries, placed_trailers, sequence}
+use Rattle.eds_types.specs.Rules.{KindKeeps, IsContainer, IsValueOf, HasKind, ItemsNest, IsHollow, DerivesFrom, PartKeeps, ConstraintKeeps, KeepsRules}
 use Rattle.eds_types.specs.Sizes.{open_by, open_in, open_of, tail_of, trailers_along}
-use Rattle.eds_types.specs.Spelling.{Progress, started, PartPasses, PartsPass, ItemsSpell, ContainerSpells, KindSpells, SpellsWithin, Spells}
+use Rattle.eds_types.specs.Spelling.{Progress, started, PartPasses, PartsPass, ItemsSpell, ContainerSpells, KindSpells, SpellsWithin}
 use Rattle.eds_types.specs.Tables.{IsTable, IsIntRow, IsIntKind}
-use Rattle.eds_types.proofs.AllOf.{All-weaker, All-front, All-each, All-has, All-at, All-flat}
+use Rattle.eds_types.proofs.AllOf.{All-weaker, All-each, All-has, All-flat}
 use Rattle.eds_types.proofs.ChainLaws.{chain_step, chain_front, front_same, split_last}
 use Rattle.eds_types.proofs.LeastBound.{text_bound}
 use Rattle.eds_types.proofs.Ranks.{row_there}

@@ -17,7 +17,7 @@ use Rattle.eds_bits.specs.Scalars.{before_stop, IsCoded}
 use Rattle.eds_bits.specs.Style.{any}
 use Rattle.eds_bits.specs.declared.forms.TextForm.{TextForm}
 use Rattle.eds_types.proofs.TextReading.{take_within, whole_octs, whole_length, take_octs, octs_within, cut_at, has_whole, before_short, before_is, take_has}
-use Rattle.eds_types.specs.Failing.{Where, here, course, Station, condition, entry, choice, end, whole, ItemFails, Differs, PartFails, EntryFailsBy, StationFails, BadNumber, TextFails, KindFails, FailsWithin}
+use Rattle.eds_types.specs.Failing.{Where, here, Station, condition, entry, choice, end, whole, ItemFails, Differs, PartFails, EntryFailsBy, StationFails, BadNumber, TextFails, KindFails, FailsWithin}
 use Rattle.eds_types.specs.Plain.{Plain}
 use Rattle.eds_types.specs.Rows.{Table}
 use Rattle.eds_types.specs.Spelling.{Progress, SpellsWithin}

@@ -38,7 +38,6 @@ pub mod PackedSizes
 pub mod PackedFields
 pub mod PackedLaws
 pub mod Binaries
-pub mod BuiltFacts
 pub mod SameLists
 pub mod TypeLaws
 pub mod EmptyTypes

@@ -3,7 +3,7 @@ use Rattle.std.proofs.Common.{◌≡◌, ℕ, zero, suc, ℤ, pos, ◌+ℤ◌, �
 use Rattle.std.specs.Prelude.{IfSome, is_some}
 use Rattle.std.specs.List.{AllByRecursion}
 use Rattle.eds_bits.proofs.FormLaws.{one_canonical}
-use Rattle.eds_bits.specs.Bits.{Bits, octets_of, octets_for}
+use Rattle.eds_bits.specs.Bits.{Bits, octets_for}
 use Rattle.eds_bits.specs.IntForms.{IsNumber}
 use Rattle.eds_bits.specs.Scalars.{check_of}
 use Rattle.eds_bits.specs.Style.{any, canonical}

@@ -1,6 +1,6 @@
 -- One pass over the fields of a container finds the size of their canonical spelling, or the fault that is there.
-use Rattle.std.proofs.Common.{◌≡◌, ℕ, zero, suc, ◌+◌, ◌-◌, ◌*◌, ◌/◌, ◌<◌, ℤ, pos, negsuc, neg_ℤ, ◌+ℤ◌, ◌-ℤ◌, ◌*ℤ◌, int_eq, Bool, true, false, cond, List, [], ◌∷◌, ◌++◌, length, map, reverse, Option, Some, None, Result, Ok, Err, refl, sym, ap, subst, ◌∙◌, append_assoc, append-nil, mul-pos, arith, ◌⊎◌, inl, inr}
-use Rattle.std.specs.Prelude.{int_div, is_ok, is_some, ◌&&◌, ◌==◌, IfSome, IsSome, IsTrue, slice_get}
+use Rattle.std.proofs.Common.{◌≡◌, ℕ, zero, suc, ◌+◌, ◌*◌, ◌/◌, ◌<◌, ℤ, pos, negsuc, neg_ℤ, ◌+ℤ◌, ◌-ℤ◌, ◌*ℤ◌, int_eq, Bool, true, false, cond, List, [], ◌∷◌, ◌++◌, length, map, reverse, Option, Some, None, Ok, Err, refl, sym, ap, subst, ◌∙◌, append_assoc, mul-pos, arith, ◌⊎◌, inl, inr}
+use Rattle.std.specs.Prelude.{int_div, is_ok, is_some, ◌&&◌, ◌==◌, slice_get}
 use Rattle.std.specs.List.{AllByRecursion, flat_map, list_all}
 use Rattle.std.proofs.Math.Nat.{mul-div_cancel_left}
 use Rattle.std.proofs.lemmas.Bool.{and_parts, and_from, both_ways, cases_Bool, eqb-true, eq-eqb, false_from_ne_true}
@@ -11,10 +11,8 @@ use Rattle.eds_base.specs.declared.fault.Step.TheVariants as step
 use Rattle.eds_bits.specs.Bits.{Bits, octets_for}
 use Rattle.eds_bits.specs.Style.{any, canonical}
 use Rattle.eds_types.specs.declared.reason.PackReason.TheVariants as reason
-use Rattle.eds_types.specs.declared.row.TypeRow.{TypeRow}
 use Rattle.eds_types.specs.declared.row.Kind.{Kind}
 use Rattle.eds_types.specs.declared.row.Kind.TheVariants as kind
-use Rattle.eds_types.specs.declared.row.Container.{Container}
 use Rattle.eds_types.specs.declared.row.Constraint.{Constraint as Condition}
 use Rattle.eds_types.specs.declared.row.Part.{Part}
 use Rattle.eds_types.specs.declared.row.Part.TheVariants as part
@@ -24,7 +22,7 @@ use Rattle.eds_types.specs.Packing.{Where, behind, here, ItemFails, PackFailsWit
 use Rattle.eds_types.specs.PackedSizes.{Size, inside, after, items_size, tells, told_by, row_bits, form_bits, length_fits, entry_size, list_size, part_size, choice_size, station_size, stations_size, own_size, concrete_size, derived_size, fields_size}
 use Rattle.eds_types.specs.Plain.{Plain, num, label, truth, text, bits, items, fields, list_of, plain}
 use Rattle.eds_types.specs.Reading.{candidate_under, holds}
-use Rattle.eds_types.specs.Rows.{Table, id_of, chain, constraints_of, container_of, is_concrete, list_has, Placed, placed_entries, placed_trailers, sequence}
+use Rattle.eds_types.specs.Rows.{Table, id_of, chain, constraints_of, container_of, list_has, Placed, placed_entries, placed_trailers, sequence}
 use Rattle.eds_types.specs.Spelling.{Progress, started, ItemsSpell, KindSpells, PartPasses, PartsPass, SpellsWithin, ContainerSpells}
 use Rattle.eds_types.specs.Tables.{IsTable, IsIntRow, IsIntKind}
 use Rattle.eds_types.proofs.AllOf.{All-weaker, All-both, All-front, All-pair, All-each}
@@ -37,7 +35,7 @@ use Rattle.eds_types.proofs.Grown.{only_grown}
 use Rattle.eds_types.proofs.LengthChoices.{Choice, Choices, Told, tell, tell_all, told_rest, run_chosen}
 use Rattle.eds_types.proofs.ListCounts.{found_there}
 use Rattle.eds_types.proofs.PackedSizes.{Ties, spelled_by, items_spelled, items_whole, items_fail}
-use Rattle.eds_types.proofs.PackingRuns.{At, TypesDecided, Supplies, IsFine, Passed, part_passed, tree_decides}
+use Rattle.eds_types.proofs.PackingRuns.{At, TypesDecided, Supplies, IsFine, part_passed, tree_decides}
 use Rattle.eds_types.proofs.ReadingTests.{has_from, has_in, holds_from, holds_in, found_is, none_is}
 use Rattle.eds_types.proofs.SpellingSizes.{canon_spells, part_any, fields_by, parts_any}
 use Rattle.eds_types.proofs.TableFacts.{Facts, IsNumbered, IsScaled, IsLengthOnce, ListsFit, NoLength}
@@ -233,9 +231,11 @@ module _ (t : Table) (is : IsTable t) (can : Facts t) (n : ℕ) (size : ℕ → 
         go : (value_at fs y i ≡ Some (num (pos (length (list_of vs))))) ⊎ (value_at fs y i ≡ Some (num (pos (length (list_of vs)))) → ⊥) → ((b : Bits) × ItemsSpell (C x) (list_of vs) b) ⊎ ((g : Where) × ItemFails (F x) 0 (list_of vs) g) → (m : ℕ) × (list_size t size fs x (value_at fs y i) (Some (items vs)) ≡ Ok m)
         go (inr ne) r = absurd (none (here reason.CountWrong) (inl (ne, refl)))
         go (inl e) (inr r) = absurd (none r.0 (inr (e, r.1)))
-        go (inl e) (inl r) = (0 + length r.0,
-            ap (λ c. cond c (items_size (size x) 0 0 (list_of vs)) (Err (here reason.CountWrong))) (tells_true (value_at fs y i) (length (list_of vs)) e)
-            ∙ items_spelled (size x) (C x) (F x) ti d (list_of vs) 0 0 r.0 r.1)
+        go (inl e) (inl r) = (
+          0 + length r.0,
+          ap (λ c. cond c (items_size (size x) 0 0 (list_of vs)) (Err (here reason.CountWrong))) (tells_true (value_at fs y i) (length (list_of vs)) e)
+              ∙ items_spelled (size x) (C x) (F x) ti d (list_of vs) 0 0 r.0 r.1,
+        )
 
     entry_fine : (p : Placed) (x : ℕ) (o : Option Plain) → ((v : Plain) → Ties (size x v) (C x v) (F x v)) → ((v : Plain) → Decided (C x v) (F x v)) → ((w : Where) → ((v : Plain) × (o ≡ Some v) × F x v w) → ⊥) → (m : ℕ) × (entry_size t size fs x o ≡ Ok m)
     entry_fine p x None ti d none = (0, refl)

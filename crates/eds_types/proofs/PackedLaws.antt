@@ -1,6 +1,6 @@
 -- What one pass over a value of any type finds is the size of its canonical spelling, or the fault that is there.
-use Rattle.std.proofs.Common.{◌≡◌, ◌↔◌, ℕ, zero, suc, ◌<◌, ◌≤◌, Bool, true, false, cond, List, length, Option, Some, Result, Ok, Err, refl, sym, ap, subst, ◌∙◌, arith, ◌⊎◌, inl, inr}
-use Rattle.std.specs.Prelude.{is_ok, nat_le, slice_get, IsTrue}
+use Rattle.std.proofs.Common.{◌≡◌, ℕ, zero, suc, ◌<◌, true, false, cond, length, Ok, Err, refl, sym, ap, subst, ◌∙◌, arith, ◌⊎◌, inl, inr}
+use Rattle.std.specs.Prelude.{is_ok, nat_le, IsTrue}
 use Rattle.std.specs.List.{AllByRecursion}
 use Rattle.std.proofs.lemmas.Bool.{cases_lt, leb-true, le-leb, false_from_ne_true}
 use Rattle.eds_bits.specs.Bits.{Bits}
@@ -9,9 +9,9 @@ use Rattle.eds_types.specs.declared.reason.PackReason.TheVariants as reason
 use Rattle.eds_types.specs.declared.row.Container.{Container}
 use Rattle.eds_types.specs.declared.row.Kind.{Kind}
 use Rattle.eds_types.specs.declared.row.Kind.TheVariants as kind
-use Rattle.eds_types.specs.Fields.{type_by, IsAtOrUnder}
-use Rattle.eds_types.specs.Packing.{Where, here, shape, KindPackFails, ContainerPackFails, PackFailsWithin, PackFailsAt, IsTooLong, most_bits}
-use Rattle.eds_types.specs.PackedSizes.{Size, container_size, fields_size, kind_size, row_size, size_within, not_long, packed_size, packs, Packs, IsExact, SizesAreExact}
+use Rattle.eds_types.specs.Fields.{IsAtOrUnder}
+use Rattle.eds_types.specs.Packing.{Where, here, shape, KindPackFails, PackFailsWithin, PackFailsAt, most_bits}
+use Rattle.eds_types.specs.PackedSizes.{Size, container_size, kind_size, row_size, size_within, not_long, packed_size, packs, Packs, IsExact, SizesAreExact}
 use Rattle.eds_types.specs.Plain.{Plain, fields, list_of}
 use Rattle.eds_types.specs.Rows.{Table, Placed, sequence}
 use Rattle.eds_types.specs.Rules.{KeepsRules}

@@ -1,12 +1,8 @@
 -- The size that one pass over a value finds is that of its canonical spelling, and the fault is the one that is there.
-use Rattle.std.proofs.Common.{◌≡◌, ℕ, zero, suc, ◌+◌, ◌-◌, ◌*◌, ◌/◌, ◌%◌, ◌<◌, ◌≤◌, ℤ, pos, negsuc, neg_ℤ, ◌+ℤ◌, ◌-ℤ◌, ◌*ℤ◌, int_eq, Bool, true, false, cond, List, [], ◌∷◌, ◌++◌, length, map, take, reverse, Option, Some, None, Result, Ok, Err, refl, sym, ap, subst, ◌∙◌, append_assoc, append-nil, mul-suc, arith, ◌⊎◌, inl, inr}
-use Rattle.std.specs.Prelude.{int_div, is_ok, is_some, not, nat_lt, nat_le, ◌&&◌, ◌==◌, IfSome, IsSome, IsTrue, slice_get}
-use Rattle.std.specs.List.{AllByRecursion, flat_map, list_all}
-use Rattle.std.proofs.Math.Nat.{mul-div_cancel_left}
-use Rattle.std.proofs.lemmas.Bool.{and_parts, and_from, both_ways, cases_Bool, cases_eq, cases_lt, eqb-true, eq-eqb, false_from_ne_true, ltb-true, leb-true, le-leb, lt-ltb}
-use Rattle.std.proofs.lemmas.Bool.Decides.{Decides-int_eq}
+use Rattle.std.proofs.Common.{◌≡◌, ℕ, ◌+◌, ◌/◌, ◌%◌, ◌<◌, ℤ, Bool, true, false, cond, List, [], ◌∷◌, length, take, Ok, Err, refl, sym, ap, subst, ◌∙◌, arith, ◌⊎◌, inl, inr}
+use Rattle.std.specs.Prelude.{not, nat_lt, nat_le, ◌&&◌, ◌==◌}
+use Rattle.std.proofs.lemmas.Bool.{and_parts, and_from, eqb-true, eq-eqb, false_from_ne_true, ltb-true, leb-true, le-leb, lt-ltb}
 use Rattle.std.proofs.lemmas.List.{length-append}
-use lib.IntN.{+ℤ-neg_ℤ_cancel, +ℤ_comm}
 use Rattle.eds_base.specs.Reading.{same as same_text}
 use Rattle.eds_base.specs.declared.ids.TypeId.{TypeId}
 use Rattle.eds_base.specs.declared.fault.Step.TheVariants as step
@@ -14,23 +10,15 @@ use Rattle.eds_base.specs.declared.spans.Span.{Span}
 use Rattle.eds_bits.specs.declared.forms.IntForm.{IntForm}
 use Rattle.eds_bits.specs.declared.forms.BoolForm.{BoolForm}
 use Rattle.eds_bits.specs.declared.forms.TextForm.{TextForm}
-use Rattle.eds_bits.specs.Bits.{Bits, bits_of, octets_for, octets_of}
-use Rattle.eds_bits.specs.Lists.{Has}
+use Rattle.eds_bits.specs.Bits.{Bits, bits_of, octets_of}
 use Rattle.eds_bits.specs.Scalars.{IsText}
-use Rattle.eds_bits.specs.Style.{any, canonical}
+use Rattle.eds_bits.specs.Style.{canonical}
 use Rattle.eds_types.specs.declared.reason.PackReason.TheVariants as reason
-use Rattle.eds_types.specs.declared.row.TypeRow.{TypeRow}
 use Rattle.eds_types.specs.declared.row.Kind.{Kind}
 use Rattle.eds_types.specs.declared.row.Kind.TheVariants as kind
-use Rattle.eds_types.specs.declared.row.Container.{Container}
-use Rattle.eds_types.specs.declared.row.Constraint.{Constraint as Condition}
-use Rattle.eds_types.specs.declared.row.Part.{Part}
-use Rattle.eds_types.specs.declared.row.Part.TheVariants as part
-use Rattle.eds_types.specs.Failing.{Station, condition, entry, choice, end, course, part_step, path_steps}
-use Rattle.eds_types.specs.Fields.{listed, type_by}
-use Rattle.eds_types.specs.Packing.{Where, behind, here, ItemFails, TextFits, IsFilled, shape, KindPackFails}
+use Rattle.eds_types.specs.Packing.{Where, here, ItemFails, TextFits, IsFilled, shape, KindPackFails}
 use Rattle.eds_types.specs.PackedSizes.{Size, inside, after, number_size, label_size, listed_size, truth_size, text_fits, text_bits, text_size, has_bits, is_filled, binary_size, items_size, array_size}
-use Rattle.eds_types.specs.Plain.{Plain, num, label, truth, text, bits, items, fields, list_of}
+use Rattle.eds_types.specs.Plain.{Plain, num, label, truth, text, bits, items, list_of}
 use Rattle.eds_types.specs.Reading.{is_coded, is_within}
 use Rattle.eds_types.specs.Rows.{Table, list_has}
 use Rattle.eds_types.specs.Spelling.{BinHas, ItemsSpell, KindSpells}

@@ -14,7 +14,7 @@ use Rattle.eds_types.proofs.SameValues.{same-is, is-same, list_of-plains_of, pla
 use Rattle.eds_types.specs.Failing.{Where, behind, here, part_step, ItemFails, PartFails, Differs, TailFits, TailFails, EntryPasses, EntryFailsBy, EntryFails}
 use Rattle.eds_types.specs.Fields.{type_by}
 use Rattle.eds_types.specs.Plain.{Plain, num, label, truth, text, bits, items, fields, list_of, plains_of, plain}
-use Rattle.eds_types.specs.Reading.{Read, same, expected, number_in, after_number, read_bits, read_items, read_part, octets_left, tail_octets, tail_room, read_tail, read_entry_by, read_entry, inside, judge, advance}
+use Rattle.eds_types.specs.Reading.{Read, same, expected, number_in, after_number, read_bits, read_items, read_part, octets_left, tail_octets, tail_room, read_tail, read_entry_by, read_entry, judge, advance}
 use Rattle.eds_types.specs.Rows.{Table, Placed}
 use Rattle.eds_types.specs.Spelling.{BinHas, Progress, with_bits, with_value, count_at, ItemsSpell, PartPasses}
 use Rattle.eds_types.specs.Sizes.{tail_of, trailers_size}

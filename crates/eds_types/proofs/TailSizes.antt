@@ -1,6 +1,6 @@
 -- The size of a tail is a function of what stands before it: where the length entry fits the size of the whole container,
 -- it fits at the tail.
-use Rattle.std.proofs.Common.{◌≡◌, ℕ, zero, suc, ◌+◌, ◌*◌, ◌/◌, ◌<◌, ◌≤◌, ℤ, pos, Bool, true, false, cond, List, [], ◌∷◌, ◌++◌, length, sum_by, Option, Some, None, option_map, refl, sym, ap, subst, ◌∙◌, append_assoc, arith, ◌⊎◌, inl, inr, unwrap_or}
+use Rattle.std.proofs.Common.{◌≡◌, ℕ, zero, suc, ◌+◌, ◌*◌, ◌<◌, ℤ, pos, Bool, true, false, cond, List, [], ◌∷◌, ◌++◌, length, sum_by, Option, Some, None, option_map, refl, sym, ap, subst, ◌∙◌, append_assoc, arith, ◌⊎◌, inl, inr, unwrap_or}
 use Rattle.std.specs.Prelude.{slice_get, IsSome, IfSome, IsTrue}
 use Rattle.std.specs.List.{AllByRecursion}
 use Rattle.std.proofs.lemmas.List.{length-append}
@@ -14,16 +14,16 @@ use Rattle.eds_types.specs.declared.row.Kind.{Kind}
 use Rattle.eds_types.specs.declared.row.Kind.TheVariants as kind
 use Rattle.eds_types.specs.declared.row.Part.{Part}
 use Rattle.eds_types.specs.declared.row.Part.TheVariants as part
-use Rattle.eds_types.specs.Failing.{TailFits, IfTail, EntryPasses}
-use Rattle.eds_types.specs.Plain.{Plain, Plains, bits, list_of}
-use Rattle.eds_types.specs.Rows.{Table, Placed, sequence}
+use Rattle.eds_types.specs.Failing.{TailFits, EntryPasses}
+use Rattle.eds_types.specs.Plain.{Plain, bits, list_of}
+use Rattle.eds_types.specs.Rows.{Table, Placed}
 use Rattle.eds_types.specs.Rules.{is_length}
 use Rattle.eds_types.specs.Sizes.{open_by, open_in, open_of, tail_of, kind_size, row_size, size_within, part_size, trailers_along, trailers_size}
-use Rattle.eds_types.specs.Spelling.{Progress, started, BinHas, ItemsSpell, PartPasses, PartsPass, SizeFits, KindSpells, SpellsWithin}
+use Rattle.eds_types.specs.Spelling.{Progress, BinHas, ItemsSpell, PartPasses, PartsPass, SizeFits, KindSpells, SpellsWithin}
 use Rattle.eds_types.proofs.AllOf.{All-back}
 use Rattle.eds_types.proofs.ScalarReading.{IsTextSize, text_form, size_of}
 use Rattle.eds_types.proofs.CanonicalSpelling.{part_before}
-use Rattle.eds_types.proofs.TableFacts.{NoLength, IsLengthOnce, IsSized, TailFollowed, TailsFollowed}
+use Rattle.eds_types.proofs.TableFacts.{NoLength, IsLengthOnce, IsSized, TailsFollowed}
 
 some_is : (a b : ℕ) → Some a ≡ Some b → a ≡ b
 some_is a b e = cc

@@ -1,12 +1,11 @@
 -- The laws of types and values, from the facts that the rules give.
-use Rattle.std.proofs.Common.{◌≡◌, ℕ, ◌≤◌, length, sym, ap, ◌∙◌, ◌⊎◌, inl, inr, refl, arith}
+use Rattle.std.proofs.Common.{◌≡◌, ◌≤◌, length, sym, ap, ◌∙◌, ◌⊎◌, inl, inr, refl, arith}
 use Rattle.std.proofs.lemmas.Bool.{cases_lt}
 use Rattle.eds_bits.specs.Bits.{Bits}
 use Rattle.eds_bits.specs.Style.{canonical}
 use Rattle.eds_types.specs.declared.reason.PackReason.TheVariants.{TooLong}
 use Rattle.eds_types.specs.Laws.{OneSize, HasCanonical, OneCanonical, LeastIsLeast, PackingIsDecided}
 use Rattle.eds_types.specs.Packing.{Where, here, most_bits, PackFailsWithin, PackFailsAt}
-use Rattle.eds_types.specs.Plain.{Plain}
 use Rattle.eds_types.specs.Spelling.{Canon, SpellsWithin}
 use Rattle.eds_types.proofs.CanonicalSpelling.{canon_within}
 use Rattle.eds_types.proofs.DecidedPacking.{Decided}

@@ -1,5 +1,5 @@
 -- Tables of scalar types and of flat containers of them.
-use Rattle.std.specs.Prelude.{◌≡◌, ℕ, List, [], false, Option, None, Some, slice_get}
+use Rattle.std.specs.Prelude.{◌≡◌, ℕ, [], false, Option, None, Some, slice_get}
 use Rattle.std.specs.List.{AllByRecursion}
 use Rattle.eds_types.specs.declared.row.TypeRow.{TypeRow}
 use Rattle.eds_types.specs.declared.row.Kind.{Kind}

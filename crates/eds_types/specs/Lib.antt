@@ -14,7 +14,6 @@ pub mod Laws
 pub mod Stored
 pub mod Tables
 pub mod FlatTables
-pub mod BuiltTables
 pub mod Reasons
 pub mod PackedSizes
 pub mod PlainCode

@@ -28,7 +28,7 @@ use Rattle.eds_types.specs.Plain.{Plain, num, label, truth, text, bits, items, f
 use Rattle.eds_types.specs.Rows.{Table, id_of, chain, list_has, is_concrete, entries_of, constraints_of, Placed, placed_entries, placed_trailers}
 use Rattle.eds_types.specs.Fields.{Field, values_of, number_on, listed, constraints_along}
 use Rattle.eds_types.specs.Spelling.{Progress, started, with_bits, with_value, with_octets, count_at}
-use Rattle.eds_types.specs.Failing.{Where, behind, here, path_steps, part_step, length_step, length_path, course, whole}
+use Rattle.eds_types.specs.Failing.{Where, behind, here, path_steps, part_step, length_path, whole}
 use Rattle.eds_types.specs.Sizes.{tail_of, trailers_size}
 
 abbrev pub Read : Type 0 → Type 0

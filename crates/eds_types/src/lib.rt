@@ -2,7 +2,6 @@
 #![tactic(auto)]
 
 mod binary;
-pub mod built;
 mod chain;
 mod copy;
 pub mod law;

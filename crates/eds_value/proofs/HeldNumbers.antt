@@ -46,4 +46,3 @@ number_held form n h =
     let from = h.from_least in
     let to = h.to_greatest in
     (omega (arith, ints), omega (arith, ints))
-

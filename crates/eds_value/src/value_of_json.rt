@@ -72,12 +72,7 @@ fn binary_by(size: u32, is_open: bool, octets: Vec<u8>) -> Option<Value>
 }
 
 // The value of a binary, from the hex of its octets.
-fn binary_in(
-    alloc: Global,
-    size: u32,
-    is_open: bool,
-    json: &Json,
-) -> Result<Option<Value>, Memory>
+fn binary_in(alloc: Global, size: u32, is_open: bool, json: &Json) -> Result<Option<Value>, Memory>
     ensures { IfOk result (λ v. option_map plain v ≡ binary_from size is_open (view json.now)) }
 {
     let Some(text) = json.as_str() else {

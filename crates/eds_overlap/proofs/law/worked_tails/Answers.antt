@@ -1,4 +1,4 @@
-use Rattle.eds_overlap.proofs.TailFrames.{worked_tails}
+use Rattle.eds_overlap.proofs.ExampleFrames.{worked_tails}
 use Rattle.eds_overlap.proofs.law.worked_tails.Goals as goal
 
 pub returns : goal.returns

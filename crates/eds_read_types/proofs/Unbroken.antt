@@ -1,0 +1,76 @@
+-- What each rule says of a sheet that breaks none.
+use Rattle.std.proofs.Common.{◌≡◌, ℕ, List, [], ◌∷◌, Option, refl}
+use Rattle.std.specs.List.{AllByRecursion, flat_map}
+use Rattle.eds_base.specs.declared.refusal.Refusal.{Refusal}
+use Rattle.eds_tree.specs.declared.tree.Node.{Node}
+use Rattle.eds_names.specs.LookUp.{Names}
+use Rattle.eds_read_types.specs.declared.reference_row.Wanted.TheVariants.{AnyType}
+use Rattle.eds_read_types.specs.Places.{elements}
+use Rattle.eds_read_types.specs.Judging.{judged_first, breaks_in_phase, breaks_by_phase}
+use Rattle.eds_read_types.specs.References.{word_place, judged_text, judged_at}
+use Rattle.eds_read_types.specs.Unresolved.{unresolved_at}
+use Rattle.eds_read_types.specs.WrongKind.{wrong_kind_at}
+use Rattle.eds_read_types.specs.BaseCycle.{breaks_cycle}
+use Rattle.eds_read_types.specs.LimitChain.{breaks_chain}
+use Rattle.eds_read_types.specs.UnsupportedEntry.{breaks_flat}
+use Rattle.eds_read_types.specs.BadEncoding.{breaks_encoding}
+use Rattle.eds_read_types.specs.EmptyRange.{breaks_range, breaks_sub_range}
+use Rattle.eds_read_types.specs.BadEnumeration.{breaks_enumeration}
+use Rattle.eds_read_types.specs.DuplicateEntry.{breaks_duplicate}
+use Rattle.eds_read_types.specs.TableBreaks.{rules, table_breaks}
+use Rattle.eds_read_types.proofs.NoBreaks.{append-none}
+
+-- ---- phases
+
+no_first : (rs others : List Refusal) → judged_first rs others ≡ [] → (rs ≡ []) × (others ≡ [])
+no_first [] others h = (refl, h)
+no_first (r ∷ rs) others h = cc
+
+abbrev IsNone : List Refusal → Type 0
+IsNone rs = rs ≡ []
+
+no_phase : (phase : List (List Refusal)) → breaks_in_phase phase ≡ [] → AllByRecursion IsNone phase
+no_phase [] h = tt
+no_phase (rule ∷ phase) h = let p = append-none rule (breaks_in_phase phase) h in (p.0, no_phase phase p.1)
+
+no_phases : (phases : List (List (List Refusal))) → breaks_by_phase phases ≡ [] → AllByRecursion (AllByRecursion IsNone) phases
+no_phases [] h = tt
+no_phases (phase ∷ phases) h = let p = no_first (breaks_in_phase phase) (breaks_by_phase phases) h in (no_phase phase p.0, no_phases phases p.1)
+
+-- ---- the rules
+
+-- the breaks of each rule are none
+pub record IsUnbroken (trees : List (List Node)) (names : Names) (word : Option (List ℕ)) : Type 0 where
+  pub resolved : judged_text (unresolved_at trees names) (word_place trees) AnyType word ≡ []
+  pub sort : judged_text (wrong_kind_at trees names) (word_place trees) AnyType word ≡ []
+  pub kinds : flat_map (judged_at (wrong_kind_at trees names) trees) (elements trees) ≡ []
+  pub cycles : breaks_cycle trees names ≡ []
+  pub chains : breaks_chain trees names ≡ []
+  pub flat : breaks_flat trees names ≡ []
+  pub encodings : breaks_encoding trees names ≡ []
+  pub ranges : breaks_range trees names ≡ []
+  pub subs : breaks_sub_range trees names ≡ []
+  pub enumerations : breaks_enumeration trees names ≡ []
+  pub duplicates : breaks_duplicate trees names ≡ []
+
+pub unbroken : (trees : List (List Node)) (names : Names) (word : Option (List ℕ)) → table_breaks trees names word ≡ [] → IsUnbroken trees names word
+unbroken trees names word h =
+    let all = no_phases (rules trees names word) h in
+    let found = append-none (flat_map (judged_at (unresolved_at trees names) trees) (elements trees)) _ all.0.0 in
+    let fitting = append-none (flat_map (judged_at (wrong_kind_at trees names) trees) (elements trees)) _ all.0.1.0 in
+    let bases = all.1.0 in
+    let scalars = all.1.1.0 in
+    let containers = all.1.1.1.0 in
+    record {
+      resolved = found.1;
+      sort = fitting.1;
+      kinds = fitting.0;
+      cycles = bases.0;
+      chains = bases.1.0;
+      flat = bases.1.1.0;
+      encodings = scalars.0;
+      ranges = scalars.1.0;
+      subs = scalars.1.1.0;
+      enumerations = scalars.1.1.1.0;
+      duplicates = containers.1.0;
+    }

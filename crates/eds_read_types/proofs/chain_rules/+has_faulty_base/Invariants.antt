@@ -1,4 +1,0 @@
-use Rattle.eds_read_types.proofs.chain_rules.+has_faulty_base.Given as goal
-
-abbrev pub decreases-has_faulty_base : goal.decreases-has_faulty_base
-decreases-has_faulty_base l = l.most

@@ -1,8 +1,0 @@
-use Rattle.std.proofs.Common.{arith}
-use Rattle.eds_read_types.proofs.BaseSteps.{least-next_type}
-use Rattle.eds_read_types.proofs.chain_rules.least_over_types.Goals as goal
-
-pub loop-id-preserved : goal.loop-id-preserved
-loop-id-preserved g c =
-    least-next_type (g.R.ChainRule.breaks c.args.chains.now.sheet.now.trees.now c.args.chains.now.sheet.now.types.now c.args.chains.now.bases.now) c.args.chains.now.sheet.now.types.now c.loop-id.id _ c.loop-id.found c.in_ok-here.here c.first-found.result _
-    (omega arith) c.in_ok-here.ensures c.first-found.ensures.first c.loop-id.invariant

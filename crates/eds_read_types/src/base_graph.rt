@@ -1,0 +1,125 @@
+//! The types of a sheet, each with the type that it derives from.
+
+ghost use Rattle.std.specs.Prelude.{◌≡◌, map, option_map, IfOk, length, slice_get};
+ghost use Rattle.std.specs.List.{range_with_len};
+ghost use Rattle.eds_read_types.specs.Bases.{base_named as base_named_in, base_found as base_found_by, bases_of as bases_in, base_at as base_in, is_in_cycle as is_in_cycle_of};
+
+use crate::element::{attribute, is_sub_range};
+use crate::named_trees::NamedTrees;
+use crate::reference::id_found;
+use eds_base::{Memory, Place, TypeId};
+use eds_tree::Tree;
+use std::alloc::Global;
+
+/// A sheet, and what its types derive from.
+#[derive(Drop)]
+pub(crate) struct BaseGraph<'a> {
+    pub(crate) sheet: &'a NamedTrees<'a>,
+    /// For each type the one that it derives from.
+    pub(crate) bases: &'a [Option<TypeId>],
+    /// For each type whether it is its own base.
+    pub(crate) cycles: &'a [bool],
+    ghost found: { bases.now ≡ bases_in sheet.now.trees.now sheet.now.space.now },
+    ghost judged: { cycles.now ≡ map (is_in_cycle_of bases.now) (range_with_len 0 (length bases.now)) },
+}
+
+/// The reference of a sub-range to its base.
+pub(crate) fn base_named(trees: &[Tree], at: Place) -> Option<&str>
+    ensures { option_map (λ t. t.now) result ≡ base_named_in trees.now at }
+{
+    if is_sub_range(trees, at) {
+        attribute(trees, "baseType", at)
+    } else {
+        None
+    }
+}
+
+/// The type that the base of a sub-range finds.
+pub(crate) fn base_found(
+    alloc: Global,
+    sheet: &NamedTrees,
+    at: Place,
+) -> Result<Option<TypeId>, Memory>
+    ensures { IfOk result (λ id. id ≡ base_found_by sheet.now.trees.now sheet.now.space.now at) }
+{
+    id_found(alloc, sheet, at, base_named(sheet.trees, at))
+}
+
+/// For each type the one that it derives from.
+pub(crate) fn bases_of(alloc: Global, sheet: &NamedTrees) -> Result<Vec<Option<TypeId>>, Memory>
+    ensures { IfOk result (λ b. b.items ≡ bases_in sheet.now.trees.now sheet.now.space.now) }
+{
+    let mut bases = Vec::new(alloc);
+    for at in sheet.types {
+        let base = base_found(alloc, sheet, *at)?;
+        bases.push(base)?;
+    }
+    Ok(bases)
+}
+
+/// The base of the type of a number.
+pub(crate) fn base_at(bases: &[Option<TypeId>], id: usize) -> Option<TypeId>
+    ensures { result ≡ base_in bases.now id }
+{
+    match bases.get(id) {
+        None => None,
+        Some(base) => *base,
+    }
+}
+
+/// Whether a type is its own base over one step or more.
+fn is_in_cycle(bases: &[Option<TypeId>], id: usize) -> bool
+    ensures { result ≡ is_in_cycle_of bases.now id }
+{
+    let mut at = id;
+    let mut left = bases.len();
+    while left > 0 {
+        match base_at(bases, at) {
+            None => return false,
+            Some(base) => {
+                let base = base.0 as usize;
+                if base == id {
+                    return true;
+                }
+                at = base;
+            }
+        }
+        left -= 1;
+    }
+    false
+}
+
+/// The element of the type of a number.
+pub(crate) fn type_at(graph: &BaseGraph, id: usize) -> Option<Place>
+    ensures { result ≡ slice_get graph.now.sheet.now.types.now id }
+{
+    graph.sheet.types.get(id).copied()
+}
+
+/// For each type whether it is its own base.
+pub(crate) fn cycles_of(alloc: Global, bases: &[Option<TypeId>]) -> Result<Vec<bool>, Memory>
+    ensures { IfOk result (λ c. c.items ≡ map (is_in_cycle_of bases.now) (range_with_len 0 (length bases.now))) }
+{
+    let mut cycles = Vec::new(alloc);
+    for id in 0..bases.len() {
+        cycles.push(is_in_cycle(bases, id))?;
+    }
+    Ok(cycles)
+}
+
+/// What is noted of a type, where there is such a type.
+fn flag_at(flags: &[bool], id: usize) -> Option<bool>
+    ensures { result ≡ slice_get flags.now id }
+{
+    flags.get(id).copied()
+}
+
+/// Whether a type is its own base over one step or more.
+pub(crate) fn is_cyclic(graph: &BaseGraph, id: usize) -> bool
+    ensures { result ≡ is_in_cycle_of graph.now.bases.now id }
+{
+    match flag_at(graph.cycles, id) {
+        None => false,
+        Some(cyclic) => cyclic,
+    }
+}
