@@ -13,6 +13,7 @@ mod Unbroken
 pub mod TableFacts
 pub mod FlatRules
 pub mod ChainFacts
+pub mod Circles
 pub mod NumberFacts
 pub mod TableRules
 pub mod Limits
