@@ -112,6 +112,8 @@ def plain(program, room):
         yield "unpack of " + name, run(program, ["unpack", "Flat/Word", name, sheet], {}), wanted
     gone = os.path.join(room, "gone.json")
     yield "check of no file", run(program, ["check", gone], {}), (8, b"no file %s\n" % gone.encode())
+    yield "check of no name", run(program, ["check", ""], {}), (8, b"no file \n")
+    yield "check of no octets", run(program, ["check", "/dev/null"], {}), (1, b"refused 1 NotJson at 0:0\n")
     with open("/dev/full", "wb") as full:
         yield "a full output", run(program, ["check", sheet], {}, stdout=full), (5, b"")
     closed = ["-c", 'exec "$0" "$@" >&-', program, "check", sheet]

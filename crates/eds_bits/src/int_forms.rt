@@ -80,6 +80,3 @@ fn reordered(form: IntForm, raw: u64) -> u64
         ByteOrder::Little => raw.swap_bytes() >> (64 - form.bits),
     }
 }
-
-#[cfg(test)]
-mod tests;

@@ -15,6 +15,3 @@ pub use int_forms::{Bounds, bounds_of, decode_int, encode_int};
 pub use octets::put_octets;
 pub use reader::{BitReader, BitView};
 pub use writer::put;
-
-#[cfg(test)]
-mod tests;

@@ -34,7 +34,7 @@ few_answer files c status report few answer = rw (le-leb (length c.sheets) sheet
 abbrev pub past_line : List ℕ
 past_line = codes "limit files 64\n"
 
-past_line_is : past_line ≡ limit_line what.Files sheet_count
+pub past_line_is : past_line ≡ limit_line what.Files sheet_count
 unfolding digits
 past_line_is = refl
 

@@ -1,4 +1,5 @@
 -- Words have exactly one answer over files.
+use Rattle.eds_base.specs.declared.fault.Fault.{Fault}
 use Rattle.std.proofs.Common.{◌≡◌, ℕ, ◌<◌, ◌≤◌, List, [], ◌++◌, length, Bool, true, false, nat_le, inl, inr, Option, Some, None, is_some, Result, Ok, Err, refl, sym, ◌∙◌, ap, subst, ◌⊎◌, arith}
 use Rattle.std.specs.Prelude.{IfSome}
 use Rattle.std.specs.Option.{option_map, option_map_or}
@@ -14,14 +15,15 @@ use Rattle.eds_overlap.specs.Laws.{IsReadable, IsThere, OneCanonical, OneOutcome
 use Rattle.eds_sheet.specs.declared.sheet.Sheet.{Sheet}
 use Rattle.eds_sheet.specs.Compiled.{compiled}
 use Rattle.eds_sheet.specs.Laws.{IsSound, SheetsAreSound}
-use Rattle.eds_types.specs.Failing.{FailsAt, Where}
-use Rattle.eds_types.specs.Packing.{PackFailsAt, Where as PackWhere, most_bits}
+use Rattle.eds_overlap.proofs.UnderivedTables.{flat_clear}
+use Rattle.eds_types.specs.Failing.{FailsAt, fault_at}
+use Rattle.eds_types.specs.Packing.{PackFailsAt, PackFault, most_bits, pack_fault_at}
 use Rattle.eds_types.specs.Plain.{Plain}
 use Rattle.eds_types.specs.Spelling.{Canon, Spells}
 use Rattle.eds_unpack.proofs.Fronts.{readable}
 use Rattle.eds_value.specs.declared.fail.ValueFail.{ValueFail}
 use Rattle.eds_value.specs.Json.{value_in}
-use Rattle.eds_value.specs.Shown.{shown_text}
+use Rattle.eds_value.specs.JsonOfValue.{json_text}
 use Rattle.eds_cmd.specs.declared.command.Verb.{Verb}
 use Rattle.eds_cmd.specs.declared.command.Verb.TheVariants.{Unpack, Pack}
 use Rattle.eds_cmd.specs.declared.status.Status.{Status}
@@ -31,7 +33,7 @@ use Rattle.eds_cmd.specs.declared.stop.Cause.{Cause}
 use Rattle.eds_cmd.specs.declared.stop.Cause.TheVariants as causes
 use Rattle.eds_cmd.specs.declared.stop.Stop.{Stop}
 use Rattle.eds_cmd.specs.Answer.{AnswersBy, AnswersCommand, AnswersFew, DoesBy, IsPast, IsWithin, WorksOn, accepted, input_for, or_refused, sheet_files}
-use Rattle.eds_cmd.specs.Command.{CommandWords, JobWords, command_of, word_of}
+use Rattle.eds_cmd.specs.Command.{CommandWords, JobWords, command_of, type_name_of}
 use Rattle.eds_cmd.specs.Laws.{OneAnswer, SomeAnswer}
 use Rattle.eds_cmd.specs.Limits.{report_octets, sheet_count}
 use Rattle.eds_cmd.specs.Pack.{PacksGiven, PacksValue, packed_report}
@@ -74,11 +76,11 @@ some_stop stop = inr (stop, itself stop)
 -- ---- a value by a type
 
 module _ (laws : ValueLaws) (type : TypeIn) (is : IsReadable type.table type.id) where
-  abbrev frame_stop : Where → Stop
-  frame_stop g = frame_fault type.table g.0 g.1
+  abbrev frame_stop : Fault → Stop
+  frame_stop g = frame_fault type.table g.reason g.path
 
-  abbrev pack_stop : PackWhere → Stop
-  pack_stop g = pack_fault type.table g.0 g.1
+  abbrev pack_stop : PackFault → Stop
+  pack_stop g = pack_fault type.table g.reason g.path
 
   there : IsThere type.table type.id
   there = record { rules = is.rules; there = is.there }
@@ -92,7 +94,7 @@ module _ (laws : ValueLaws) (type : TypeIn) (is : IsReadable type.table type.id)
   apart : (v w : Plain) (c d x y bits : Bits) → Begins type v c x bits → Begins type w d y bits → length x ≤ 7 → 8 ≤ length y → ⊥
   apart v w c d x y bits a b few many = let one = one_rest v w c d x y bits a b in omega (arith, one, few, many)
 
-  not_both : (v : Plain) (c x bits : Bits) (g : Where) → Begins type v c x bits → FailsAt type.table type.id bits g → ⊥
+  not_both : (v : Plain) (c x bits : Bits) (g : Fault) → Begins type v c x bits → FailsAt type.table type.id bits g → ⊥
   not_both v c x bits g b fails = (laws.outcome type.table type.id is bits).not_both v c x g b.split b.spelled fails
 
   one_of_bits : (bits : Bits) → IsOfOne (UnpacksBits type bits)
@@ -100,28 +102,28 @@ module _ (laws : ValueLaws) (type : TypeIn) (is : IsReadable type.table type.id)
       let one = (laws.outcome type.table type.id is bits).one_value u.value w.value u.front w.front u.rest w.rest u.begins.split w.begins.split u.begins.spelled w.begins.spelled in
       (u.status_is ∙ sym w.status_is, rw (u.report_is, w.report_is, one.0, one.1) refl)
   one_of_bits bits s o r l (inl u) (inr (inl t)) = absurd (apart u.value t.value u.front t.front u.rest t.rest bits u.begins t.begins u.few t.many)
-  one_of_bits bits s o r l (inl u) (inr (inr f)) = absurd (not_both u.value u.front u.rest bits (f.reason, f.path) u.begins f.fails)
+  one_of_bits bits s o r l (inl u) (inr (inr f)) = absurd (not_both u.value u.front u.rest bits (fault_at f.reason f.path) u.begins f.fails)
   one_of_bits bits s o r l (inr (inl t)) (inl u) = absurd (apart u.value t.value u.front t.front u.rest t.rest bits u.begins t.begins u.few t.many)
   one_of_bits bits s o r l (inr (inl t)) (inr (inl u)) = one_stop _ s o r l t.stop u.stop
-  one_of_bits bits s o r l (inr (inl t)) (inr (inr f)) = absurd (not_both t.value t.front t.rest bits (f.reason, f.path) t.begins f.fails)
-  one_of_bits bits s o r l (inr (inr f)) (inl u) = absurd (not_both u.value u.front u.rest bits (f.reason, f.path) u.begins f.fails)
-  one_of_bits bits s o r l (inr (inr f)) (inr (inl t)) = absurd (not_both t.value t.front t.rest bits (f.reason, f.path) t.begins f.fails)
+  one_of_bits bits s o r l (inr (inl t)) (inr (inr f)) = absurd (not_both t.value t.front t.rest bits (fault_at f.reason f.path) t.begins f.fails)
+  one_of_bits bits s o r l (inr (inr f)) (inl u) = absurd (not_both u.value u.front u.rest bits (fault_at f.reason f.path) u.begins f.fails)
+  one_of_bits bits s o r l (inr (inr f)) (inr (inl t)) = absurd (not_both t.value t.front t.rest bits (fault_at f.reason f.path) t.begins f.fails)
   one_of_bits bits s o r l (inr (inr f)) (inr (inr g)) =
-      let one = (laws.outcome type.table type.id is bits).one_place (f.reason, f.path) (g.reason, g.path) f.fails g.fails in
-      one_stop (frame_stop (g.reason, g.path)) s o r l (subst (λ w. IsStop (frame_stop w) s r) one f.stop) g.stop
+      let one = (laws.outcome type.table type.id is bits).one_place (fault_at f.reason f.path) (fault_at g.reason g.path) f.fails g.fails in
+      one_stop (frame_stop (fault_at g.reason g.path)) s o r l (subst (λ w. IsStop (frame_stop w) s r) one f.stop) g.stop
 
   some_of_bits : (bits : Bits) → IsOfSome (UnpacksBits type bits)
   some_of_bits bits = go (laws.outcome type.table type.id is bits).either
     where
-      go : (((v : Plain) × (c : Bits) × (rest : Bits) × (bits ≡ c ++ rest) × Spells type.table type.id v c) ⊎ ((g : Where) × FailsAt type.table type.id bits g)) → IsOfSome (UnpacksBits type bits)
+      go : (((v : Plain) × (c : Bits) × (rest : Bits) × (bits ≡ c ++ rest) × Spells type.table type.id v c) ⊎ ((g : Fault) × FailsAt type.table type.id bits g)) → IsOfSome (UnpacksBits type bits)
       go (inl k) =
           let begins : Begins type k.0 k.1 k.2 bits = record { split = k.3; spelled = k.4 } in
           elim (cases_lt 7 (length k.2)) [
             | inl many ↦ let stop = frame_fault type.table Trailing [] in
                 inr (stop, inr (inl (record { value = k.0; front = k.1; rest = k.2; begins = begins; many = omega (arith, many); stop = itself stop })))
-            | inr few ↦ inl (bits_report (shown_text type.table k.0) (length k.1), inl (record { value = k.0; front = k.1; rest = k.2; begins = begins; few = few; status_is = refl; report_is = refl }))
+            | inr few ↦ inl (bits_report (json_text type.table k.0) (length k.1), inl (record { value = k.0; front = k.1; rest = k.2; begins = begins; few = few; status_is = refl; report_is = refl }))
           ]
-      go (inr k) = let stop = frame_stop k.0 in inr (stop, inr (inr (record { reason = k.0.0; path = k.0.1; fails = k.1; stop = itself stop })))
+      go (inr k) = let stop = frame_stop k.0 in inr (stop, inr (inr (record { reason = (k.0).reason; path = (k.0).path; fails = k.1; stop = itself stop })))
 
   one_of_frame : (frame : Result (List ℕ) Stop) → IsOfOne (UnpacksFrame type frame)
   one_of_frame (Ok frame) = one_of_bits (bits_of frame)
@@ -135,18 +137,18 @@ module _ (laws : ValueLaws) (type : TypeIn) (is : IsReadable type.table type.id)
   one_of_value value s o r l (inl p) (inl q) =
       let one = laws.canonical type.table type.id there value p.bits q.bits p.canonical q.canonical in
       (p.status_is ∙ sym q.status_is, p.report_is ∙ ap packed_report one ∙ sym q.report_is)
-  one_of_value value s o r l (inl p) (inr f) = absurd ((laws.packing type.table type.id there value).not_both p.bits (f.reason, f.path) p.canonical p.within f.fails)
-  one_of_value value s o r l (inr f) (inl p) = absurd ((laws.packing type.table type.id there value).not_both p.bits (f.reason, f.path) p.canonical p.within f.fails)
+  one_of_value value s o r l (inl p) (inr f) = absurd ((laws.packing type.table type.id there value).not_both p.bits (pack_fault_at f.reason f.path) p.canonical p.within f.fails)
+  one_of_value value s o r l (inr f) (inl p) = absurd ((laws.packing type.table type.id there value).not_both p.bits (pack_fault_at f.reason f.path) p.canonical p.within f.fails)
   one_of_value value s o r l (inr f) (inr g) =
-      let one = (laws.packing type.table type.id there value).one_place (f.reason, f.path) (g.reason, g.path) f.fails g.fails in
-      one_stop (pack_stop (g.reason, g.path)) s o r l (subst (λ w. IsStop (pack_stop w) s r) one f.stop) g.stop
+      let one = (laws.packing type.table type.id there value).one_place (pack_fault_at f.reason f.path) (pack_fault_at g.reason g.path) f.fails g.fails in
+      one_stop (pack_stop (pack_fault_at g.reason g.path)) s o r l (subst (λ w. IsStop (pack_stop w) s r) one f.stop) g.stop
 
   some_of_value : (value : Plain) → IsOfSome (PacksValue type value)
   some_of_value value = go (laws.packing type.table type.id there value).either
     where
-      go : (((b : Bits) × Canon type.table type.id value b × (length b ≤ most_bits)) ⊎ ((g : PackWhere) × PackFailsAt type.table type.id value g)) → IsOfSome (PacksValue type value)
+      go : (((b : Bits) × Canon type.table type.id value b × (length b ≤ most_bits)) ⊎ ((g : PackFault) × PackFailsAt type.table type.id value g)) → IsOfSome (PacksValue type value)
       go (inl k) = inl (packed_report k.0, inl (record { bits = k.0; canonical = k.1; within = k.2; status_is = refl; report_is = refl }))
-      go (inr k) = let stop = pack_stop k.0 in inr (stop, inr (record { reason = k.0.0; path = k.0.1; fails = k.1; stop = itself stop }))
+      go (inr k) = let stop = pack_stop k.0 in inr (stop, inr (record { reason = (k.0).reason; path = (k.0).path; fails = k.1; stop = itself stop }))
 
   one_of_given : (value : Result Plain ValueFail) → IsOfOne (PacksGiven type value)
   one_of_given (Ok value) = one_of_value value
@@ -170,49 +172,49 @@ module _ (laws : ValueLaws) (type : TypeIn) (is : IsReadable type.table type.id)
 
 -- the type that a word names in a sheet can be read
 word_readable : (word : List ℕ) (sheet : Sheet) → IsSound (Some word) sheet → IsReadable (type_of sheet).table (type_of sheet).id
-word_readable word sheet s = readable sheet.table (type_of sheet).id s.rules s.flat (go sheet.word s.asked s.named)
+word_readable word sheet s = readable sheet.table (type_of sheet).id s.rules (flat_clear sheet.table s.flat (type_of sheet).id) (go sheet.word s.asked s.named)
   where
     go : (w : Option TypeId) → is_some w ≡ true → IfSome w (λ id. id.0 < length sheet.table) → option_map_or (λ id. id.0) w 0 < length sheet.table
     go (Some id) asked named = named
     go None asked named = absurd (cc asked)
 
 -- an accepted sheet is sound
-accepted_sound : SheetsAreSound → (files : Files) (c : CommandWords) (sheet : Sheet) → accepted files c ≡ Ok sheet → IsSound (word_of c) sheet
+accepted_sound : SheetsAreSound → (files : Files) (c : CommandWords) (sheet : Sheet) → accepted files c ≡ Ok sheet → IsSound (type_name_of c) sheet
 accepted_sound sound files c sheet is = go (sheet_files files 0 c.sheets) is
   where
     unrefused : (r : Result Sheet Refusal) → or_refused r ≡ Ok sheet → r ≡ Ok sheet
     unrefused (Ok found) e = cc e
     unrefused (Err refusal) e = absurd (cc e)
 
-    go : (read : Result (List (List ℕ)) Stop) → (read >>= λ octets. or_refused (compiled octets (word_of c))) ≡ Ok sheet → IsSound (word_of c) sheet
-    go (Ok octets) e = sound octets (word_of c) sheet (unrefused (compiled octets (word_of c)) e)
+    go : (read : Result (List (List ℕ)) Stop) → (read >>= λ octets. or_refused (compiled octets (type_name_of c))) ≡ Ok sheet → IsSound (type_name_of c) sheet
+    go (Ok octets) e = sound octets (type_name_of c) sheet (unrefused (compiled octets (type_name_of c)) e)
     go (Err stop) e = absurd (cc e)
 
 -- ---- the answer
 
 module _ (laws : ValueLaws) (files : Files) where
-  one_by_sheet : (job : Option JobWords) (sheet : Sheet) → IsSound (option_map (λ j. j.word) job) sheet → IsOfOne (DoesBy job files sheet)
+  one_by_sheet : (job : Option JobWords) (sheet : Sheet) → IsSound (option_map (λ j. j.type_name) job) sheet → IsOfOne (DoesBy job files sheet)
   one_by_sheet None sheet sound s o r l a b = (a.status_is ∙ sym b.status_is, a.report_is ∙ sym b.report_is)
-  one_by_sheet (Some job) sheet sound s o r l a b = one_of_work laws (type_of sheet) (word_readable job.word sheet sound) job.verb (input_for files job) s o r l a b
+  one_by_sheet (Some job) sheet sound s o r l a b = one_of_work laws (type_of sheet) (word_readable job.type_name sheet sound) job.verb (input_for files job) s o r l a b
 
-  some_by_sheet : (job : Option JobWords) (sheet : Sheet) → IsSound (option_map (λ j. j.word) job) sheet → IsOfSome (DoesBy job files sheet)
+  some_by_sheet : (job : Option JobWords) (sheet : Sheet) → IsSound (option_map (λ j. j.type_name) job) sheet → IsOfSome (DoesBy job files sheet)
   some_by_sheet None sheet sound = inl (counts_line sheet.counts, record { status_is = refl; report_is = refl })
-  some_by_sheet (Some job) sheet sound = some_of_work laws (type_of sheet) (word_readable job.word sheet sound) job.verb (input_for files job)
+  some_by_sheet (Some job) sheet sound = some_of_work laws (type_of sheet) (word_readable job.type_name sheet sound) job.verb (input_for files job)
 
   -- a report isn't both within its limit and past it
-  not_past : (job : Option JobWords) (sheet : Sheet) → IsSound (option_map (λ j. j.word) job) sheet → (s o : Status) (r l : List ℕ) → IsWithin job files sheet s r → IsPast job files sheet o l → ⊥
+  not_past : (job : Option JobWords) (sheet : Sheet) → IsSound (option_map (λ j. j.type_name) job) sheet → (s o : Status) (r l : List ℕ) → IsWithin job files sheet s r → IsPast job files sheet o l → ⊥
   not_past job sheet sound s o r l w p =
       let one = one_by_sheet job sheet sound s statuses.Done r p.whole w.does p.does in
       omega (arith, w.within one.0, p.past, ap length one.1)
 
-  one_by : (job : Option JobWords) (sheet : Result Sheet Stop) → ((found : Sheet) → sheet ≡ Ok found → IsSound (option_map (λ j. j.word) job) found) → IsOfOne (AnswersBy job files sheet)
+  one_by : (job : Option JobWords) (sheet : Result Sheet Stop) → ((found : Sheet) → sheet ≡ Ok found → IsSound (option_map (λ j. j.type_name) job) found) → IsOfOne (AnswersBy job files sheet)
   one_by job (Ok sheet) sound s o r l (inl w) (inl x) = one_by_sheet job sheet (sound sheet refl) s o r l w.does x.does
   one_by job (Ok sheet) sound s o r l (inl w) (inr p) = absurd (not_past job sheet (sound sheet refl) s o r l w p)
   one_by job (Ok sheet) sound s o r l (inr p) (inl w) = absurd (not_past job sheet (sound sheet refl) o s l r w p)
   one_by job (Ok sheet) sound s o r l (inr p) (inr q) = one_stop _ s o r l p.stop q.stop
   one_by job (Err stop) sound s o r l a b = one_stop stop s o r l a b
 
-  some_by : (job : Option JobWords) (sheet : Result Sheet Stop) → ((found : Sheet) → sheet ≡ Ok found → IsSound (option_map (λ j. j.word) job) found) → (status : Status) × (report : List ℕ) × AnswersBy job files sheet status report
+  some_by : (job : Option JobWords) (sheet : Result Sheet Stop) → ((found : Sheet) → sheet ≡ Ok found → IsSound (option_map (λ j. j.type_name) job) found) → (status : Status) × (report : List ℕ) × AnswersBy job files sheet status report
   some_by job (Ok sheet) sound = go (some_by_sheet job sheet (sound sheet refl))
     where
       go : IsOfSome (DoesBy job files sheet) → (status : Status) × (report : List ℕ) × AnswersBy job files (Ok sheet) status report

@@ -7,9 +7,9 @@ use Rattle.eds_base.specs.Answering.{◌>>=◌}
 use Rattle.eds_io.specs.Files.{Files}
 use Rattle.eds_cmd.specs.declared.stop.Stop.{Stop}
 use Rattle.std.specs.Result.{IsErrAnd}
-use Rattle.eds_cmd.specs.declared.halt.Halt.{Halt}
-use Rattle.eds_cmd.specs.declared.halt.Halt.TheVariants.{Stopped, Unread, Memory}
-use Rattle.eds_cmd.specs.Halts.{HaltsAs, OnUnread}
+use Rattle.eds_cmd.specs.declared.ended.Ended.{Ended}
+use Rattle.eds_cmd.specs.declared.ended.Ended.TheVariants.{Stopped, Unread, Memory}
+use Rattle.eds_cmd.specs.Endings.{EndedAs, OnUnread}
 use Rattle.eds_cmd.specs.Answer.{AreThere, IsReached, IsReachedSheet, sheet_file, sheet_files}
 use Rattle.eds_cmd.specs.Command.{CommandWords}
 use Rattle.eds_cmd.specs.Limits.{sheet_count, sheet_octets, sheets_octets}
@@ -105,29 +105,29 @@ sheet_reached files names i name sheets within name_is so_far =
     let P : Result (List (List ℕ)) Stop → Type 0 = λ r. IsOk r in
     record { before = take i names; behind = drop (i + 1) names; split = split_at names i name within name_is; are_read = subst P (sym so_far) refl }
 
--- a halt that the reading of a file comes to is one of the reading of all
-pub halt_told : (files : Files) (names : List (List ℕ)) (i before : ℕ) (name : List ℕ) (halt : Halt) (sheets : List (List ℕ)) → i < length names → name ≡ get_or names i name
-    → before ≡ sum_by length sheets → sheet_files files 0 (take i names) ≡ are sheets → HaltsAs halt (sheet_file files before name) → HaltsAs halt (sheet_files files 0 names)
-halt_told files names i before name (Stopped stop) sheets within name_is all so_far h = sheet_files-stop files names i before name stop sheets within name_is all so_far h
-halt_told files names i before name (Unread n) sheets within name_is all so_far h = h
-halt_told files names i before name Memory sheets within name_is all so_far h = h
+-- a ended that the reading of a file comes to is one of the reading of all
+pub ended_told : (files : Files) (names : List (List ℕ)) (i before : ℕ) (name : List ℕ) (ended : Ended) (sheets : List (List ℕ)) → i < length names → name ≡ get_or names i name
+    → before ≡ sum_by length sheets → sheet_files files 0 (take i names) ≡ are sheets → EndedAs ended (sheet_file files before name) → EndedAs ended (sheet_files files 0 names)
+ended_told files names i before name (Stopped stop) sheets within name_is all so_far h = sheet_files-stop files names i before name stop sheets within name_is all so_far h
+ended_told files names i before name (Unread n) sheets within name_is all so_far h = h
+ended_told files names i before name Memory sheets within name_is all so_far h = h
 
 -- the file of a read that failed is reached
-pub halt_reached : (files : Files) (names : List (List ℕ)) (name : List ℕ) (halt : Halt) (Risen : List ℕ → Type 0) → IsReachedSheet files names name → OnUnread halt (λ n. (n ≡ name) × Risen n)
-    → OnUnread halt (IsReachedSheet files names)
-halt_reached files names name (Stopped stop) Risen reached h = h
-halt_reached files names name (Unread n) Risen reached h = rw (h.0) reached
-halt_reached files names name Memory Risen reached h = h
+pub ended_reached : (files : Files) (names : List (List ℕ)) (name : List ℕ) (ended : Ended) (Risen : List ℕ → Type 0) → IsReachedSheet files names name → OnUnread ended (λ n. (n ≡ name) × Risen n)
+    → OnUnread ended (IsReachedSheet files names)
+ended_reached files names name (Stopped stop) Risen reached h = h
+ended_reached files names name (Unread n) Risen reached h = rw (h.0) reached
+ended_reached files names name Memory Risen reached h = h
 
-pub halt_of_sheets : (files : Files) (c : CommandWords) (halt : Halt) → length c.sheets ≤ sheet_count → OnUnread halt (IsReachedSheet files c.sheets) → OnUnread halt (IsReached files c)
-halt_of_sheets files c (Stopped stop) few h = h
-halt_of_sheets files c (Unread n) few h = record { few = few; reached = inl h }
-halt_of_sheets files c Memory few h = h
+pub ended_by_sheets : (files : Files) (c : CommandWords) (ended : Ended) → length c.sheets ≤ sheet_count → OnUnread ended (IsReachedSheet files c.sheets) → OnUnread ended (IsReached files c)
+ended_by_sheets files c (Stopped stop) few h = h
+ended_by_sheets files c (Unread n) few h = record { few = few; reached = inl h }
+ended_by_sheets files c Memory few h = h
 
 -- an error that is handed on
-pub handed_on : {X : Type 0} (r : Result X Halt) (halt : Halt) → IsErrAnd r (λ e. e ≡ halt) → r ≡ Err halt
-handed_on (Ok x) halt h = absurd h
-handed_on (Err e) halt h = rw h refl
+pub handed_on : {X : Type 0} (r : Result X Ended) (ended : Ended) → IsErrAnd r (λ e. e ≡ ended) → r ≡ Err ended
+handed_on (Ok x) ended h = absurd h
+handed_on (Err e) ended h = rw h refl
 
 -- files that are there and within their limits are read
 pub there_read : (files : Files) (at : ℕ) (names sheets : List (List ℕ)) → AreThere files names sheets → at + sum_by length sheets ≤ sheets_octets → sheet_files files at names ≡ are sheets

@@ -6,7 +6,7 @@ use Rattle.eds_base.specs.declared.fault.Reason.TheVariants.{Trailing}
 use Rattle.eds_bits.specs.Bits.{Bits}
 use Rattle.eds_types.specs.Plain.{Plain}
 use Rattle.eds_types.specs.Spelling.{Spells}
-use Rattle.eds_value.specs.Shown.{shown_text}
+use Rattle.eds_value.specs.JsonOfValue.{json_text}
 use Rattle.eds_cmd.specs.declared.status.Status.TheVariants as statuses
 use Rattle.eds_cmd.specs.declared.stop.Stop.{Stop}
 use Rattle.eds_cmd.specs.Reports.{bits_report}
@@ -20,7 +20,7 @@ begins type value size bits spelled = record { split = sym (take-append-drop siz
 
 -- at most 7 bits follow
 pub unpacked_by : (type : TypeIn) (value : Plain) (size : ℕ) (bits : Bits) (report : List ℕ) → size ≤ length bits → length bits < size + 8
-    → Spells type.table type.id value (take size bits) → report ≡ bits_report (shown_text type.table value) size → UnpacksBits type bits statuses.Done report
+    → Spells type.table type.id value (take size bits) → report ≡ bits_report (json_text type.table value) size → UnpacksBits type bits statuses.Done report
 unpacked_by type value size bits report within few spelled is = inl (record {
   value = value;
   front = take size bits;
@@ -28,7 +28,7 @@ unpacked_by type value size bits report within few spelled is = inl (record {
   begins = begins type value size bits spelled;
   few = omega (arith, length-drop size bits);
   status_is = refl;
-  report_is = is ∙ ap (λ (n : ℕ). bits_report (shown_text type.table value) n) (sym (length-take-le size bits within));
+  report_is = is ∙ ap (λ (n : ℕ). bits_report (json_text type.table value) n) (sym (length-take-le size bits within));
 })
 
 -- 8 bits or more follow

@@ -3,7 +3,7 @@ use Rattle.std.proofs.Common.{◌≡◌, ℕ, List, length, true, nat_le, inl, O
 use Rattle.std.proofs.lemmas.Bool.{le-leb}
 use Rattle.eds_io.specs.Files.{Files}
 use Rattle.eds_sheet.specs.declared.sheet.Sheet.{Sheet}
-use Rattle.eds_value.specs.Shown.{shown_text}
+use Rattle.eds_value.specs.JsonOfValue.{json_text}
 use Rattle.eds_cmd.specs.declared.command.Verb.{Verb}
 use Rattle.eds_cmd.specs.declared.command.Verb.TheVariants.{Unpack, Pack}
 use Rattle.eds_cmd.specs.declared.status.Status.{Status}
@@ -29,7 +29,7 @@ valid_frame type text v = rw (v.hex, le-leb (length v.frame) frame_octets v.with
 -- a report says what is done with a valid input
 valid_work : (verb : Verb) (type : TypeIn) (input : List ℕ) → IsValidInput verb type input → (report : List ℕ) × Works verb type input statuses.Done report
 valid_work Unpack type input v = (
-  bits_report (shown_text type.table v.value) (length v.front),
+  bits_report (json_text type.table v.value) (length v.front),
   rw (valid_frame type input v) (inl (record { value = v.value; front = v.front; rest = v.rest; begins = v.begins; few = v.few; status_is = refl; report_is = refl })),
 )
 valid_work Pack type input v = (packed_report v.bits, rw v.given (inl (record { bits = v.bits; canonical = v.canonical; within = v.within; status_is = refl; report_is = refl })))

@@ -18,7 +18,7 @@ use Rattle.eds_cmd.specs.declared.status.Status.TheVariants as statuses
 use Rattle.eds_cmd.specs.declared.status.What.{What}
 use Rattle.eds_cmd.specs.declared.status.What.TheVariants as what
 use Rattle.eds_cmd.specs.declared.stop.Stop.{Stop}
-use Rattle.eds_cmd.specs.Command.{CommandWords, JobWords, command_of, input_most, word_of}
+use Rattle.eds_cmd.specs.Command.{CommandWords, JobWords, command_of, input_most, type_name_of}
 use Rattle.eds_cmd.specs.Hex.{hex_octets}
 use Rattle.eds_cmd.specs.Pack.{Packs}
 use Rattle.eds_cmd.specs.Reports.{counts_line, usage_line}
@@ -28,18 +28,20 @@ use Rattle.eds_cmd.specs.Unpack.{Begins, Unpacks}
 
 -- ---- what stands before the work
 
+-- the octets of a file that may be there, which are at most so many
 abbrev pub whole_from : Option (List ℕ) → List ℕ → What → ℕ → Result (List ℕ) Stop
 whole_from None name what most = Err (missing name)
 whole_from (Some file) name what most = if nat_le (length file) most then Ok file else Err (limited what most)
 
--- the octets of a file, which are at most so many
+-- the octets of the file of a name, which are at most so many
 abbrev pub whole_file : Files → List ℕ → What → ℕ → Result (List ℕ) Stop
 whole_file files name what most = whole_from (file_named name files) name what most
 
--- the octets of a sheet file, behind files of so many octets: together they are no more than all sheet files may have
+-- octets behind files of so many octets: together they are no more than all sheet files may have
 abbrev pub within_sheets : ℕ → List ℕ → Result (List ℕ) Stop
 within_sheets before octets = if nat_le (before + length octets) sheets_octets then Ok octets else Err (limited what.Sheets sheets_octets)
 
+-- the octets of a sheet file, behind files of so many octets
 abbrev pub sheet_file : Files → ℕ → List ℕ → Result (List ℕ) Stop
 sheet_file files before name = whole_file files name what.File sheet_octets >>= within_sheets before
 
@@ -51,13 +53,14 @@ sheet_files files before (name ∷ names) = do
   others ← sheet_files files (before + length octets) names
   Ok (octets ∷ others)
 
+-- a compiled sheet, or the stop for its refusal
 abbrev pub or_refused : Result Sheet Refusal → Result Sheet Stop
 or_refused (Ok sheet) = Ok sheet
 or_refused (Err refusal) = Err (refused refusal)
 
--- the sheet of a command, with the type that its word names
+-- the sheet of a command, with the type that the command names
 abbrev pub accepted : Files → CommandWords → Result Sheet Stop
-accepted files c = sheet_files files 0 c.sheets >>= λ octets. or_refused (compiled octets (word_of c))
+accepted files c = sheet_files files 0 c.sheets >>= λ octets. or_refused (compiled octets (type_name_of c))
 
 -- the octets of the input file
 abbrev pub input_for : Files → JobWords → Result (List ℕ) Stop
@@ -74,6 +77,7 @@ abbrev pub Works : Verb → TypeIn → List ℕ → Status → List ℕ → Type
 Works Unpack type input status report = Unpacks type input status report
 Works Pack type input status report = Packs type input status report
 
+-- the same, where the input file may have ended the command
 abbrev pub WorksOn : Verb → TypeIn → Result (List ℕ) Stop → Status → List ℕ → Type 0
 WorksOn verb type (Ok input) status report = Works verb type input status report
 WorksOn verb type (Err stop) status report = IsStop stop status report
@@ -88,27 +92,29 @@ abbrev pub DoesBy : Option JobWords → Files → Sheet → Status → List ℕ 
 DoesBy None files sheet status report = IsCounted sheet status report
 DoesBy (Some job) files sheet status report = WorksOn job.verb (type_of sheet) (input_for files job) status report
 
--- that, where the report of what is done is no longer than a report may be
+-- what is done by an accepted sheet comes to this status and report, and the report is no longer than a report may be
 pub record IsWithin (job : Option JobWords) (files : Files) (sheet : Sheet) (status : Status) (report : List ℕ) : Type 0 where
   pub does : DoesBy job files sheet status report
   pub within : status ≡ statuses.Done → length report ≤ report_octets
 
--- the report of what is done is longer
+-- what is done by an accepted sheet comes to a report that is longer than a report may be, so that limit is passed
 pub record IsPast (job : Option JobWords) (files : Files) (sheet : Sheet) (status : Status) (report : List ℕ) : Type 0 where
   pub whole : List ℕ
   pub does : DoesBy job files sheet statuses.Done whole
   pub past : report_octets < length whole
   pub stop : IsStop (limited what.Report report_octets) status report
 
+-- what a command comes to by its sheet, which may have ended it
 abbrev pub AnswersBy : Option JobWords → Files → Result Sheet Stop → Status → List ℕ → Type 0
 AnswersBy job files (Ok sheet) status report = IsWithin job files sheet status report ⊎ IsPast job files sheet status report
 AnswersBy job files (Err stop) status report = IsStop stop status report
 
--- the sheet files are no more than a command may have, or they are
+-- what a command comes to, given whether its sheet files are no more than there may be
 abbrev pub AnswersFew : Bool → CommandWords → Files → Status → List ℕ → Type 0
 AnswersFew true c files status report = AnswersBy c.job files (accepted files c) status report
 AnswersFew false c files status report = IsStop (limited what.Files sheet_count) status report
 
+-- what the command comes to that words are, where they are one
 abbrev pub AnswersCommand : Option CommandWords → Files → Status → List ℕ → Type 0
 AnswersCommand None files status report = (status ≡ statuses.Usage) × (report ≡ usage_line)
 AnswersCommand (Some c) files status report = AnswersFew (nat_le (length c.sheets) sheet_count) c files status report
@@ -157,6 +163,7 @@ pub record IsValidValue (type : TypeIn) (text : List ℕ) : Type 0 where
   pub canonical : Canon type.table type.id value bits
   pub within : length bits ≤ most_bits
 
+-- the input is valid for what is done with it
 abbrev pub IsValidInput : Verb → TypeIn → List ℕ → Type 0
 IsValidInput Unpack type text = IsValidFrame type text
 IsValidInput Pack type text = IsValidValue type text
@@ -188,6 +195,6 @@ pub record IsValid (files : Files) (c : CommandWords) : Type 0 where
   pub there : AreThere files c.sheets octets
   pub within : sum_by length octets ≤ sheets_octets
   pub sheet : Sheet
-  pub sheet_accepted : compiled octets (word_of c) ≡ Ok sheet
+  pub sheet_accepted : compiled octets (type_name_of c) ≡ Ok sheet
   pub input_valid : IsValidFor files c.job sheet
   pub short : (report : List ℕ) → DoesBy c.job files sheet statuses.Done report → length report ≤ report_octets

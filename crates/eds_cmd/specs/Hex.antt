@@ -7,6 +7,7 @@ use Rattle.hex.specs.Hex.{decode_of}
 abbrev pub is_blank : ℕ → Bool
 is_blank c = c == 32 || c == 9 || c == 13 || c == 10
 
+-- a text without its blanks
 abbrev pub digits_of : List ℕ → List ℕ
 digits_of text = filter (λ c. not (is_blank c)) text
 

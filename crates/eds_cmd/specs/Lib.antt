@@ -4,7 +4,7 @@ pub mod Reports
 pub mod Hex
 pub mod Command
 pub mod Stops
-pub mod Halts
+pub mod Endings
 pub mod Target
 pub mod Unpack
 pub mod Pack

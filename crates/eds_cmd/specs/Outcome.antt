@@ -31,6 +31,7 @@ has_report Memory = false
 has_report (Limit what most) = true
 has_report (NoFile name) = true
 
+-- whether the status is that of words that are no command
 abbrev pub is_usage : Status → Bool
 is_usage Done = false
 is_usage (Sheet refusal) = false

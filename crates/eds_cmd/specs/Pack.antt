@@ -4,7 +4,7 @@ use Rattle.hex.specs.Hex.{encode_lower}
 use Rattle.eds_base.specs.declared.fault.Step.{Step}
 use Rattle.eds_bits.specs.Bits.{Bits, octets_of}
 use Rattle.eds_types.specs.declared.reason.PackReason.{PackReason}
-use Rattle.eds_types.specs.Packing.{PackFailsAt, most_bits}
+use Rattle.eds_types.specs.Packing.{PackFailsAt, most_bits, pack_fault_at}
 use Rattle.eds_types.specs.Plain.{Plain}
 use Rattle.eds_types.specs.Spelling.{Canon}
 use Rattle.eds_value.specs.declared.fail.ValueFail.{ValueFail}
@@ -31,13 +31,14 @@ pub record IsPacked (type : TypeIn) (value : Plain) (status : Status) (report : 
 pub record IsUnfit (type : TypeIn) (value : Plain) (status : Status) (report : List ℕ) : Type 0 where
   pub reason : PackReason
   pub path : List Step
-  pub fails : PackFailsAt type.table type.id value (reason, path)
+  pub fails : PackFailsAt type.table type.id value (pack_fault_at reason path)
   pub stop : IsStop (pack_fault type.table reason path) status report
 
 -- packing a value comes to this status and report
 abbrev pub PacksValue : TypeIn → Plain → Status → List ℕ → Type 0
 PacksValue type value status report = IsPacked type value status report ⊎ IsUnfit type value status report
 
+-- packing what the text of a value gave comes to this status and report
 abbrev pub PacksGiven : TypeIn → Result Plain ValueFail → Status → List ℕ → Type 0
 PacksGiven type (Ok value) status report = PacksValue type value status report
 PacksGiven type (Err fail) status report = IsStop (value_fault type.table fail) status report

@@ -25,9 +25,11 @@ kept_text Nothing = []
 kept_text (Word word) = codes " " ++ word
 kept_text (Overlap note) = codes " " ++ note.first ++ codes " " ++ note.second ++ common_text note.common
 
+-- `NUMBER RULE`
 abbrev pub rule_text : Rule → List ℕ
 rule_text rule = decimal (rule_number rule) ++ codes " " ++ rule_name rule
 
+-- `FILE:NODE`
 abbrev pub place_text : Place → List ℕ
 place_text place = decimal place.file ++ codes ":" ++ decimal place.node
 
@@ -37,12 +39,15 @@ refusal_line r = codes "refused " ++ rule_text r.rule ++ codes " at " ++ place_t
 
 -- ---- files and limits
 
+-- `no file NAME`
 abbrev pub no_file_line : List ℕ → List ℕ
 no_file_line name = codes "no file " ++ name ++ codes "\n"
 
+-- `read fault NAME`
 abbrev pub read_fault_line : List ℕ → List ℕ
 read_fault_line name = codes "read fault " ++ name ++ codes "\n"
 
+-- the word of a limit
 abbrev pub what_text : What → List ℕ
 what_text Files = codes "files"
 what_text File = codes "file"
@@ -51,14 +56,17 @@ what_text Input = codes "input"
 what_text Frame = codes "frame"
 what_text Report = codes "report"
 
+-- `limit WHAT MOST`
 abbrev pub limit_line : What → ℕ → List ℕ
 limit_line what most = codes "limit " ++ what_text what ++ codes " " ++ decimal most ++ codes "\n"
 
+-- what words that are no command are told
 abbrev pub usage_line : List ℕ
 usage_line = codes "usage: eds COMMAND ARGUMENTS\n"
 
 -- ---- an accepted sheet
 
+-- ` NAME COUNT`
 unfoldable pub count_text : List ℕ → ℕ → List ℕ
 count_text name count = codes " " ++ name ++ codes " " ++ decimal count
 

@@ -19,6 +19,7 @@ use Rattle.eds_cmd.specs.declared.stop.Cause.TheVariants.{Sheet as Refused, Data
 use Rattle.eds_cmd.specs.declared.stop.Stop.{Stop}
 use Rattle.eds_cmd.specs.Reports.{fault_line, limit_line, no_file_line, refusal_line}
 
+-- the status of a command that ends for this cause
 abbrev pub status_of : Cause → Status
 status_of (Refused refusal) = statuses.Sheet refusal
 status_of (Data fault) = statuses.Data fault
@@ -30,15 +31,19 @@ pub record IsStop (stop : Stop) (status : Status) (report : List ℕ) : Type 0 w
   pub status_is : status ≡ status_of stop.cause
   pub report_is : report ≡ stop.report
 
+-- there is no file of that name
 abbrev pub missing : List ℕ → Stop
 missing name = record { cause = NoFile name; report = no_file_line name }
 
+-- a limit is passed, whose most is this number
 abbrev pub limited : What → ℕ → Stop
 limited what most = record { cause = Limit what most; report = limit_line what most }
 
+-- the sheet breaks a rule
 abbrev pub refused : Refusal → Stop
 refused refusal = record { cause = Refused refusal; report = refusal_line refusal }
 
+-- the text of a frame is no hex
 abbrev pub bad_hex : Stop
 bad_hex = record { cause = Data faults.Hex; report = fault_line (codes "BadHex") (codes "$") }
 
@@ -47,12 +52,14 @@ abbrev pub value_fault : Table → ValueFail → Stop
 value_fault t NotJson = record { cause = Data (faults.Json NotJson); report = fault_line (codes "NotJson") (codes "$") }
 value_fault t (WrongShape path) = record { cause = Data (faults.Json (WrongShape path)); report = fault_line (codes "WrongShape") (path_text t path) }
 
+-- a value of the table can't be packed, for this reason at this path
 abbrev pub pack_fault : Table → PackReason → List Step → Stop
 pack_fault t reason path = record {
   cause = Data (faults.Pack (record { reason = reason; path = path; need = 0 }));
   report = fault_line (pack_reasons.reason_name reason) (path_text t path);
 }
 
+-- a frame can't be read as a value of the table, for this reason at this path
 abbrev pub frame_fault : Table → Reason → List Step → Stop
 frame_fault t reason path = record {
   cause = Data (faults.Frame (record { reason = reason; path = path }));

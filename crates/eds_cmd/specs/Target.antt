@@ -11,10 +11,11 @@ pub record TypeIn : Type 0 where
   pub table : Table
   pub id : ℕ
 
+-- the type that a target is
 abbrev pub type_in : Target → TypeIn
 type_in t = record { table = t.table.now; id = t.id.0 }
 
--- the type that the word of a command names, which compiling a sheet has found; the first one where there is no word
+-- the type that a command names, which compiling a sheet has found; the first one where it names none
 abbrev pub type_of : Sheet → TypeIn
 type_of sheet = record { table = sheet.table; id = option_map_or (λ id. id.0) sheet.word 0 }
 

@@ -5,10 +5,10 @@ use Rattle.eds_base.specs.declared.fault.Reason.{Reason}
 use Rattle.eds_base.specs.declared.fault.Reason.TheVariants.{Trailing}
 use Rattle.eds_base.specs.Answering.{◌>>=◌, or_stop}
 use Rattle.eds_bits.specs.Bits.{Bits, bits_of}
-use Rattle.eds_types.specs.Failing.{FailsAt}
+use Rattle.eds_types.specs.Failing.{FailsAt, fault_at}
 use Rattle.eds_types.specs.Plain.{Plain}
 use Rattle.eds_types.specs.Spelling.{Spells}
-use Rattle.eds_value.specs.Shown.{shown_text}
+use Rattle.eds_value.specs.JsonOfValue.{json_text}
 use Rattle.eds_cmd.specs.Limits.{frame_octets}
 use Rattle.eds_cmd.specs.declared.status.Status.{Status}
 use Rattle.eds_cmd.specs.declared.status.Status.TheVariants as statuses
@@ -21,6 +21,7 @@ use Rattle.eds_cmd.specs.Target.{TypeIn}
 
 -- ---- the frame
 
+-- the octets of a frame, which are no more than a frame may have
 abbrev pub within_frame : List ℕ → Result (List ℕ) Stop
 within_frame octets = if nat_le (length octets) frame_octets then Ok octets else Err (limited Frame frame_octets)
 
@@ -43,7 +44,7 @@ pub record IsUnpacked (type : TypeIn) (bits : Bits) (status : Status) (report : 
   pub begins : Begins type value front rest bits
   pub few : length rest ≤ 7
   pub status_is : status ≡ statuses.Done
-  pub report_is : report ≡ bits_report (shown_text type.table value) (length front)
+  pub report_is : report ≡ bits_report (json_text type.table value) (length front)
 
 -- a front of the bits spells a value, and 8 bits or more follow
 pub record IsTrailing (type : TypeIn) (bits : Bits) (status : Status) (report : List ℕ) : Type 0 where
@@ -58,13 +59,14 @@ pub record IsTrailing (type : TypeIn) (bits : Bits) (status : Status) (report : 
 pub record IsFaulty (type : TypeIn) (bits : Bits) (status : Status) (report : List ℕ) : Type 0 where
   pub reason : Reason
   pub path : List Step
-  pub fails : FailsAt type.table type.id bits (reason, path)
+  pub fails : FailsAt type.table type.id bits (fault_at reason path)
   pub stop : IsStop (frame_fault type.table reason path) status report
 
 -- unpacking the bits of a frame comes to this status and report
 abbrev pub UnpacksBits : TypeIn → Bits → Status → List ℕ → Type 0
 UnpacksBits type bits status report = IsUnpacked type bits status report ⊎ (IsTrailing type bits status report ⊎ IsFaulty type bits status report)
 
+-- unpacking what the text of a frame gave comes to this status and report
 abbrev pub UnpacksFrame : TypeIn → Result (List ℕ) Stop → Status → List ℕ → Type 0
 UnpacksFrame type (Ok frame) status report = UnpacksBits type (bits_of frame) status report
 UnpacksFrame type (Err stop) status report = IsStop stop status report

@@ -1,7 +1,7 @@
 //! The words of a command.
 
 ghost use Rattle.std.specs.Prelude.{◌≡◌, option_map};
-ghost use Rattle.eds_cmd.specs.Command.{check_of as check_in, command_of as command_in, input_most as most_input, job_of as job_in, verb_of as verb_in, word_of as word_in, words_of};
+ghost use Rattle.eds_cmd.specs.Command.{check_of as check_in, command_of as command_in, input_most as most_input, job_of as job_in, verb_of as verb_in, type_name_of as type_name_in, words_of};
 
 use crate::limits::{HEX_OCTETS, JSON_OCTETS};
 use eds_base::Text;
@@ -20,7 +20,7 @@ pub enum Verb {
 #[derive(Clone, Copy, Debug)]
 pub struct Job<'a> {
     pub verb: Verb,
-    pub word: &'a str,
+    pub type_name: &'a str,
     pub input: &'a str,
 }
 
@@ -34,13 +34,10 @@ pub struct Command<'a> {
 
 impl<'a> Command<'a> {
     /// The name of the type, where the command names one.
-    pub fn word(&self) -> Option<&'a str>
-        ensures { option_map (λ w. w.now) result ≡ word_in (words_of self.now) }
+    pub fn type_name(&self) -> Option<&'a str>
+        ensures { option_map (λ w. w.now) result ≡ type_name_in (words_of self.now) }
     {
-        match self.job {
-            Some(job) => Some(job.word),
-            None => None,
-        }
+        Some(self.job?.type_name)
     }
 }
 
@@ -77,10 +74,10 @@ fn job_of(verb: Verb, words: &[Text]) -> Option<Command<'_>>
         [] => None,
         [_] => None,
         [_, _] => None,
-        [word, input, sheets @ ..] => Some(Command {
+        [type_name, input, sheets @ ..] => Some(Command {
             job: Some(Job {
                 verb,
-                word: word.as_str(),
+                type_name: type_name.as_str(),
                 input: input.as_str(),
             }),
             sheets,

@@ -2,7 +2,7 @@
 #![tactic(auto)]
 
 mod command;
-mod halt;
+mod ended;
 mod hex_text;
 mod law;
 mod limits;

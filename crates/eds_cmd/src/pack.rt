@@ -1,7 +1,7 @@
 //! From the text of a value to the report on its octets.
 
 ghost use Rattle.std.specs.Prelude.{◌≡◌, IfErr, IfOk, Ok, string_bytes};
-ghost use Rattle.eds_cmd.specs.Halts.{EndsAs, StopSays};
+ghost use Rattle.eds_cmd.specs.Endings.{EndsAs, StopSays};
 ghost use Rattle.eds_cmd.specs.Pack.{Packs, PacksValue};
 ghost use Rattle.eds_cmd.specs.Target.{IsKnown, type_in};
 ghost use Rattle.eds_types.specs.Plain.{plain};
@@ -11,7 +11,7 @@ use crate::report::bits_report;
 use crate::stop::{Stop, pack_fault, value_fault};
 use crate::target::Target;
 use eds_base::Fail;
-use eds_pack::pack;
+use eds_pack::{law, pack};
 use eds_types::Value;
 use eds_value::from_json;
 use std::alloc::Global;
@@ -34,6 +34,7 @@ fn packed_value(alloc: Global, target: &Target<'_>, value: &Value) -> Result<Str
     requires { IsKnown (type_in target.now) }
     ensures { EndsAs string_bytes (PacksValue (type_in target.now) (plain value.now)) result }
 {
+    law::flat_is_built();
     match pack(alloc, target.table, target.id, value) {
         Ok((octets, size)) => {
             let text = hex::encode(alloc, octets.as_slice())?;

@@ -9,11 +9,11 @@ ghost use Rattle.eds_types.specs.FlatTables.{IsFlatTable};
 ghost use Rattle.eds_sheet.specs.Compiled.{compiled};
 ghost use Rattle.eds_cmd.specs.Answer.{AnswersFew, DoesBy, IsReached, IsReachedSheet, Works, accepted, input_for as input_of, or_refused, sheet_file as sheet_of_name, sheet_files as sheets_of_names, whole_file as whole, within_report as within_limit};
 ghost use Rattle.eds_cmd.specs.Command.{ReadsFile, job_words, words_of};
-ghost use Rattle.eds_cmd.specs.Halts.{Comes, ConcludesAs, EndsAs, OnUnread};
+ghost use Rattle.eds_cmd.specs.Endings.{Comes, CommandEndsAs, EndsAs, OnUnread};
 ghost use Rattle.eds_cmd.specs.Target.{IsKnown, type_in};
 
 use crate::command::{Command, Job, Verb, input_most};
-use crate::halt::Halt;
+use crate::ended::Ended;
 use crate::limits::{REPORT_OCTETS, SHEET_OCTETS, SHEETS, SHEETS_OCTETS};
 use crate::pack::packed;
 use crate::report::counts_line;
@@ -26,27 +26,28 @@ use eds_io::{ReadEnd, Shelf, read_whole};
 use eds_sheet::{Sheet, compile};
 use std::alloc::Global;
 
+// The octets of a file, which are at most so many.
 fn whole_file<S: Shelf>(
     alloc: Global,
     shelf: &mut S,
     name: &str,
     what: What,
     most: u64,
-) -> Result<Octets, Halt>
+) -> Result<Octets, Ended>
     ensures told { (files : Files) → S.files shelf.old ≡ Some files
         → Comes (λ o. o) result (whole files name.now what most) }
     ensures bound { IfOk result (λ o. length o ≤ most) }
     ensures files { S.files shelf.new ≡ S.files shelf.old }
     ensures calm { (other : List ℕ) → S.faults shelf.old other ≤ S.faults shelf.new other }
-    ensures unread { IfErr result (λ halt. OnUnread halt
+    ensures unread { IfErr result (λ ended. OnUnread ended
         (λ n. (n ≡ name.now) × HasRisen (S.faults shelf.old n) (S.faults shelf.new n))) }
 {
     match read_whole(alloc, shelf, name, most) {
         Ok(octets) => Ok(octets),
-        Err(Fail::Memory) => Err(Halt::Memory),
-        Err(Fail::Named(ReadEnd::NoFile)) => Err(Halt::Stopped(missing(alloc, name)?)),
-        Err(Fail::Named(ReadEnd::ReadFault)) => Err(Halt::Unread(Text::of(alloc, name)?)),
-        Err(Fail::Named(ReadEnd::TooBig)) => Err(Halt::Stopped(limited(alloc, what, most)?)),
+        Err(Fail::Memory) => Err(Ended::Memory),
+        Err(Fail::Named(ReadEnd::NoFile)) => Err(Ended::Stopped(missing(alloc, name)?)),
+        Err(Fail::Named(ReadEnd::ReadFault)) => Err(Ended::Unread(Text::of(alloc, name)?)),
+        Err(Fail::Named(ReadEnd::TooBig)) => Err(Ended::Stopped(limited(alloc, what, most)?)),
     }
 }
 
@@ -56,7 +57,7 @@ fn sheet_file<S: Shelf>(
     shelf: &mut S,
     name: &str,
     before: u64,
-) -> Result<Octets, Halt>
+) -> Result<Octets, Ended>
     requires { before ≤ SHEETS_OCTETS }
     ensures told { (files : Files) → S.files shelf.old ≡ Some files
         → Comes (λ o. o) result (sheet_of_name files before name.now) }
@@ -64,7 +65,7 @@ fn sheet_file<S: Shelf>(
     ensures all { IfOk result (λ o. before + length o ≤ SHEETS_OCTETS) }
     ensures files { S.files shelf.new ≡ S.files shelf.old }
     ensures calm { (other : List ℕ) → S.faults shelf.old other ≤ S.faults shelf.new other }
-    ensures unread { IfErr result (λ halt. OnUnread halt
+    ensures unread { IfErr result (λ ended. OnUnread ended
         (λ n. (n ≡ name.now) × HasRisen (S.faults shelf.old n) (S.faults shelf.new n))) }
 {
     let octets = whole_file(alloc, shelf, name, What::File, SHEET_OCTETS)?;
@@ -72,7 +73,7 @@ fn sheet_file<S: Shelf>(
         Ok(octets)
     } else {
         let stop = limited(alloc, What::Sheets, SHEETS_OCTETS)?;
-        Err(Halt::Stopped(stop))
+        Err(Ended::Stopped(stop))
     }
 }
 
@@ -81,18 +82,18 @@ fn sheet_files<S: Shelf>(
     alloc: Global,
     shelf: &mut S,
     names: &[Text],
-) -> Result<Items<Octets>, Halt>
+) -> Result<Items<Octets>, Ended>
     ensures told { (files : Files) → S.files shelf.old ≡ Some files
         → Comes (λ sheets. sheets) result (sheets_of_names files 0 names.now) }
     ensures short { IfOk result (λ sheets. All (λ sheet. length sheet < 2 ^ 32) sheets) }
     ensures each { IfOk result (λ sheets. length sheets ≡ length names.now) }
     ensures files { S.files shelf.new ≡ S.files shelf.old }
     ensures calm { (other : List ℕ) → S.faults shelf.old other ≤ S.faults shelf.new other }
-    ensures cause { IfErr result (λ halt. OnUnread halt
+    ensures cause { IfErr result (λ ended. OnUnread ended
         (λ n. HasRisen (S.faults shelf.old n) (S.faults shelf.new n))) }
-    ensures file { IfErr result (λ halt. OnUnread halt (Contains names.now)) }
+    ensures file { IfErr result (λ ended. OnUnread ended (Contains names.now)) }
     ensures reached { (files : Files) → S.files shelf.old ≡ Some files
-        → IfErr result (λ halt. OnUnread halt (IsReachedSheet files names.now)) }
+        → IfErr result (λ ended. OnUnread ended (IsReachedSheet files names.now)) }
 {
     let mut sheets = Items::new(alloc);
     let mut before = 0u64;
@@ -104,24 +105,28 @@ fn sheet_files<S: Shelf>(
     Ok(sheets)
 }
 
-// The sheet of files, with the type that a word names.
-fn sheet_by(alloc: Global, files: &Items<Octets>, word: Option<&str>) -> Result<Sheet, Fail<Stop>>
+// The sheet of files, with the type that a command names.
+fn sheet_by(
+    alloc: Global,
+    files: &Items<Octets>,
+    type_name: Option<&str>,
+) -> Result<Sheet, Fail<Stop>>
     requires few { length files.now ≤ SHEETS }
     requires short { All (λ file. length file < 2 ^ 32) files.now }
-    ensures answer { Answers (λ s. s) result (or_refused (compiled files.now (option_map (λ w. w.now) word.entry))) }
+    ensures answer { Answers (λ s. s) result (or_refused (compiled files.now (option_map (λ w. w.now) type_name.entry))) }
     ensures word { IfOk result (λ s. IfSome s.word (λ id. id.0 < length s.table)) }
     ensures flat { IfOk result (λ s. IsFlatTable s.table) }
-    ensures given { IfOk result (λ s. is_some s.word ≡ is_some word.entry) }
+    ensures given { IfOk result (λ s. is_some s.word ≡ is_some type_name.entry) }
 {
-    match compile(alloc, files, word) {
+    match compile(alloc, files, type_name) {
         Ok(sheet) => Ok(sheet),
         Err(Fail::Memory) => Err(Fail::Memory),
         Err(Fail::Named(refusal)) => Err(Fail::Named(refused(alloc, refusal)?)),
     }
 }
 
-// The sheet of a command, with the type that its word names.
-fn sheet_for<S: Shelf>(alloc: Global, command: &Command<'_>, shelf: &mut S) -> Result<Sheet, Halt>
+// The sheet of a command, with the type that it names.
+fn sheet_for<S: Shelf>(alloc: Global, command: &Command<'_>, shelf: &mut S) -> Result<Sheet, Ended>
     requires { length command.now.sheets.now ≤ SHEETS }
     ensures told { (files : Files) → S.files shelf.old ≡ Some files
         → Comes (λ s. s) result (accepted files (words_of command.now)) }
@@ -130,17 +135,18 @@ fn sheet_for<S: Shelf>(alloc: Global, command: &Command<'_>, shelf: &mut S) -> R
     ensures given { IfOk result (λ s. is_some s.word ≡ is_some command.now.job) }
     ensures files { S.files shelf.new ≡ S.files shelf.old }
     ensures calm { (other : List ℕ) → S.faults shelf.old other ≤ S.faults shelf.new other }
-    ensures cause { IfErr result (λ halt. OnUnread halt
+    ensures cause { IfErr result (λ ended. OnUnread ended
         (λ n. HasRisen (S.faults shelf.old n) (S.faults shelf.new n))) }
-    ensures file { IfErr result (λ halt. OnUnread halt (Contains command.now.sheets.now)) }
+    ensures file { IfErr result (λ ended. OnUnread ended (Contains command.now.sheets.now)) }
     ensures reached { (files : Files) → S.files shelf.old ≡ Some files
-        → IfErr result (λ halt. OnUnread halt (IsReachedSheet files command.now.sheets.now)) }
+        → IfErr result (λ ended. OnUnread ended (IsReachedSheet files command.now.sheets.now)) }
 {
     let files = sheet_files(alloc, shelf, command.sheets)?;
-    Ok(sheet_by(alloc, &files, command.word())?)
+    Ok(sheet_by(alloc, &files, command.type_name())?)
 }
 
-fn worked(
+// What is done with the octets of an input file by a type.
+fn run_verb(
     alloc: Global,
     verb: Verb,
     target: &Target<'_>,
@@ -155,59 +161,61 @@ fn worked(
     }
 }
 
-fn input_for<S: Shelf>(alloc: Global, job: &Job<'_>, shelf: &mut S) -> Result<Octets, Halt>
+// The octets of the input file.
+fn input_for<S: Shelf>(alloc: Global, job: &Job<'_>, shelf: &mut S) -> Result<Octets, Ended>
     ensures told { (files : Files) → S.files shelf.old ≡ Some files
         → Comes (λ o. o) result (input_of files (job_words job.now)) }
     ensures calm { (other : List ℕ) → S.faults shelf.old other ≤ S.faults shelf.new other }
-    ensures unread { IfErr result (λ halt. OnUnread halt
+    ensures unread { IfErr result (λ ended. OnUnread ended
         (λ n. (n ≡ job.now.input.now) × HasRisen (S.faults shelf.old n) (S.faults shelf.new n))) }
 {
     whole_file(alloc, shelf, job.input, What::Input, input_most(job.verb))
 }
 
 // What is done with an input file by the type of a sheet.
-fn job_done<S: Shelf>(
+fn run_job<S: Shelf>(
     alloc: Global,
     job: &Job<'_>,
     sheet: &Sheet,
     shelf: &mut S,
-) -> Result<String, Halt>
+) -> Result<String, Ended>
     requires word { IsSomeAnd sheet.now.word (λ id. id.0 < length sheet.now.table) }
     requires flat { IsFlatTable sheet.now.table }
     ensures told { (files : Files) → S.files shelf.old ≡ Some files
-        → ConcludesAs string_bytes (DoesBy (Some (job_words job.now)) files sheet.now) result }
+        → CommandEndsAs string_bytes (DoesBy (Some (job_words job.now)) files sheet.now) result }
     ensures calm { (other : List ℕ) → S.faults shelf.old other ≤ S.faults shelf.new other }
-    ensures unread { IfErr result (λ halt. OnUnread halt
+    ensures unread { IfErr result (λ ended. OnUnread ended
         (λ n. (n ≡ job.now.input.now) × HasRisen (S.faults shelf.old n) (S.faults shelf.new n))) }
 {
     let target = target_of(sheet);
     let input = input_for(alloc, job, shelf)?;
-    Ok(worked(alloc, job.verb, &target, input.as_slice())?)
+    Ok(run_verb(alloc, job.verb, &target, input.as_slice())?)
 }
 
 // What is done by an accepted sheet.
-fn done_by<S: Shelf>(
+fn report_for<S: Shelf>(
     alloc: Global,
     job: Option<Job<'_>>,
     sheet: &Sheet,
     shelf: &mut S,
-) -> Result<String, Halt>
+) -> Result<String, Ended>
     requires word { IfSome sheet.now.word (λ id. id.0 < length sheet.now.table) }
     requires flat { IsFlatTable sheet.now.table }
     requires given { is_some sheet.now.word ≡ is_some job }
     ensures told { (files : Files) → S.files shelf.old ≡ Some files
-        → ConcludesAs string_bytes (DoesBy (option_map job_words job.entry) files sheet.now) result }
+        → CommandEndsAs string_bytes (DoesBy (option_map job_words job.entry) files sheet.now) result }
     ensures calm { (other : List ℕ) → S.faults shelf.old other ≤ S.faults shelf.new other }
-    ensures cause { IfErr result (λ halt. OnUnread halt
+    ensures cause { IfErr result (λ ended. OnUnread ended
         (λ n. HasRisen (S.faults shelf.old n) (S.faults shelf.new n))) }
-    ensures file { IfErr result (λ halt. OnUnread halt (λ n. IsSomeAnd job.entry (λ j. n ≡ j.input.now))) }
+    ensures file { IfErr result (λ ended. OnUnread ended (λ n. IsSomeAnd job.entry (λ j. n ≡ j.input.now))) }
 {
     match job {
-        Some(job) => job_done(alloc, &job, sheet, shelf),
+        Some(job) => run_job(alloc, &job, sheet, shelf),
         None => Ok(counts_line(alloc, sheet.counts)?),
     }
 }
 
+// A report that is no longer than a report may be.
 fn within_report(alloc: Global, report: String) -> Result<String, Fail<Stop>>
     ensures { Answers string_bytes result (within_limit (string_bytes report)) }
 {
@@ -223,18 +231,18 @@ pub fn perform<S: Shelf>(
     alloc: Global,
     command: &Command<'_>,
     shelf: &mut S,
-) -> Result<String, Halt>
+) -> Result<String, Ended>
     requires { length command.now.sheets.now ≤ SHEETS }
     ensures told { (files : Files) → S.files shelf.old ≡ Some files
-        → ConcludesAs string_bytes (AnswersFew true (words_of command.now) files) result }
+        → CommandEndsAs string_bytes (AnswersFew true (words_of command.now) files) result }
     ensures calm { (other : List ℕ) → S.faults shelf.old other ≤ S.faults shelf.new other }
-    ensures cause { IfErr result (λ halt. OnUnread halt
+    ensures cause { IfErr result (λ ended. OnUnread ended
         (λ n. HasRisen (S.faults shelf.old n) (S.faults shelf.new n))) }
-    ensures file { IfErr result (λ halt. OnUnread halt (ReadsFile (words_of command.now))) }
+    ensures file { IfErr result (λ ended. OnUnread ended (ReadsFile (words_of command.now))) }
     ensures reached { (files : Files) → S.files shelf.old ≡ Some files
-        → IfErr result (λ halt. OnUnread halt (IsReached files (words_of command.now))) }
+        → IfErr result (λ ended. OnUnread ended (IsReached files (words_of command.now))) }
 {
     let sheet = sheet_for(alloc, command, shelf)?;
-    let report = done_by(alloc, command.job, &sheet, shelf)?;
+    let report = report_for(alloc, command.job, &sheet, shelf)?;
     Ok(within_report(alloc, report)?)
 }

@@ -13,13 +13,11 @@ fn common_text(alloc: Global, common: &[CommonNumber]) -> Result<String, AllocEr
     ensures { IfOk result (λ s. string_bytes s ≡ text_of_common common.now) }
 {
     let mut text = String::new(alloc);
-    let mut rest = common;
-    while let [one, after @ ..] = rest {
+    for one in common {
         let path = one.path.as_str();
         let number = one.number;
         let part = format!(in alloc; " {path}={number}")?;
         text.push_str(part.as_str())?;
-        rest = after;
     }
     Ok(text)
 }

@@ -14,7 +14,7 @@ pub struct Target<'a> {
     pub id: TypeId,
 }
 
-/// The type that the word of a command names.
+/// The type that a command names.
 pub fn target_of(sheet: &Sheet) -> Target<'_>
     requires { IsSomeAnd sheet.now.word (λ id. id.0 < length sheet.now.table) }
     ensures { type_in result ≡ type_of sheet.now }

@@ -7,10 +7,10 @@ ghost use Rattle.eds_cmd.specs.Answer.{Answer, IsReached, IsValid};
 ghost use Rattle.eds_cmd.specs.Command.{CommandWords, ReadsFile, command_of as command_in, words_of};
 ghost use Rattle.eds_cmd.specs.Outcome.{ComesTo, IsFault, IsReport, has_report, is_usage};
 ghost use Rattle.eds_cmd.specs.Limits.{sheet_count};
-ghost use Rattle.eds_cmd.specs.Reports.{read_fault_line as line_of_read_fault};
+ghost use Rattle.eds_cmd.specs.Reports.{limit_line, read_fault_line as line_of_read_fault, usage_line as line_of_usage};
 
 use crate::command::{Command, command_of};
-use crate::halt::Halt;
+use crate::ended::Ended;
 use crate::law::answer_is_one;
 use crate::limits::SHEETS;
 use crate::perform::perform;
@@ -33,6 +33,7 @@ pub struct Outcome {
     pub report: Text,
 }
 
+// A read of the file of that name failed.
 fn unread(alloc: Global, name: Text) -> Result<Outcome, Memory>
     ensures { IfOk result (λ o. o ≡ record { status = Status.ReadFault name; report = line_of_read_fault name }) }
 {
@@ -43,7 +44,8 @@ fn unread(alloc: Global, name: Text) -> Result<Outcome, Memory>
     })
 }
 
-fn concluded<S: Shelf>(
+// What a command comes to, with the line of a read fault where a read fails.
+fn run_command<S: Shelf>(
     alloc: Global,
     command: &Command<'_>,
     shelf: &mut S,
@@ -65,15 +67,16 @@ fn concluded<S: Shelf>(
             status: Status::Done,
             report: Text::from_string(report),
         }),
-        Err(Halt::Stopped(Stop { cause, report })) => Ok(Outcome {
+        Err(Ended::Stopped(Stop { cause, report })) => Ok(Outcome {
             status: cause.status(),
             report,
         }),
-        Err(Halt::Unread(name)) => unread(alloc, name),
-        Err(Halt::Memory) => Err(Memory),
+        Err(Ended::Unread(name)) => unread(alloc, name),
+        Err(Ended::Memory) => Err(Memory),
     }
 }
 
+// Writes the report, and gives the status, or that of a write that fails.
 fn finish<K: Sink>(sink: &mut K, status: Status, report: &str) -> Status
     ensures whole { (before : List ℕ) → K.written sink.old ≡ Some before → result ≢ Status.WriteFault
         → K.written sink.new ≡ Some (before ++ report.now) }
@@ -90,14 +93,21 @@ fn finish<K: Sink>(sink: &mut K, status: Status, report: &str) -> Status
 
 /// Runs a command on the files of a shelf, and writes its report to a sink.
 pub fn eds<S: Shelf, K: Sink>(alloc: Global, words: &Words, shelf: &mut S, sink: &mut K) -> Status
-    // Where the shelf tells its files and the sink what is written, and nothing fails, the status is
-    // that of the answer, and its report is written.
+    // Where the shelf tells its files, and nothing fails, the status is that of the answer. Where the sink tells what is
+    // written, that is the report of the answer.
+    ensures status { (files : Files) → S.files shelf.old ≡ Some files → ¬ (IsFault result) → (report : List ℕ) × Answer words.now files result report }
     ensures answer { (files : Files) (before : List ℕ) → S.files shelf.old ≡ Some files → K.written sink.old ≡ Some before → ¬ (IsFault result)
         → (report : List ℕ) × Answer words.now files result report × (K.written sink.new ≡ Some (before ++ report)) }
 
-    // Usage comes exactly where the words are no command.
+    // Over any shelf, usage comes exactly where the words are no command, and its line is written.
     ensures usage { IsNone (command_in words.now) → ¬ (IsFault result) → result ≡ Status.Usage }
     ensures usage_only { result ≡ Status.Usage → IsNone (command_in words.now) }
+    ensures usage_line { (before : List ℕ) → K.written sink.old ≡ Some before → result ≡ Status.Usage → K.written sink.new ≡ Some (before ++ line_of_usage) }
+
+    // Over any shelf, a command of more sheet files than there may be passes that limit, and its line is written.
+    ensures too_many { IsSomeAnd (command_in words.now) (λ c. sheet_count < length c.sheets) → ¬ (IsFault result) → result ≡ Status.Limit What.Files sheet_count }
+    ensures too_many_line { (before : List ℕ) → K.written sink.old ≡ Some before → IsSomeAnd (command_in words.now) (λ c. sheet_count < length c.sheets) → ¬ (IsFault result)
+        → K.written sink.new ≡ Some (before ++ limit_line What.Files sheet_count) }
 
     // A read fault names a file of the command whose count of faults has risen or stands at its end. No case
     // of the answer stands before that file, and its line is written.
@@ -133,7 +143,7 @@ pub fn eds<S: Shelf, K: Sink>(alloc: Global, words: &Words, shelf: &mut S, sink:
     }
     // No other answer stands beside that of a valid command.
     answer_is_one();
-    match concluded(alloc, &command, shelf) {
+    match run_command(alloc, &command, shelf) {
         Ok(Outcome { status, report }) => finish(sink, status, report.as_str()),
         Err(_) => Status::Memory,
     }

@@ -3,12 +3,12 @@
 ghost use Rattle.std.specs.Prelude.{◌≡◌, ◌≤◌, [], IfErr, IfOk, string_bytes, length, take};
 ghost use Rattle.eds_base.specs.Answering.{Answers};
 ghost use Rattle.eds_bits.specs.Bits.{Bits, bits_of};
-ghost use Rattle.eds_cmd.specs.Halts.{EndsAs, StopSays};
+ghost use Rattle.eds_cmd.specs.Endings.{EndsAs, StopSays};
 ghost use Rattle.eds_cmd.specs.Target.{IsKnown, type_in};
 ghost use Rattle.eds_cmd.specs.Unpack.{IsFaulty, Unpacks, UnpacksBits, frame_for as frame_in};
 ghost use Rattle.eds_types.specs.Plain.{plain};
 ghost use Rattle.eds_types.specs.Spelling.{Spells};
-ghost use Rattle.eds_value.specs.Shown.{shown_text};
+ghost use Rattle.eds_value.specs.JsonOfValue.{json_text};
 
 use crate::hex_text::hex_octets;
 use crate::limits::FRAME_OCTETS;
@@ -75,7 +75,7 @@ fn value_for(alloc: Global, target: &Target<'_>, frame: &[u8]) -> Result<(Value,
 fn value_text(alloc: Global, target: &Target<'_>, value: &Value) -> Result<String, Memory>
     requires known { IsKnown (type_in target.now) }
     requires spelled { (bits : Bits) × Spells target.now.table.now target.now.id.0 (plain value.now) bits }
-    ensures { IfOk result (λ s. string_bytes s ≡ shown_text target.now.table.now (plain value.now)) }
+    ensures { IfOk result (λ s. string_bytes s ≡ json_text target.now.table.now (plain value.now)) }
 {
     target.table.keeps_rules();
     canonical_spelling();

@@ -1,15 +1,15 @@
 -- The octets of a binary.
-use Rattle.std.proofs.Common.{◌≡◌, ℕ, zero, suc, ◌+◌, ◌-◌, ◌*◌, ◌/◌, ◌%◌, ◌^◌, ◌<◌, ◌≤◌, Bool, true, false, List, [], ◌∷◌, ◌++◌, length, get_or, set, take, drop, replicate, refl, sym, ap, ◌∙◌, append_assoc, All, arith}
+use Rattle.std.proofs.Common.{◌≡◌, ℕ, zero, suc, ◌+◌, ◌-◌, ◌*◌, ◌/◌, ◌%◌, ◌^◌, ◌<◌, ◌≤◌, false, List, [], ◌∷◌, ◌++◌, length, get_or, set, take, drop, replicate, refl, sym, ap, ◌∙◌, append_assoc, All, arith}
 use Rattle.std.proofs.lemmas.List.Elements.{All-append, All-cons, All-nil}
-use Rattle.std.proofs.lemmas.List.{take_at, take_all, drop_all, take_more_set, take-append-drop, drop-append-le, append-nil, get_or-drop, length-take, length-drop, length-append, length-replicate, length-set}
-use Rattle.std.proofs.lemmas.Nat.{shl_below, shl_whole, shl-shr, mul-mod_first, pow_pos}
-use Rattle.std.proofs.Math.Nat.{mul-mod_left, mod-eq_of_lt}
+use Rattle.std.proofs.lemmas.List.{take_at, take_all, drop_all, take_more_set, take-append-drop, append-nil, get_or-drop, length-take, length-drop, length-append, length-replicate, length-set}
+use Rattle.std.proofs.lemmas.Nat.{shl_below, shl_whole, shl-shr}
+use Rattle.std.proofs.Math.Nat.{mul-mod_left}
 use Rattle.std.proofs.Math.Seq.{take-add}
 use borrow.Rule.Slice.PartMut.{put_mid}
 use Rattle.eds_bits.specs.Bits.{Bits, bits_of, low_bits, unsigned_of, octets_of, octets_for, oct, filled, with_piece}
 use Rattle.eds_bits.specs.Texts.{IsBinary, front_octets}
 use Rattle.eds_bits.proofs.TextLaws.{length-front_octets, bits_of-front_octets, front_octets_below}
-use Rattle.eds_bits.proofs.BitLaws.{length-low, low-append, low-unsigned, unsigned_same, unsigned-lt, unsigned-low, with_piece-append}
+use Rattle.eds_bits.proofs.BitLaws.{length-low, low-append, low-unsigned, unsigned_same, unsigned-low, with_piece-append}
 use Rattle.eds_bits.proofs.OctetLaws.{length-bits_of, take-bits_of, drop-bits_of, bits_of-octets_of, length-octets_of, bits_of-append, bits_of_same, octets_of_below}
 use Rattle.eds_bits.proofs.Shifts.{first_bits, part_put}
 use Rattle.eds_codec.specs.Writing.{Written}
@@ -90,6 +90,21 @@ pub octets_filled : (os : List ℕ) (bs : Bits) → All (λ o. o < 256) os → b
 octets_filled os bs all e = bits_of_same os (octets_of bs) all (octets_of_below bs) (e ∙ sym (bits_of-octets_of bs))
 
 -- whole octets, and one more for the last bits
+pub octets_last : (bs : Bits) (bits whole last y : ℕ) → bits ≡ 8 * whole + last → 1 ≤ last → last ≤ 7 → bits ≤ length bs → y < 256 → low_bits 8 y ≡ take last (drop (8 * whole) bs) ++ replicate (8 - last) false
+    → front_octets whole bs ++ y ∷ [] ≡ octets_of (take bits bs)
+octets_last bs bits whole last y e some few h below piece =
+    let zeros : 8 * oct (take bits bs) - length (take bits bs) ≡ 8 - last = omega (arith, length-take bits bs) in
+    let octets : bits_of (front_octets whole bs ++ y ∷ []) ≡ filled (take bits bs) =
+    bits_of-append (front_octets whole bs) (y ∷ []) ∙ ap (λ r. bits_of (front_octets whole bs) ++ r) (append-nil (low_bits 8 y))
+    ∙ ap (λ r. r ++ low_bits 8 y) (bits_of-front_octets whole bs (omega arith)) ∙ ap (λ r. take (8 * whole) bs ++ r) piece
+    ∙ sym (append_assoc (take (8 * whole) bs) (take last (drop (8 * whole) bs)) (replicate (8 - last) false))
+    ∙ ap (λ r. r ++ replicate (8 - last) false) (sym (take-add (8 * whole) last bs) ∙ ap (λ k. take k bs) (sym e))
+    ∙ ap (λ k. take bits bs ++ replicate k false) (sym zeros) in
+    let small : All (λ o. o < 256) (front_octets whole bs ++ y ∷ []) =
+    All-append (λ o. o < 256) (front_octets whole bs) (y ∷ []) (front_octets_below whole bs) (All-cons (λ o. o < 256) y [] below (All-nil (λ o. o < 256))) in
+    octets_filled (front_octets whole bs ++ y ∷ []) (take bits bs) small octets
+
+-- these octets where they were put
 pub last_taken : (new os : List ℕ) (bs mid : Bits) (bits whole wide last y : ℕ) → bits ≡ 8 * whole + last → 1 ≤ last → last ≤ 7 → bits ≤ length bs → wide ≡ whole → length os ≡ whole + 1
     → new ≡ front_octets wide bs → mid ≡ drop (8 * wide) bs → y < 256 → low_bits 8 y ≡ take last mid ++ replicate (8 - last) false
     → set (new ++ drop whole os) whole y ≡ octets_of (take bits bs)
@@ -100,18 +115,9 @@ last_taken new os bs mid bits whole wide last y e some few h same lo is rest bel
     let size : length all ≡ whole + 1 = omega (arith, length-append new (drop whole os), length-drop whole os) in
     let whole_list : set all whole y ≡ front_octets whole bs ++ y ∷ [] =
     sym (take_all (whole + 1) (set all whole y) (omega (arith, length-set all whole y))) ∙ take_more_set all whole y (omega arith) ∙ ap (λ r. r ++ y ∷ []) (take_at new (drop whole os) whole ln ∙ front) in
-    let zeros : 8 * oct (take bits bs) - length (take bits bs) ≡ 8 - last = omega (arith, length-take bits bs) in
     let piece : low_bits 8 y ≡ take last (drop (8 * whole) bs) ++ replicate (8 - last) false =
     end ∙ ap (λ r. take last r ++ replicate (8 - last) false) (rest ∙ ap (λ k. drop (8 * k) bs) same) in
-    let octets : bits_of (front_octets whole bs ++ y ∷ []) ≡ filled (take bits bs) =
-    bits_of-append (front_octets whole bs) (y ∷ []) ∙ ap (λ r. bits_of (front_octets whole bs) ++ r) (append-nil (low_bits 8 y))
-    ∙ ap (λ r. r ++ low_bits 8 y) (bits_of-front_octets whole bs (omega arith)) ∙ ap (λ r. take (8 * whole) bs ++ r) piece
-    ∙ sym (append_assoc (take (8 * whole) bs) (take last (drop (8 * whole) bs)) (replicate (8 - last) false))
-    ∙ ap (λ r. r ++ replicate (8 - last) false) (sym (take-add (8 * whole) last bs) ∙ ap (λ k. take k bs) (sym e))
-    ∙ ap (λ k. take bits bs ++ replicate k false) (sym zeros) in
-    let small : All (λ o. o < 256) (front_octets whole bs ++ y ∷ []) =
-    All-append (λ o. o < 256) (front_octets whole bs) (y ∷ []) (front_octets_below whole bs) (All-cons (λ o. o < 256) y [] below (All-nil (λ o. o < 256))) in
-    whole_list ∙ octets_filled (front_octets whole bs ++ y ∷ []) (take bits bs) small octets
+    whole_list ∙ octets_last bs bits whole last y e some few h below piece
 
 -- whole octets alone
 pub whole_taken : (new os : List ℕ) (bs : Bits) (bits whole wide : ℕ) → bits ≡ 8 * whole → wide ≡ whole → length os ≡ whole → new ≡ front_octets wide bs → new ++ drop whole os ≡ octets_of (take bits bs)

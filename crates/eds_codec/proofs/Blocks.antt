@@ -1,10 +1,10 @@
 -- Texts that come block by block, and the places of their termination octet.
-use Rattle.std.proofs.Common.{◌≡◌, ℕ, zero, suc, ◌+◌, ◌-◌, ◌*◌, ◌<◌, ◌≤◌, Bool, true, false, List, [], ◌∷◌, ◌++◌, length, get_or, take, drop, replicate, Option, Some, None, refl, sym, ap, subst, ◌∙◌, append_assoc, inl, inr, arith}
+use Rattle.std.proofs.Common.{◌≡◌, ℕ, ◌+◌, ◌-◌, ◌*◌, ◌<◌, ◌≤◌, Bool, true, false, List, [], ◌++◌, length, get_or, take, drop, replicate, Option, Some, None, refl, sym, ap, subst, ◌∙◌, append_assoc, inl, inr, arith}
 use Rattle.std.specs.Prelude.{IsTrue, IsAscii, ◌↔◌, ◌⊎◌, nat_lt, unwrap_or}
 use Rattle.std.specs.Bool.{MatchBool}
 use Rattle.std.specs.Str.{IsNotAscii}
 use Rattle.std.proofs.lemmas.Bool.{eq-eqb, eqb-true, ltb-true, ltb-false}
-use Rattle.std.proofs.lemmas.List.{take_at, drop_at, take_all, take-take, drop-take, drop-drop, take-append-drop, take-append-le, drop-replicate, length-take, length-drop, length-append, length-replicate, append-nil}
+use Rattle.std.proofs.lemmas.List.{take_at, drop_at, take_all, take-take, drop-take, drop-drop, take-append-drop, take-append-le, drop-replicate, length-take, length-drop, length-replicate, append-nil}
 use Rattle.std.proofs.Math.Seq.{take-add}
 use Rattle.std.proofs.lemmas.Str.{IsAscii-take, IsAscii-drop, IsAscii-append}
 use Rattle.memchr.specs.Find.{IsFirstByte, is_byte}
@@ -15,7 +15,7 @@ use Rattle.eds_bits.specs.Scalars.{before_stop, IsCoded}
 use Rattle.eds_bits.specs.Texts.{front_octets}
 use Rattle.eds_bits.proofs.TextLaws.{length-front_octets, take-front_octets, drop-front_octets, before_first, before_none, before_is, before-append, before-take}
 use Rattle.eds_codec.specs.declared.coding.Coding.{Coding}
-use Rattle.eds_codec.specs.declared.coding.Coding.TheVariants.{Ascii, Utf8}
+use Rattle.eds_codec.specs.declared.coding.Coding.TheVariants.{Ascii}
 use Rattle.eds_codec.specs.Coding.{HasSeen}
 
 -- ---- ASCII

@@ -1,3 +1,4 @@
+pub mod Checks
 pub mod Booleans
 pub mod Binaries
 pub mod Blocks

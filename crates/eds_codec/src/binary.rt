@@ -82,8 +82,8 @@ fn take_bits(bits: u32, reader: &mut BitReader, octets: &mut [u8])
     }
 }
 
-// The octet of the next n bits, with zeros behind them.
-fn last_octet(reader: &mut BitReader, n: u32) -> u8
+/// The octet of the next n bits, with zeros behind them.
+pub(crate) fn last_octet(reader: &mut BitReader, n: u32) -> u8
     requires few { n ≤ 7 }
     requires enough { n ≤ length (bits_left reader.old) }
     ensures value { low_bits 8 result ≡ take n (bits_left reader.old) ++ replicate (8 - n) false }

@@ -11,6 +11,3 @@ mod standing;
 
 pub use declared::{Declared, Item};
 pub use space::Space;
-
-#[cfg(test)]
-mod tests;

@@ -1,21 +1,21 @@
 -- With room for 16 types in a chain and for 32 nested types, more room changes nothing.
-use Rattle.std.proofs.Common.{◌≡◌, ℕ, zero, suc, ◌+◌, ◌<◌, ◌≤◌, List, [], ◌∷◌, ◌++◌, length, map, drop, reverse, Option, Some, None, refl, sym, ap, subst, ◌∙◌, arith, inl, inr}
+use Rattle.eds_base.specs.declared.fault.Fault.{Fault}
+use Rattle.std.proofs.Common.{◌≡◌, ℕ, zero, suc, ◌<◌, List, [], ◌∷◌, ◌++◌, length, map, drop, reverse, Option, Some, None, refl, sym, ap, subst, ◌∙◌, arith, inl, inr}
 use Rattle.std.specs.List.{AllByRecursion, flat_map}
 use Rattle.std.proofs.Math.Seq.{drop-append_seam}
 use Rattle.eds_bits.specs.Bits.{Bits}
-use Rattle.eds_bits.specs.Style.{Style, any, canonical}
+use Rattle.eds_bits.specs.Style.{Style, any}
 use Rattle.eds_types.specs.declared.row.Constraint.{Constraint as Condition}
 use Rattle.eds_types.specs.declared.row.Kind.{Kind}
 use Rattle.eds_types.specs.declared.row.Kind.TheVariants as kind
 use Rattle.eds_types.specs.declared.row.Part.{Part}
 use Rattle.eds_types.specs.declared.row.Part.TheVariants as part
-use Rattle.eds_types.specs.declared.row.TypeRow.{TypeRow}
-use Rattle.eds_types.specs.Failing.{Station, condition, entry, choice, end, own, later, course, Where, Differs, ItemFails, PartFails, EntryPasses, EntryFailsBy, EntryFails, StationPasses, Passes, StationFails, ContainerFails, KindFails, FailsWithin}
+use Rattle.eds_types.specs.Failing.{Station, condition, entry, choice, end, own_stations, chosen_stations, course, Differs, ItemFails, PartFails, EntryFailsBy, StationPasses, Passes, StationFails, KindFails, FailsWithin}
 use Rattle.eds_types.specs.Fields.{type_by, IsAtOrUnder}
 use Rattle.eds_types.specs.Plain.{Plain, list_of}
 use Rattle.eds_types.specs.Rows.{Table, base_of, chain, chain_before, chain_within, Placed, placed_entries, placed_trailers, sequence, constraints_of}
 use Rattle.eds_types.specs.Sizes.{tail_of}
-use Rattle.eds_types.specs.Spelling.{Progress, started, PartPasses, PartsPass, ContainerSpells, KindSpells, SpellsWithin}
+use Rattle.eds_types.specs.Spelling.{Progress, started, PartPasses, PartsPass, KindSpells, SpellsWithin}
 use Rattle.eds_types.specs.Tables.{IsTable, IsItemType}
 use Rattle.eds_types.proofs.AllOf.{All-weaker, All-both, All-front, All-back, All-unflat}
 use Rattle.eds_types.proofs.ChainLaws.{under_is}
@@ -80,20 +80,20 @@ module _ (t : Table) (E F : ℕ → Plain → Bits → Type 0) where
 
   -- ---- faults
 
-  module _ (G H : ℕ → Bits → Where → Type 0) where
+  module _ (G H : ℕ → Bits → Fault → Type 0) where
     abbrev Both : ℕ → Type 0
-    Both x = Carried x × ((b : Bits) (w : Where) → G x b w → H x b w)
+    Both x = Carried x × ((b : Bits) (w : Fault) → G x b w → H x b w)
 
     spells_of : (q : Part) → OfPart Both q → OfPart Carried q
     spells_of q g x e = (g x e).0
 
-    items_fail : (x count : ℕ) (b : Bits) (w : Where) → Both x → ItemFails (E x) (G x) count b w → ItemFails (F x) (H x) count b w
+    items_fail : (x count : ℕ) (b : Bits) (w : Fault) → Both x → ItemFails (E x) (G x) count b w → ItemFails (F x) (H x) count b w
     items_fail x count b w g h = record { before = h.before; few = h.few; c = h.c; d = h.d; bits = h.bits; spelled = items_any (E x) (F x) g.0 h.before h.c h.spelled; why = h.why; fails = g.1 h.d h.why h.fails; is = h.is }
 
     differs_to : (x : ℕ) (v : Plain) (b : Bits) → Both x → Differs t E G x v b → Differs t F H x v b
     differs_to x v b g h = record { other = h.other; c = h.c; rest = h.rest; bits = h.bits; spelled = g.0 h.other h.c h.spelled; differs = h.differs }
 
-    part_fails : (s : Progress) (q : Part) (b : Bits) (w : Where) → OfPart Both q → PartFails t E G s q b w → PartFails t F H s q b w
+    part_fails : (s : Progress) (q : Part) (b : Bits) (w : Fault) → OfPart Both q → PartFails t E G s q b w → PartFails t F H s q b w
     part_fails s (part.Plain name id) b w g h = (g id.0 refl).1 b w h
     part_fails s (part.Fixed name id v) b w g (inl h) = inl ((g id.0 refl).1 b w h)
     part_fails s (part.Fixed name id v) b w g (inr h) = inr (differs_to id.0 _ b (g id.0 refl) h.0, h.1)
@@ -109,7 +109,7 @@ module _ (t : Table) (E F : ℕ → Plain → Bits → Type 0) where
     AtStation (choice y) = Unit {0}
     AtStation end = Unit {0}
 
-    entry_fails_by : (o : Option ℕ) (s : Progress) (p : Placed) (b : Bits) (w : Where) → OfPart Both p.part → EntryFailsBy t E G o s p b w → EntryFailsBy t F H o s p b w
+    entry_fails_by : (o : Option ℕ) (s : Progress) (p : Placed) (b : Bits) (w : Fault) → OfPart Both p.part → EntryFailsBy t E G o s p b w → EntryFailsBy t F H o s p b w
     entry_fails_by None s p b w g h = (h.0, part_fails s p.part b h.0 g h.1, h.2)
     entry_fails_by (Some n) s p b w g h = h
 
@@ -123,13 +123,13 @@ module _ (t : Table) (E F : ℕ → Plain → Bits → Type 0) where
     passes_to x [] s u b g h = h
     passes_to x (st ∷ ss) s u b g h = (h.0, h.1, h.2, h.3, station_passes x s st h.0 h.1 g.0 h.4, passes_to x ss h.0 u h.2 g.1 h.5)
 
-    station_fails : (x : ℕ) (s : Progress) (st : Station) (b : Bits) (w : Where) → AtStation st → StationFails t E G x s st b w → StationFails t F H x s st b w
+    station_fails : (x : ℕ) (s : Progress) (st : Station) (b : Bits) (w : Fault) → AtStation st → StationFails t E G x s st b w → StationFails t F H x s st b w
     station_fails x s (condition y c) b w g h = h
     station_fails x s (entry p) b w g h = entry_fails_by (tail_of t p.part) s p b w g h
     station_fails x s (choice y) b w g h = h
     station_fails x s end b w g h = h
 
-    fault_to : (id : ℕ) (k : Kind) (b : Bits) (w : Where) → OfItem Both k → ((c : ℕ) → IsAtOrUnder t id c → AllByRecursion AtStation (course t id c)) → KindFails t E G id k b w → KindFails t F H id k b w
+    fault_to : (id : ℕ) (k : Kind) (b : Bits) (w : Fault) → OfItem Both k → ((c : ℕ) → IsAtOrUnder t id c → AllByRecursion AtStation (course t id c)) → KindFails t E G id k b w → KindFails t F H id k b w
     fault_to id (kind.Int form spans) b w i g h = h
     fault_to id (kind.Enum form listing) b w i g h = h
     fault_to id (kind.Bool form) b w i g h = h
@@ -153,13 +153,13 @@ module _ (t : Table) (E F : ℕ → Plain → Bits → Type 0) where
     conditions_at y [] = tt
     conditions_at y (c ∷ cs) = (tt, conditions_at y cs)
 
-    own_at : (ys : List ℕ) → AllByRecursion (λ y. Whole (placed_entries t y)) ys → AllByRecursion AtStation (flat_map (own t) ys)
+    own_at : (ys : List ℕ) → AllByRecursion (λ y. Whole (placed_entries t y)) ys → AllByRecursion AtStation (flat_map (own_stations t) ys)
     own_at [] h = tt
-    own_at (y ∷ ys) h = All-both AtStation (own t y) (flat_map (own t) ys) (All-both AtStation (map (condition y) (constraints_of t y)) (map entry (placed_entries t y)) (conditions_at y (constraints_of t y)) (entries_at (placed_entries t y) h.0)) (own_at ys h.1)
+    own_at (y ∷ ys) h = All-both AtStation (own_stations t y) (flat_map (own_stations t) ys) (All-both AtStation (map (condition y) (constraints_of t y)) (map entry (placed_entries t y)) (conditions_at y (constraints_of t y)) (entries_at (placed_entries t y) h.0)) (own_at ys h.1)
 
-    later_at : (ys : List ℕ) → AllByRecursion (λ y. Whole (placed_entries t y)) ys → AllByRecursion AtStation (later t ys)
+    later_at : (ys : List ℕ) → AllByRecursion (λ y. Whole (placed_entries t y)) ys → AllByRecursion AtStation (chosen_stations t ys)
     later_at [] h = tt
-    later_at (y ∷ ys) h = All-both AtStation (map entry (placed_entries t y) ++ choice y ∷ []) (later t ys) (All-both AtStation (map entry (placed_entries t y)) (choice y ∷ []) (entries_at (placed_entries t y) h.0) (tt, tt)) (later_at ys h.1)
+    later_at (y ∷ ys) h = All-both AtStation (map entry (placed_entries t y) ++ choice y ∷ []) (chosen_stations t ys) (All-both AtStation (map entry (placed_entries t y)) (choice y ∷ []) (entries_at (placed_entries t y) h.0) (tt, tt)) (later_at ys h.1)
 
     course_at : (is : IsTable t) (id x : ℕ) → IsAtOrUnder t id x → Whole (sequence t x) → AllByRecursion AtStation (course t id x)
     course_at is id x un h =
@@ -170,9 +170,9 @@ module _ (t : Table) (E F : ℕ → Plain → Bits → Type 0) where
         let Q = λ (y : ℕ). Whole (placed_entries t y) in
         let es' = subst (AllByRecursion Q) up es in
         let under = sym (ap (drop (length (chain t id))) up ∙ drop-append_seam (chain t id) un.after) in
-        All-both AtStation (flat_map (own t) (chain t id)) _ (own_at (chain t id) (All-front Q (chain t id) un.after es')) (
+        All-both AtStation (flat_map (own_stations t) (chain t id)) _ (own_at (chain t id) (All-front Q (chain t id) un.after es')) (
           tt,
-          All-both AtStation (later t (drop (length (chain t id)) (chain t x))) _ (later_at (drop (length (chain t id)) (chain t x)) (subst (AllByRecursion Q) under (All-back Q (chain t id) un.after es')))
+          All-both AtStation (chosen_stations t (drop (length (chain t id)) (chain t x))) _ (later_at (drop (length (chain t id)) (chain t x)) (subst (AllByRecursion Q) under (All-back Q (chain t id) un.after es')))
               (All-both AtStation (map entry (flat_map (placed_trailers t) (reverse (chain t x)))) (end ∷ []) (entries_at (flat_map (placed_trailers t) (reverse (chain t x))) ts) (tt, tt)),
         )
 
@@ -201,15 +201,15 @@ module _ (t : Table) (is : IsTable t) where
       let low = λ (x : ℕ) (l : is.rank x < is.rank id) (w : Plain) (c : Bits). spells_to style n m x (omega arith) w c in
       (h.0, h.1, spelling_to t E F style id (h.0).kind v b (item_of (Carried t E F) id (h.0).kind (is.items id h.0 h.1) low) (λ c u. parts_of (Carried t E F) id c u low) h.2)
 
-  fails_to : (n m id : ℕ) → is.rank id < m → (b : Bits) (w : Where) → FailsWithin n t id b w → FailsWithin m t id b w
+  fails_to : (n m id : ℕ) → is.rank id < m → (b : Bits) (w : Fault) → FailsWithin n t id b w → FailsWithin m t id b w
   unfolding FailsWithin
   fails_to zero m id r b w h = absurd h
   fails_to (suc n) zero id r b w h = absurd (omega arith)
   fails_to (suc n) (suc m) id r b w h =
       let E = λ (x : ℕ) (v : Plain) (c : Bits). SpellsWithin n any t x v c in
       let F = λ (x : ℕ) (v : Plain) (c : Bits). SpellsWithin m any t x v c in
-      let G = λ (x : ℕ) (c : Bits) (g : Where). FailsWithin n t x c g in
-      let H = λ (x : ℕ) (c : Bits) (g : Where). FailsWithin m t x c g in
+      let G = λ (x : ℕ) (c : Bits) (g : Fault). FailsWithin n t x c g in
+      let H = λ (x : ℕ) (c : Bits) (g : Fault). FailsWithin m t x c g in
       let low : (x : ℕ) → is.rank x < is.rank id → Both t E F G H x = λ x l. ((λ v c. spells_to any n m x (omega arith) v c), (λ c g. fails_to n m x (omega arith) c g)) in
       (h.0, h.1, fault_to t E F G H id (h.0).kind b w (item_of (Both t E F G H) id (h.0).kind (is.items id h.0 h.1) low) (λ c u. course_at t E F G H is id c u (parts_of (Both t E F G H) id c u low)) h.2)
 

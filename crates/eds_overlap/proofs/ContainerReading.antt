@@ -1,4 +1,5 @@
 -- Containers are read exactly.
+use Rattle.eds_base.specs.declared.fault.Fault.{Fault}
 use Rattle.std.proofs.Common.{◌≡◌, ℕ, List, [], ◌∷◌, ◌++◌, length, map, drop, reverse, Option, Some, None, Ok, Err, refl, sym, ap, subst, ◌∙◌, append_assoc, append-nil, inl, inr}
 use Rattle.std.specs.List.{AllByRecursion, flat_map}
 use Rattle.std.proofs.lemmas.Grind.{flat_map-append}
@@ -16,7 +17,7 @@ use Rattle.eds_types.proofs.ExactReading.{ok_err, Front, Is, Exact, done, ok_is,
 use Rattle.eds_types.proofs.FieldKeys.{Holds-more, Holds-before, NotAbove, PartNotAbove, later_entries, later_trailers}
 use Rattle.eds_types.proofs.Grown.{grown}
 use Rattle.eds_types.proofs.SameValues.{list_of-plains_of, plains_of-list_of}
-use Rattle.eds_types.specs.Failing.{Station, condition, entry, choice, end, later, own, course, Where, StationFails, Passes, KindFails}
+use Rattle.eds_types.specs.Failing.{Station, condition, entry, choice, end, chosen_stations, own_stations, course, StationFails, Passes, KindFails}
 use Rattle.eds_types.specs.Fields.{Field, values_of, Holds, IsCandidate, StartsInEntries, constraints_along}
 use Rattle.eds_types.specs.Plain.{Plain, fields, list_of, plains_of}
 use Rattle.eds_types.specs.Reading.{Read, Ends, ended, read_to_end}
@@ -27,7 +28,7 @@ use Rattle.eds_types.specs.Tables.{IsTable}
 use Rattle.eds_types.proofs.AllOf.{All-weaker, All-both, All-front, All-back, All-apply}
 
 module _ (t : Table) (SpellsInner : ℕ → Plain → Bits → Type 0) where
-  grown_in : (Q : ℕ → ℕ → Type 0) (ps : List Placed) (s u : Progress) (b : Bits) → AllByRecursion (λ (p : Placed). Q p.container p.place) ps → EntriesPass t SpellsInner s ps u b → (gs : List Field) × (u.fields ≡ s.fields ++ gs) × AllByRecursion (λ f. Q f.0 f.1) gs
+  grown_in : (Q : ℕ → ℕ → Type 0) (ps : List Placed) (s u : Progress) (b : Bits) → AllByRecursion (λ (p : Placed). Q p.container p.place) ps → EntriesPass t SpellsInner s ps u b → (gs : List Field) × (u.fields ≡ s.fields ++ gs) × AllByRecursion (λ (f : Field). Q f.container f.place) gs
   grown_in Q ps s u b a h = grown any t SpellsInner Q ps s u b a (only_parts t SpellsInner ps s u b h)
 
   -- ---- from the spelling to what is passed
@@ -40,7 +41,7 @@ module _ (t : Table) (SpellsInner : ℕ → Plain → Bits → Type 0) where
   conditions_then x y more [] s u b h k = k
   conditions_then x y more (c ∷ cs) s u b h k = (s, [], b, refl, (refl, refl, h.0), conditions_then x y more cs s u b h.1 k)
 
-  module _ (is : IsTable t) (FailsInner : ℕ → Bits → Where → Type 0) where
+  module _ (is : IsTable t) (FailsInner : ℕ → Bits → Fault → Type 0) where
     E : List ℕ → List Placed
     E ys = flat_map (placed_entries t) ys
 
@@ -63,15 +64,15 @@ module _ (t : Table) (SpellsInner : ℕ → Plain → Bits → Type 0) where
 
     chain_then : (x : ℕ) (more : List Station) (after vs ys zs : List ℕ) (s u : Progress) (b : Bits) → chain t x ≡ zs ++ (ys ++ after)
         → EntriesPass t SpellsInner s (flat_map (placed_entries t) (ys ++ after) ++ flat_map (placed_trailers t) vs) u b → AllByRecursion (Holds t u.fields) (flat_map (constraints_of t) ys)
-        → ((m : Progress) (d : Bits) → EntriesPass t SpellsInner m (flat_map (placed_entries t) after ++ flat_map (placed_trailers t) vs) u d → Passes t SpellsInner x m more u d) → Passes t SpellsInner x s (flat_map (own t) ys ++ more) u b
+        → ((m : Progress) (d : Bits) → EntriesPass t SpellsInner m (flat_map (placed_entries t) after ++ flat_map (placed_trailers t) vs) u d → Passes t SpellsInner x m more u d) → Passes t SpellsInner x s (flat_map (own_stations t) ys ++ more) u b
     chain_then x more after vs [] zs s u b e h a k = k s b h
     chain_then x more after vs (y ∷ ys) zs s u b e h a k =
-        let rest = flat_map (own t) ys ++ more in
+        let rest = flat_map (own_stations t) ys ++ more in
         let qs = flat_map (placed_entries t) (ys ++ after) ++ flat_map (placed_trailers t) vs in
         let now = hold_before x y zs (ys ++ after) vs s u b e h (All-front (Holds t u.fields) (constraints_of t y) (flat_map (constraints_of t) ys) a) in
         let later_ones = All-back (Holds t u.fields) (constraints_of t y) (flat_map (constraints_of t) ys) a in
         let h' = subst (λ ps. EntriesPass t SpellsInner s ps u b) (append_assoc (placed_entries t y) (flat_map (placed_entries t) (ys ++ after)) (flat_map (placed_trailers t) vs)) h in
-        subst (λ l. Passes t SpellsInner x s l u b) (sym (append_assoc (own t y) (flat_map (own t) ys) more ∙ append_assoc (map (condition y) (constraints_of t y)) (map entry (placed_entries t y)) rest))
+        subst (λ l. Passes t SpellsInner x s l u b) (sym (append_assoc (own_stations t y) (flat_map (own_stations t) ys) more ∙ append_assoc (map (condition y) (constraints_of t y)) (map entry (placed_entries t y)) rest))
         (conditions_then x y (map entry (placed_entries t y) ++ rest) (constraints_of t y) s u b now
         (entries_then x rest qs (placed_entries t y) s u b h' (λ m d q. chain_then x more after vs ys (zs ++ y ∷ []) m u d (e ∙ sym (append_assoc zs (y ∷ []) (ys ++ after))) q later_ones k)))
 
@@ -93,7 +94,7 @@ module _ (t : Table) (SpellsInner : ℕ → Plain → Bits → Type 0) where
       finish_then s u b e h = entries_then x (end ∷ []) [] (flat_map (placed_trailers t) (vs_of x)) s u b (subst (λ ps. EntriesPass t SpellsInner s ps u b) (sym (append-nil (flat_map (placed_trailers t) (vs_of x)))) h)
           (λ m d q. (m, [], d, refl, (refl, refl, subst (SizeFits) (sym e ∙ q.0) sp.size), (q.0, q.1)))
 
-      under_then : (y : ℕ) (zs : List ℕ) (s : Progress) (b : Bits) → chain t x ≡ chain t y ++ zs → EntriesPass t SpellsInner s (flat_map (placed_entries t) zs ++ flat_map (placed_trailers t) (vs_of x)) (sp.end) b → Passes t SpellsInner x s (choice y ∷ (later t zs ++ tail t SpellsInner FailsInner x)) (sp.end) b
+      under_then : (y : ℕ) (zs : List ℕ) (s : Progress) (b : Bits) → chain t x ≡ chain t y ++ zs → EntriesPass t SpellsInner s (flat_map (placed_entries t) zs ++ flat_map (placed_trailers t) (vs_of x)) (sp.end) b → Passes t SpellsInner x s (choice y ∷ (chosen_stations t zs ++ tail t SpellsInner FailsInner x)) (sp.end) b
       under_then y [] s b e h =
           let same : y ≡ x = sym (same_chain t is x y (e ∙ append-nil (chain t y))) in
           let g = grown_in (λ z i. Unit {0}) (flat_map (placed_trailers t) (vs_of x)) s (sp.end) b (anywhere (flat_map (placed_trailers t) (vs_of x))) h in
@@ -115,8 +116,8 @@ module _ (t : Table) (SpellsInner : ℕ → Plain → Bits → Type 0) where
             b,
             refl,
             (refl, refl, inl (record { candidate = x; is = candidate_at y (z ∷ zs) s b e h; child = z; towards = (zs, e); under = under_in t is z x zs ex })),
-            subst (λ l. Passes t SpellsInner x s l (sp.end) b) (sym (append_assoc (map entry (placed_entries t z) ++ choice z ∷ []) (later t zs) (tail t SpellsInner FailsInner x) ∙ append_assoc (map entry (placed_entries t z)) (choice z ∷ []) (later t zs ++ tail t SpellsInner FailsInner x)))
-                (entries_then x (choice z ∷ (later t zs ++ tail t SpellsInner FailsInner x)) qs (placed_entries t z) s (sp.end) b h' (λ m d q. under_then z zs m d ex q)),
+            subst (λ l. Passes t SpellsInner x s l (sp.end) b) (sym (append_assoc (map entry (placed_entries t z) ++ choice z ∷ []) (chosen_stations t zs) (tail t SpellsInner FailsInner x) ∙ append_assoc (map entry (placed_entries t z)) (choice z ∷ []) (chosen_stations t zs ++ tail t SpellsInner FailsInner x)))
+                (entries_then x (choice z ∷ (chosen_stations t zs ++ tail t SpellsInner FailsInner x)) qs (placed_entries t z) s (sp.end) b h' (λ m d q. under_then z zs m d ex q)),
           )
 
       pub passes_of : Passes t SpellsInner x started (course t top x) (sp.end) all
@@ -124,14 +125,14 @@ module _ (t : Table) (SpellsInner : ℕ → Plain → Bits → Type 0) where
           let un = sp.under in
           let up = (under_is t is top x un.before un.after un.is).1 in
           let zs = un.after in
-          let c_is : course t top x ≡ flat_map (own t) (chain t top) ++ (choice top ∷ (later t zs ++ tail t SpellsInner FailsInner x)) = ap (λ q. flat_map (own t) (chain t top) ++ (choice top ∷ (later t q ++ tail t SpellsInner FailsInner x))) (ap (drop (length (chain t top))) up ∙ drop-append_seam (chain t top) zs) in
+          let c_is : course t top x ≡ flat_map (own_stations t) (chain t top) ++ (choice top ∷ (chosen_stations t zs ++ tail t SpellsInner FailsInner x)) = ap (λ q. flat_map (own_stations t) (chain t top) ++ (choice top ∷ (chosen_stations t q ++ tail t SpellsInner FailsInner x))) (ap (drop (length (chain t top))) up ∙ drop-append_seam (chain t top) zs) in
           let h = subst (λ c. EntriesPass t SpellsInner started (flat_map (placed_entries t) c ++ flat_map (placed_trailers t) (vs_of x)) (sp.end) all) up parts_in in
           let a = All-front (Holds t (sp.end).fields) (flat_map (constraints_of t) (chain t top)) (flat_map (constraints_of t) zs) (subst (AllByRecursion (Holds t (sp.end).fields)) (ap (flat_map (constraints_of t)) up ∙ flat_map-append (constraints_of t) (chain t top) zs) sp.constraints) in
-          subst (λ l. Passes t SpellsInner x started l (sp.end) all) (sym c_is) (chain_then x (choice top ∷ (later t zs ++ tail t SpellsInner FailsInner x)) zs (vs_of x) (chain t top) [] started (sp.end) all up h a (λ m d q. under_then top zs m d up q))
+          subst (λ l. Passes t SpellsInner x started l (sp.end) all) (sym c_is) (chain_then x (choice top ∷ (chosen_stations t zs ++ tail t SpellsInner FailsInner x)) zs (vs_of x) (chain t top) [] started (sp.end) all up h a (λ m d q. under_then top zs m d up q))
 
   -- ---- runs and what is passed
 
-  module _ (FailsInner : ℕ → Bits → Where → Type 0) (x : ℕ) where
+  module _ (FailsInner : ℕ → Bits → Fault → Type 0) (x : ℕ) where
     pub to_run : (ss : List Station) (s u : Progress) (c b rest : Bits) → Passes t SpellsInner x s ss u c → b ≡ c ++ rest → Runs t SpellsInner FailsInner x ss s b (Ok (x, u, rest))
     to_run [] s u c b rest h e = ap (λ z. done (x, z, rest)) h.0 ∙ ap (λ z. done (x, s, z)) (sym (e ∙ ap (λ z. z ++ rest) h.1))
     to_run (p ∷ ss) s u c b rest h e = inr (h.0, h.1, h.2 ++ rest, e ∙ ap (λ z. z ++ rest) h.3 ∙ append_assoc h.1 h.2 rest, h.4, to_run ss h.0 u h.2 (h.2 ++ rest) rest h.5 refl)
@@ -145,13 +146,13 @@ module _ (t : Table) (SpellsInner : ℕ → Plain → Bits → Type 0) where
         let r = from_run ss q.0 q.2 w q.5 in
         (r.0, record { front = q.1 ++ r.1.front; is = regroup b q.1 q.2 r.1.front w.2 q.3 r.1.is; has = (q.0, q.1, r.1.front, refl, q.4, r.1.has) })
 
-    pub to_fault : (done' : List Station) (station : Station) (rest : List Station) (s m : Progress) (b c d : Bits) (g : Where) → Passes t SpellsInner x s done' m c → b ≡ c ++ d → StationFails t SpellsInner FailsInner x m station d g → Runs t SpellsInner FailsInner x (done' ++ station ∷ rest) s b (Err g)
+    pub to_fault : (done' : List Station) (station : Station) (rest : List Station) (s m : Progress) (b c d : Bits) (g : Fault) → Passes t SpellsInner x s done' m c → b ≡ c ++ d → StationFails t SpellsInner FailsInner x m station d g → Runs t SpellsInner FailsInner x (done' ++ station ∷ rest) s b (Err g)
     to_fault [] station rest s m b c d g h e f =
         let same : b ≡ d = e ∙ ap (λ z. z ++ d) h.1 in
         inl (g, subst (λ z. StationFails t SpellsInner FailsInner x s station z g) (sym same) (subst (λ z. StationFails t SpellsInner FailsInner x z station d g) h.0 f), refl)
     to_fault (p ∷ ps) station rest s m b c d g h e f = inr (h.0, h.1, h.2 ++ d, e ∙ ap (λ z. z ++ d) h.3 ∙ append_assoc h.1 h.2 d, h.4, to_fault ps station rest h.0 m (h.2 ++ d) h.2 d g h.5 refl f)
 
-    pub record Stop (ss : List Station) (s : Progress) (b : Bits) (g : Where) : Type 0 where
+    pub record Stop (ss : List Station) (s : Progress) (b : Bits) (g : Fault) : Type 0 where
       pub before : List Station
       pub station : Station
       pub rest : List Station
@@ -163,14 +164,14 @@ module _ (t : Table) (SpellsInner : ℕ → Plain → Bits → Type 0) where
       pub passes : Passes t SpellsInner x s before state c
       pub fails : StationFails t SpellsInner FailsInner x state station d g
 
-    pub from_fault : (ss : List Station) (s : Progress) (b : Bits) (g : Where) → Runs t SpellsInner FailsInner x ss s b (Err g) → Stop ss s b g
+    pub from_fault : (ss : List Station) (s : Progress) (b : Bits) (g : Fault) → Runs t SpellsInner FailsInner x ss s b (Err g) → Stop ss s b g
     from_fault [] s b g h = absurd (ok_err (done (x, s, b)) (x, s, b) g refl (sym h))
     from_fault (p ∷ ss) s b g (inl f) = record { before = []; station = p; rest = ss; is = refl; state = s; c = []; d = b; bits = refl; passes = (refl, refl); fails = subst (StationFails t SpellsInner FailsInner x s p b) (sym (err_is (ℕ × Progress × Bits) g f.0 f.2)) f.1 }
     from_fault (p ∷ ss) s b g (inr q) =
         let r = from_fault ss q.0 q.2 g q.5 in
         record { before = p ∷ r.before; station = r.station; rest = r.rest; is = ap (λ z. p ∷ z) r.is; state = r.state; c = q.1 ++ r.c; d = r.d; bits = regroup b q.1 q.2 r.c r.d q.3 r.bits; passes = (q.0, q.1, r.c, refl, q.4, r.passes); fails = r.fails }
 
-module _ (t : Table) (is : IsTable t) (read : ℕ → Bits → Read Plain) (SpellsInner : ℕ → Plain → Bits → Type 0) (FailsInner : ℕ → Bits → Where → Type 0) (top : ℕ) (family : Family t SpellsInner FailsInner read top) (Inv : Progress → Type 0) (kept : Kept t read SpellsInner FailsInner top Inv) (agrees : Agreeing t read SpellsInner FailsInner top Inv) (fit : (k : ℕ) (fs : List Plain) (b : Bits) (sp : ContainerSpells any t SpellsInner top k fs b) → EntriesPass t SpellsInner started (sequence t k) (sp.end) b) where
+module _ (t : Table) (is : IsTable t) (read : ℕ → Bits → Read Plain) (SpellsInner : ℕ → Plain → Bits → Type 0) (FailsInner : ℕ → Bits → Fault → Type 0) (top : ℕ) (family : Family t SpellsInner FailsInner read top) (Inv : Progress → Type 0) (kept : Kept t read SpellsInner FailsInner top Inv) (agrees : Agreeing t read SpellsInner FailsInner top Inv) (fit : (k : ℕ) (fs : List Plain) (b : Bits) (sp : ContainerSpells any t SpellsInner top k fs b) → EntriesPass t SpellsInner started (sequence t k) (sp.end) b) where
   pub container_exact : (c : Container) → Exact (λ b. ended t read (read_to_end t read top b)) (KindSpells any t SpellsInner top (kind.Con c)) (KindFails t SpellsInner FailsInner top (kind.Con c))
   container_exact c = record { from = λ b. there b (read_to_end t read top b) (container_from t SpellsInner FailsInner read is top family b); to = back }
     where

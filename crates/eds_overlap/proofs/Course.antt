@@ -1,4 +1,5 @@
 -- Reading a container is a run along the course of some container, and each such run is read.
+use Rattle.eds_base.specs.declared.fault.Fault.{Fault}
 use Rattle.std.proofs.Common.{◌≡◌, ℕ, zero, suc, ◌+◌, ◌<◌, ℤ, pos, Bool, true, false, cond, List, [], ◌∷◌, ◌++◌, length, map, drop, reverse, Option, Some, None, Result, Ok, Err, refl, sym, ap, subst, ◌∙◌, append_assoc, append-nil, arith, ◌⊎◌, inl, inr, unwrap_or}
 use Rattle.std.specs.Prelude.{slice_get, IfSome}
 use Rattle.std.specs.List.{AllByRecursion, flat_map}
@@ -14,7 +15,7 @@ use Rattle.eds_types.proofs.ChainLaws.{chain_end, child_is, child_of, chain_leng
 use Rattle.eds_types.proofs.ExactReading.{same_ok, ok_err, Is}
 use Rattle.eds_types.proofs.PartReading.{PartGood, entry_exact}
 use Rattle.eds_types.proofs.ReadingTests.{holds_from, holds_in, found_is, none_is}
-use Rattle.eds_types.specs.Failing.{Station, condition, entry, choice, end, later, own, course, Where, path_steps, length_path, StationPasses, StationFails, EntryPasses, EntryFails}
+use Rattle.eds_types.specs.Failing.{Station, condition, entry, choice, end, chosen_stations, own_stations, course, path_steps, length_path, StationPasses, StationFails, EntryPasses, EntryFails, fault_at}
 use Rattle.eds_types.specs.Fields.{IsAtOrUnder, IsCandidate}
 use Rattle.eds_types.specs.Plain.{Plain}
 use Rattle.eds_types.specs.Reading.{Read, Ends, ◌>>=◌, read_entry, read_parts, check_all, holds, candidate_under, stay, nowhere, under, next_of, size_fits, finish, read_own, trailers_up, read_chain, go_on, read_under, read_to_end}
@@ -22,7 +23,7 @@ use Rattle.eds_types.specs.Rows.{Table, chain, is_concrete, constraints_of, Plac
 use Rattle.eds_types.specs.Spelling.{Progress, started}
 use Rattle.eds_types.specs.Tables.{IsTable}
 
-pub bind_assoc : {A B C : Type 0} (r : Result A Where) (f : A → Result B Where) (g : B → Result C Where) → ((r >>= f) >>= g) ≡ (r >>= λ x. f x >>= g)
+pub bind_assoc : {A B C : Type 0} (r : Result A Fault) (f : A → Result B Fault) (g : B → Result C Fault) → ((r >>= f) >>= g) ≡ (r >>= λ x. f x >>= g)
 bind_assoc (Ok x) f g = refl
 bind_assoc (Err e) f g = refl
 
@@ -34,17 +35,17 @@ pub same_tail : (a : List ℕ) (ys zs : List ℕ) → a ++ ys ≡ a ++ zs → ys
 same_tail [] ys zs e = e
 same_tail (c ∷ a) ys zs e = let q : a ++ ys ≡ a ++ zs = cc in same_tail a ys zs q
 
-module _ (t : Table) (SpellsInner : ℕ → Plain → Bits → Type 0) (FailsInner : ℕ → Bits → Where → Type 0) where
+module _ (t : Table) (SpellsInner : ℕ → Plain → Bits → Type 0) (FailsInner : ℕ → Bits → Fault → Type 0) where
   -- how going through stations of x ends
   abbrev pub Runs : ℕ → List Station → Progress → Bits → Ends → Type 0
   Runs x [] s b r = r ≡ Ok (x, s, b)
-  Runs x (p ∷ ps) s b r = ((g : Where) × StationFails t SpellsInner FailsInner x s p b g × (r ≡ Err g)) ⊎ ((m : Progress) × (c : Bits) × (d : Bits) × (b ≡ c ++ d) × StationPasses t SpellsInner x s p m c × Runs x ps m d r)
+  Runs x (p ∷ ps) s b r = ((g : Fault) × StationFails t SpellsInner FailsInner x s p b g × (r ≡ Err g)) ⊎ ((m : Progress) × (c : Bits) × (d : Bits) × (b ≡ c ++ d) × StationPasses t SpellsInner x s p m c × Runs x ps m d r)
 
   abbrev pub tail : ℕ → List Station
   tail x = map entry (flat_map (placed_trailers t) (reverse (chain t x))) ++ end ∷ []
 
-  pub later_is : (z : ℕ) (zs : List ℕ) (more : List Station) → later t (z ∷ zs) ++ more ≡ map entry (placed_entries t z) ++ (choice z ∷ (later t zs ++ more))
-  later_is z zs more = append_assoc (map entry (placed_entries t z) ++ choice z ∷ []) (later t zs) more ∙ append_assoc (map entry (placed_entries t z)) (choice z ∷ []) (later t zs ++ more)
+  pub later_is : (z : ℕ) (zs : List ℕ) (more : List Station) → chosen_stations t (z ∷ zs) ++ more ≡ map entry (placed_entries t z) ++ (choice z ∷ (chosen_stations t zs ++ more))
+  later_is z zs more = append_assoc (map entry (placed_entries t z) ++ choice z ∷ []) (chosen_stations t zs) more ∙ append_assoc (map entry (placed_entries t z)) (choice z ∷ []) (chosen_stations t zs ++ more)
 
   module _ (read : ℕ → Bits → Read Plain) where
     abbrev pub Good : Placed → Type 0
@@ -67,14 +68,14 @@ module _ (t : Table) (SpellsInner : ℕ → Plain → Bits → Type 0) (FailsInn
     conditions_from x y more [] s b r h = h refl
     conditions_from x y more (c ∷ cs) s b r h = go (holds t s.fields c) refl h (conditions_from x y more cs s b r)
       where
-        go : (q : Bool) → holds t s.fields c ≡ q → (cond q (check_all t cs s.fields) (Err (Constraint, path_steps c.path)) ≡ Ok tt → Runs x more s b r)
+        go : (q : Bool) → holds t s.fields c ≡ q → (cond q (check_all t cs s.fields) (Err (fault_at Constraint (path_steps c.path))) ≡ Ok tt → Runs x more s b r)
             → ((check_all t cs s.fields ≡ Ok tt → Runs x more s b r) → Runs x (map (condition y) cs ++ more) s b (check_all t cs s.fields >>= λ u. r))
-            → Runs x (map (condition y) (c ∷ cs) ++ more) s b (cond q (check_all t cs s.fields) (Err (Constraint, path_steps c.path)) >>= λ u. r)
+            → Runs x (map (condition y) (c ∷ cs) ++ more) s b (cond q (check_all t cs s.fields) (Err (fault_at Constraint (path_steps c.path))) >>= λ u. r)
         go true e h ih = inr (s, [], b, refl, (refl, refl, holds_from t s.fields c e), ih h)
-        go false e h ih = inl ((Constraint, path_steps c.path), ((λ h. both_ways (holds t s.fields c) e (holds_in t s.fields c h)), refl), refl)
+        go false e h ih = inl ((fault_at Constraint (path_steps c.path)), ((λ h. both_ways (holds t s.fields c) e (holds_in t s.fields c h)), refl), refl)
 
     own_from : (x y : ℕ) (more : List Station) (s : Progress) (b : Bits) (k : Progress × Bits → Ends) → AllByRecursion Good (placed_entries t y)
-        → ((v : Progress × Bits) → read_own t read y s b ≡ Ok v → Runs x more v.0 v.1 (k v)) → Runs x (own t y ++ more) s b (read_own t read y s b >>= k)
+        → ((v : Progress × Bits) → read_own t read y s b ≡ Ok v → Runs x more v.0 v.1 (k v)) → Runs x (own_stations t y ++ more) s b (read_own t read y s b >>= k)
     own_from x y more s b k good h =
         let checks = check_all t (constraints_of t y) s.fields in
         let parts = read_parts t read (placed_entries t y) s b in
@@ -84,13 +85,13 @@ module _ (t : Table) (SpellsInner : ℕ → Plain → Bits → Type 0) (FailsInn
         (λ e. parts_from x more (placed_entries t y) s b k good (λ v ev. h v (ap (λ z. z >>= λ u. parts) e ∙ ev)))))
 
     chain_from : (x : ℕ) (more : List Station) (ys : List ℕ) (s : Progress) (b : Bits) (k : Progress × Bits → Ends) → AllByRecursion (λ y. AllByRecursion Good (placed_entries t y)) ys
-        → ((v : Progress × Bits) → read_chain t read ys s b ≡ Ok v → Runs x more v.0 v.1 (k v)) → Runs x (flat_map (own t) ys ++ more) s b (read_chain t read ys s b >>= k)
+        → ((v : Progress × Bits) → read_chain t read ys s b ≡ Ok v → Runs x more v.0 v.1 (k v)) → Runs x (flat_map (own_stations t) ys ++ more) s b (read_chain t read ys s b >>= k)
     unfolding read_chain
     chain_from x more [] s b k good h = h (s, b) refl
     chain_from x more (y ∷ ys) s b k good h =
-        subst (λ l. Runs x l s b ((read_own t read y s b >>= λ v. read_chain t read ys v.0 v.1) >>= k)) (sym (append_assoc (own t y) (flat_map (own t) ys) more))
-        (subst (Runs x (own t y ++ (flat_map (own t) ys ++ more)) s b) (sym (bind_assoc (read_own t read y s b) (λ v. read_chain t read ys v.0 v.1) k))
-        (own_from x y (flat_map (own t) ys ++ more) s b (λ v. read_chain t read ys v.0 v.1 >>= k) good.0
+        subst (λ l. Runs x l s b ((read_own t read y s b >>= λ v. read_chain t read ys v.0 v.1) >>= k)) (sym (append_assoc (own_stations t y) (flat_map (own_stations t) ys) more))
+        (subst (Runs x (own_stations t y ++ (flat_map (own_stations t) ys ++ more)) s b) (sym (bind_assoc (read_own t read y s b) (λ v. read_chain t read ys v.0 v.1) k))
+        (own_from x y (flat_map (own_stations t) ys ++ more) s b (λ v. read_chain t read ys v.0 v.1 >>= k) good.0
         (λ v e. chain_from x more ys v.0 v.1 k good.1 (λ w ew. h w (ap (λ z. z >>= λ v. read_chain t read ys v.0 v.1) e ∙ ew)))))
 
     pub fits_is : (o : Option ℤ) (b : Bits) → size_fits o b ≡ true → IfSome o (λ n. n ≡ pos (octets_for (length b)))
@@ -104,9 +105,9 @@ module _ (t : Table) (SpellsInner : ℕ → Plain → Bits → Type 0) (FailsInn
     tail_from : (x : ℕ) (s : Progress) (b : Bits) → AllByRecursion Good (trailers_up t read x) → Runs x (tail x) s b (read_parts t read (trailers_up t read x) s b >>= finish x (length_path t x))
     tail_from x s b good = parts_from x (end ∷ []) (trailers_up t read x) s b (finish x (length_path t x)) good (λ v e. go v (size_fits (v.0).octets (v.0).before) refl)
       where
-        go : (v : Progress × Bits) (q : Bool) → size_fits (v.0).octets (v.0).before ≡ q → Runs x (end ∷ []) v.0 v.1 (cond q (Ok (x, v.0, v.1)) (Err (LengthDiffers, length_path t x)))
+        go : (v : Progress × Bits) (q : Bool) → size_fits (v.0).octets (v.0).before ≡ q → Runs x (end ∷ []) v.0 v.1 (cond q (Ok (x, v.0, v.1)) (Err (fault_at LengthDiffers (length_path t x))))
         go v true e = inr (v.0, [], v.1, refl, (refl, refl, fits_is (v.0).octets (v.0).before e), refl)
-        go v false e = inl ((LengthDiffers, length_path t x), ((λ h. both_ways (size_fits (v.0).octets (v.0).before) e (is_fit (v.0).octets (v.0).before h)), refl), refl)
+        go v false e = inl ((fault_at LengthDiffers (length_path t x)), ((λ h. both_ways (size_fits (v.0).octets (v.0).before) e (is_fit (v.0).octets (v.0).before h)), refl), refl)
 
     -- the parts of all containers above a container under the top are good
     pub record Family (top : ℕ) : Type 0 where
@@ -118,7 +119,7 @@ module _ (t : Table) (SpellsInner : ℕ → Plain → Bits → Type 0) (FailsInn
         pub x : ℕ
         pub zs : List ℕ
         pub chain_is : chain t x ≡ chain t y ++ zs
-        pub runs : Runs x (choice y ∷ (later t zs ++ tail x)) s b r
+        pub runs : Runs x (choice y ∷ (chosen_stations t zs ++ tail x)) s b r
 
       pub under_top : (y : ℕ) (ws : List ℕ) → chain t y ≡ chain t top ++ ws → IsAtOrUnder t top y
       under_top y ws e = under_in t is top y ws e
@@ -144,7 +145,7 @@ module _ (t : Table) (SpellsInner : ℕ → Plain → Bits → Type 0) (FailsInn
           under_z : IsAtOrUnder t z l
           under_z = under_in t is z l zs (el ∙ sym (append_assoc (chain t y) (z ∷ []) zs) ∙ ap (λ c. c ++ zs) (sym chain_z))
 
-          made : (x : ℕ) (more : List ℕ) → chain t x ≡ chain t z ++ more → Runs x (map entry (placed_entries t z) ++ (choice z ∷ (later t more ++ tail x))) s b (read_parts t read (placed_entries t z) s b >>= λ v. then z v.0 v.1) → Below y s b (read_parts t read (placed_entries t z) s b >>= λ v. then z v.0 v.1)
+          made : (x : ℕ) (more : List ℕ) → chain t x ≡ chain t z ++ more → Runs x (map entry (placed_entries t z) ++ (choice z ∷ (chosen_stations t more ++ tail x))) s b (read_parts t read (placed_entries t z) s b >>= λ v. then z v.0 v.1) → Below y s b (read_parts t read (placed_entries t z) s b >>= λ v. then z v.0 v.1)
           made x more ex runs =
               let ex' : chain t x ≡ chain t y ++ z ∷ more = ex ∙ ap (λ c. c ++ more) chain_z ∙ append_assoc (chain t y) (z ∷ []) more in
               record {
@@ -164,9 +165,9 @@ module _ (t : Table) (SpellsInner : ℕ → Plain → Bits → Type 0) (FailsInn
           go : (r : Read Progress) → read_parts t read (placed_entries t z) s b ≡ r → Below y s b (read_parts t read (placed_entries t z) s b >>= λ v. then z v.0 v.1)
           go (Ok v) q =
               let below = ih v.0 v.1 in
-              made below.x below.zs below.chain_is (parts_from below.x (choice z ∷ (later t below.zs ++ tail below.x)) (placed_entries t z) s b (λ v. then z v.0 v.1) good
-              (λ w ew. subst (λ (u : Progress × Bits). Runs below.x (choice z ∷ (later t below.zs ++ tail below.x)) u.0 u.1 (then z u.0 u.1)) (same_ok (read_parts t read (placed_entries t z) s b) v w q ew) below.runs))
-          go (Err g) q = made z [] (sym (append-nil (chain t z))) (parts_from z (choice z ∷ (later t [] ++ tail z)) (placed_entries t z) s b (λ v. then z v.0 v.1) good (λ w ew. absurd (ok_err (read_parts t read (placed_entries t z) s b) w g ew q)))
+              made below.x below.zs below.chain_is (parts_from below.x (choice z ∷ (chosen_stations t below.zs ++ tail below.x)) (placed_entries t z) s b (λ v. then z v.0 v.1) good
+              (λ w ew. subst (λ (u : Progress × Bits). Runs below.x (choice z ∷ (chosen_stations t below.zs ++ tail below.x)) u.0 u.1 (then z u.0 u.1)) (same_ok (read_parts t read (placed_entries t z) s b) v w q ew) below.runs))
+          go (Err g) q = made z [] (sym (append-nil (chain t z))) (parts_from z (choice z ∷ (chosen_stations t [] ++ tail z)) (placed_entries t z) s b (λ v. then z v.0 v.1) good (λ w ew. absurd (ok_err (read_parts t read (placed_entries t z) s b) w g ew q)))
 
       stays : (y : ℕ) (ws : List ℕ) (s : Progress) (b : Bits) (then : ℕ → Progress → Bits → Ends) → chain t y ≡ chain t top ++ ws → candidate_under t y s.fields ≡ None → (q : Bool) → is_concrete t y ≡ q → Below y s b (go_on t read then y s b (cond q stay nowhere))
       stays y ws s b then e none true c = record {
@@ -179,7 +180,7 @@ module _ (t : Table) (SpellsInner : ℕ → Plain → Bits → Type 0) (FailsInn
         x = y;
         zs = [];
         chain_is = sym (append-nil (chain t y));
-        runs = inl ((NoDerived, step.Choice (id_of y) ∷ []), (refl, c, (λ l h. elim (cases_eq l y) [ inl q ↦ both_ways (is_concrete t l) (ap (is_concrete t) q ∙ c) h.concrete | inr ne ↦ none_is t y s.fields none l ne h ]), refl), refl);
+        runs = inl ((fault_at NoDerived (step.Choice (id_of y) ∷ [])), (refl, c, (λ l h. elim (cases_eq l y) [ inl q ↦ both_ways (is_concrete t l) (ap (is_concrete t) q ∙ c) h.concrete | inr ne ↦ none_is t y s.fields none l ne h ]), refl), refl);
       }
 
       under_from : (n y : ℕ) (ws : List ℕ) (s : Progress) (b : Bits) → chain t y ≡ chain t top ++ ws → 16 < length (chain t y) + n → Below y s b (read_under t read n y s b)
@@ -203,8 +204,8 @@ module _ (t : Table) (SpellsInner : ℕ → Plain → Bits → Type 0) (FailsInn
         pub under : IsAtOrUnder t top x
         pub runs : Runs x (course t top x) started b r
 
-      pub course_is : (x : ℕ) (zs : List ℕ) → chain t x ≡ chain t top ++ zs → flat_map (own t) (chain t top) ++ (choice top ∷ (later t zs ++ tail x)) ≡ course t top x
-      course_is x zs e = ap (λ q. flat_map (own t) (chain t top) ++ (choice top ∷ (later t q ++ tail x))) (sym (ap (drop (length (chain t top))) e ∙ drop-append_seam (chain t top) zs))
+      pub course_is : (x : ℕ) (zs : List ℕ) → chain t x ≡ chain t top ++ zs → flat_map (own_stations t) (chain t top) ++ (choice top ∷ (chosen_stations t zs ++ tail x)) ≡ course t top x
+      course_is x zs e = ap (λ q. flat_map (own_stations t) (chain t top) ++ (choice top ∷ (chosen_stations t q ++ tail x))) (sym (ap (drop (length (chain t top))) e ∙ drop-append_seam (chain t top) zs))
 
       pub container_from : (b : Bits) → Run b (read_to_end t read top b)
       container_from b = go (read_chain t read (chain t top) started b) refl
@@ -221,12 +222,12 @@ module _ (t : Table) (SpellsInner : ℕ → Plain → Bits → Type 0) (FailsInn
           good : AllByRecursion (λ y. AllByRecursion Good (placed_entries t y)) (chain t top)
           good = family.entries top (under_top top [] nil)
 
-          made : (x : ℕ) (zs : List ℕ) → chain t x ≡ chain t top ++ zs → Runs x (flat_map (own t) (chain t top) ++ (choice top ∷ (later t zs ++ tail x))) started b (read_chain t read (chain t top) started b >>= then) → Run b (read_to_end t read top b)
+          made : (x : ℕ) (zs : List ℕ) → chain t x ≡ chain t top ++ zs → Runs x (flat_map (own_stations t) (chain t top) ++ (choice top ∷ (chosen_stations t zs ++ tail x))) started b (read_chain t read (chain t top) started b >>= then) → Run b (read_to_end t read top b)
           made x zs e runs = record { x = x; under = under_top x zs e; runs = subst (λ q. Runs x q started b (read_to_end t read top b)) (course_is x zs e) runs }
 
           go : (r : Read Progress) → read_chain t read (chain t top) started b ≡ r → Run b (read_to_end t read top b)
           go (Ok v) q =
               let below = under_from 16 top [] v.0 v.1 nil deep in
-              made below.x below.zs below.chain_is (chain_from below.x (choice top ∷ (later t below.zs ++ tail below.x)) (chain t top) started b then good
-              (λ w ew. subst (λ (u : Progress × Bits). Runs below.x (choice top ∷ (later t below.zs ++ tail below.x)) u.0 u.1 (then u)) (same_ok (read_chain t read (chain t top) started b) v w q ew) below.runs))
-          go (Err g) q = made top [] nil (chain_from top (choice top ∷ (later t [] ++ tail top)) (chain t top) started b then good (λ w ew. absurd (ok_err (read_chain t read (chain t top) started b) w g ew q)))
+              made below.x below.zs below.chain_is (chain_from below.x (choice top ∷ (chosen_stations t below.zs ++ tail below.x)) (chain t top) started b then good
+              (λ w ew. subst (λ (u : Progress × Bits). Runs below.x (choice top ∷ (chosen_stations t below.zs ++ tail below.x)) u.0 u.1 (then u)) (same_ok (read_chain t read (chain t top) started b) v w q ew) below.runs))
+          go (Err g) q = made top [] nil (chain_from top (choice top ∷ (chosen_stations t [] ++ tail top)) (chain t top) started b then good (λ w ew. absurd (ok_err (read_chain t read (chain t top) started b) w g ew q)))

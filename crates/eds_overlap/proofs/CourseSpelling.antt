@@ -1,4 +1,5 @@
 -- A run to the end of a course is a spelling, and a run to a fault is a fault.
+use Rattle.eds_base.specs.declared.fault.Fault.{Fault}
 use Rattle.std.proofs.Common.{◌≡◌, ℕ, List, [], ◌∷◌, ◌++◌, length, map, drop, reverse, refl, sym, ap, subst, ◌∙◌, append_assoc, append-nil, ◌⊎◌, inl, inr}
 use Rattle.std.specs.Prelude.{IsTrue, ◌≢◌}
 use Rattle.std.specs.List.{AllByRecursion, flat_map}
@@ -11,7 +12,7 @@ use Rattle.eds_overlap.proofs.Course.{tail, same_tail}
 use Rattle.eds_types.proofs.ChainLaws.{same_chain, under_is, child_is, longer}
 use Rattle.eds_types.proofs.FieldKeys.{Holds-more, Holds-before, NotAbove, FieldNotAbove, PartNotAbove, later_trailers}
 use Rattle.eds_types.proofs.Grown.{grown}
-use Rattle.eds_types.specs.Failing.{Station, condition, entry, choice, end, later, own, course, GoesOn, NoneUnder, Where, Passes}
+use Rattle.eds_types.specs.Failing.{Station, condition, entry, choice, end, chosen_stations, own_stations, course, GoesOn, NoneUnder, Passes}
 use Rattle.eds_types.specs.Fields.{Field, values_of, Holds, IsAtOrUnder, IsCandidate, StartsInEntries, constraints_along}
 use Rattle.eds_types.specs.Plain.{Plain}
 use Rattle.eds_types.specs.Rows.{Table, chain, is_concrete, constraints_of, Placed, placed_entries, placed_trailers, sequence}
@@ -49,25 +50,25 @@ module _ (t : Table) (SpellsInner : ℕ → Plain → Bits → Type 0) where
   parts-conditions y [] = refl
   parts-conditions y (c ∷ cs) = parts-conditions y cs
 
-  parts-own : (ys : List ℕ) → parts (flat_map (own t) ys) ≡ flat_map (placed_entries t) ys
+  parts-own : (ys : List ℕ) → parts (flat_map (own_stations t) ys) ≡ flat_map (placed_entries t) ys
   unfolding parts
   parts-own [] = refl
   parts-own (y ∷ ys) =
-      parts-append (own t y) (flat_map (own t) ys) ∙ ap (λ z. z ++ parts (flat_map (own t) ys)) (parts-append (map (condition y) (constraints_of t y)) (map entry (placed_entries t y)) ∙ ap (λ z. z ++ parts (map entry (placed_entries t y))) (parts-conditions y (constraints_of t y)) ∙ parts-entries (placed_entries t y))
+      parts-append (own_stations t y) (flat_map (own_stations t) ys) ∙ ap (λ z. z ++ parts (flat_map (own_stations t) ys)) (parts-append (map (condition y) (constraints_of t y)) (map entry (placed_entries t y)) ∙ ap (λ z. z ++ parts (map entry (placed_entries t y))) (parts-conditions y (constraints_of t y)) ∙ parts-entries (placed_entries t y))
       ∙ ap (λ z. placed_entries t y ++ z) (parts-own ys)
 
-  parts-later : (zs : List ℕ) → parts (later t zs) ≡ flat_map (placed_entries t) zs
+  parts-later : (zs : List ℕ) → parts (chosen_stations t zs) ≡ flat_map (placed_entries t) zs
   unfolding parts
   parts-later [] = refl
   parts-later (z ∷ zs) =
-      parts-append (map entry (placed_entries t z) ++ choice z ∷ []) (later t zs)
-      ∙ ap (λ w. w ++ parts (later t zs)) (parts-append (map entry (placed_entries t z)) (choice z ∷ []) ∙ ap (λ w. w ++ []) (parts-entries (placed_entries t z)) ∙ append-nil (placed_entries t z))
+      parts-append (map entry (placed_entries t z) ++ choice z ∷ []) (chosen_stations t zs)
+      ∙ ap (λ w. w ++ parts (chosen_stations t zs)) (parts-append (map entry (placed_entries t z)) (choice z ∷ []) ∙ ap (λ w. w ++ []) (parts-entries (placed_entries t z)) ∙ append-nil (placed_entries t z))
       ∙ ap (λ w. placed_entries t z ++ w) (parts-later zs)
 
-  parts-rest : (FailsInner : ℕ → Bits → Where → Type 0) (x y : ℕ) (zs : List ℕ) → parts (choice y ∷ (later t zs ++ tail t SpellsInner FailsInner x)) ≡ flat_map (placed_entries t) zs ++ flat_map (placed_trailers t) (reverse (chain t x))
+  parts-rest : (FailsInner : ℕ → Bits → Fault → Type 0) (x y : ℕ) (zs : List ℕ) → parts (choice y ∷ (chosen_stations t zs ++ tail t SpellsInner FailsInner x)) ≡ flat_map (placed_entries t) zs ++ flat_map (placed_trailers t) (reverse (chain t x))
   unfolding parts
   parts-rest FailsInner x y zs =
-      parts-append (later t zs) (tail t SpellsInner FailsInner x) ∙ ap (λ w. w ++ parts (tail t SpellsInner FailsInner x)) (parts-later zs)
+      parts-append (chosen_stations t zs) (tail t SpellsInner FailsInner x) ∙ ap (λ w. w ++ parts (tail t SpellsInner FailsInner x)) (parts-later zs)
       ∙ ap (λ w. flat_map (placed_entries t) zs ++ w) (parts-append (map entry (flat_map (placed_trailers t) (reverse (chain t x)))) (end ∷ []) ∙ append-nil (parts (map entry (flat_map (placed_trailers t) (reverse (chain t x))))) ∙ parts-entries (flat_map (placed_trailers t) (reverse (chain t x))))
 
   -- what is passed holds the parts
@@ -106,17 +107,17 @@ module _ (t : Table) (SpellsInner : ℕ → Plain → Bits → Type 0) where
   past_entries x more [] s u b h = (s, b, h)
   past_entries x more (p ∷ ps) s u b h = past_entries x more ps h.0 u h.2 h.5
 
-  chain_holds : (x : ℕ) (more : List Station) (ys : List ℕ) (s u : Progress) (b : Bits) → Passes t SpellsInner x s (flat_map (own t) ys ++ more) u b → AllByRecursion (Holds t u.fields) (flat_map (constraints_of t) ys) × ((m : Progress) × (d : Bits) × Passes t SpellsInner x m more u d)
+  chain_holds : (x : ℕ) (more : List Station) (ys : List ℕ) (s u : Progress) (b : Bits) → Passes t SpellsInner x s (flat_map (own_stations t) ys ++ more) u b → AllByRecursion (Holds t u.fields) (flat_map (constraints_of t) ys) × ((m : Progress) × (d : Bits) × Passes t SpellsInner x m more u d)
   chain_holds x more [] s u b h = (tt, (s, b, h))
   chain_holds x more (y ∷ ys) s u b h =
-      let rest = flat_map (own t) ys ++ more in
-      let h' = subst (λ l. Passes t SpellsInner x s l u b) (append_assoc (own t y) (flat_map (own t) ys) more ∙ append_assoc (map (condition y) (constraints_of t y)) (map entry (placed_entries t y)) rest) h in
+      let rest = flat_map (own_stations t) ys ++ more in
+      let h' = subst (λ l. Passes t SpellsInner x s l u b) (append_assoc (own_stations t y) (flat_map (own_stations t) ys) more ∙ append_assoc (map (condition y) (constraints_of t y)) (map entry (placed_entries t y)) rest) h in
       let one = conditions_hold x y (map entry (placed_entries t y) ++ rest) (constraints_of t y) s u b h' in
       let two = past_entries x rest (placed_entries t y) s u b one.1 in
       let three = chain_holds x more ys two.0 u two.1 two.2 in
       (All-both (Holds t u.fields) (constraints_of t y) (flat_map (constraints_of t) ys) one.0 three.0, three.1)
 
-  module _ (is : IsTable t) (FailsInner : ℕ → Bits → Where → Type 0) where
+  module _ (is : IsTable t) (FailsInner : ℕ → Bits → Fault → Type 0) where
     -- the constraints of a type hold where it has a candidate below
     child_holds : (x z l : ℕ) (more : List ℕ) (fs : List Field) → chain t l ≡ chain t x ++ z ∷ more → IsCandidate t x l fs → AllByRecursion (Holds t fs) (constraints_of t z)
     child_holds x z l more fs e h =
@@ -140,7 +141,7 @@ module _ (t : Table) (SpellsInner : ℕ → Plain → Bits → Type 0) where
     end_fits x [] s u b h = subst (SizeFits) (sym ((h.5).0 ∙ (h.4).0)) (h.4).2
     end_fits x (p ∷ ps) s u b h = end_fits x ps h.0 u h.2 h.5
 
-    rest_is : (x y : ℕ) (zs : List ℕ) (s u : Progress) (b : Bits) → chain t x ≡ chain t y ++ zs → Passes t SpellsInner x s (choice y ∷ (later t zs ++ tail t SpellsInner FailsInner x)) u b → Rest x zs u
+    rest_is : (x y : ℕ) (zs : List ℕ) (s u : Progress) (b : Bits) → chain t x ≡ chain t y ++ zs → Passes t SpellsInner x s (choice y ∷ (chosen_stations t zs ++ tail t SpellsInner FailsInner x)) u b → Rest x zs u
     unfolding parts
     rest_is x y [] s u b e h = go ((h.4).2)
       where
@@ -163,7 +164,7 @@ module _ (t : Table) (SpellsInner : ℕ → Plain → Bits → Type 0) where
         chain_x : chain t x ≡ chain t z ++ zs
         chain_x = e ∙ sym (append_assoc (chain t y) (z ∷ []) zs) ∙ ap (λ c. c ++ zs) (sym chain_z)
 
-        go : (GoesOn t y x s ⊎ ((y ≡ x) × IsTrue (is_concrete t x) × NoneUnder t x s)) → ((m : Progress) (d : Bits) → Passes t SpellsInner x m (choice z ∷ (later t zs ++ tail t SpellsInner FailsInner x)) u d → Rest x zs u) → Rest x (z ∷ zs) u
+        go : (GoesOn t y x s ⊎ ((y ≡ x) × IsTrue (is_concrete t x) × NoneUnder t x s)) → ((m : Progress) (d : Bits) → Passes t SpellsInner x m (choice z ∷ (chosen_stations t zs ++ tail t SpellsInner FailsInner x)) u d → Rest x zs u) → Rest x (z ∷ zs) u
         go (inr g) ih = absurd (longer t is y x z zs e (sym g.0))
         go (inl g) ih =
             let tails : g.child ∷ g.towards.0 ≡ z ∷ zs = same_tail (chain t y) (g.child ∷ g.towards.0) (z ∷ zs) (sym g.towards.1 ∙ e) in
@@ -172,9 +173,9 @@ module _ (t : Table) (SpellsInner : ℕ → Plain → Bits → Type 0) where
             let el : chain t g.candidate ≡ chain t y ++ z ∷ w.after = (under_is t is z g.candidate w.before w.after w.is).1 ∙ ap (λ c. c ++ w.after) chain_z ∙ append_assoc (chain t y) (z ∷ []) w.after in
             let now = child_holds y z g.candidate w.after s.fields el g.is in
             let now' : AllByRecursion (Holds t (h.0).fields) (constraints_of t z) = subst (λ (q : Progress). AllByRecursion (Holds t q.fields) (constraints_of t z)) (sym (h.4).0) now in
-            let at_end = All-weaker (Holds t (h.0).fields) (Holds t u.fields) (λ c k. holds_on x (later t (z ∷ zs) ++ tail t SpellsInner FailsInner x) h.0 u h.2 c h.5 k) (constraints_of t z) now' in
-            let p = subst (λ l. Passes t SpellsInner x h.0 l u h.2) (append_assoc (map entry (placed_entries t z) ++ choice z ∷ []) (later t zs) (tail t SpellsInner FailsInner x) ∙ append_assoc (map entry (placed_entries t z)) (choice z ∷ []) (later t zs ++ tail t SpellsInner FailsInner x)) h.5 in
-            let q = past_entries x (choice z ∷ (later t zs ++ tail t SpellsInner FailsInner x)) (placed_entries t z) h.0 u h.2 p in
+            let at_end = All-weaker (Holds t (h.0).fields) (Holds t u.fields) (λ c k. holds_on x (chosen_stations t (z ∷ zs) ++ tail t SpellsInner FailsInner x) h.0 u h.2 c h.5 k) (constraints_of t z) now' in
+            let p = subst (λ l. Passes t SpellsInner x h.0 l u h.2) (append_assoc (map entry (placed_entries t z) ++ choice z ∷ []) (chosen_stations t zs) (tail t SpellsInner FailsInner x) ∙ append_assoc (map entry (placed_entries t z)) (choice z ∷ []) (chosen_stations t zs ++ tail t SpellsInner FailsInner x)) h.5 in
+            let q = past_entries x (choice z ∷ (chosen_stations t zs ++ tail t SpellsInner FailsInner x)) (placed_entries t z) h.0 u h.2 p in
             let r = ih q.0 q.1 q.2 in
             record { constraints = All-both (Holds t u.fields) (constraints_of t z) (flat_map (constraints_of t) zs) at_end r.constraints; concrete = r.concrete; none = r.none; fits = r.fits }
 
@@ -182,13 +183,13 @@ module _ (t : Table) (SpellsInner : ℕ → Plain → Bits → Type 0) where
     spelling_of top x u b un h =
         let up = (under_is t is top x un.before un.after un.is).1 in
         let zs = un.after in
-        let c_is : course t top x ≡ flat_map (own t) (chain t top) ++ (choice top ∷ (later t zs ++ tail t SpellsInner FailsInner x)) = ap (λ q. flat_map (own t) (chain t top) ++ (choice top ∷ (later t q ++ tail t SpellsInner FailsInner x))) (ap (drop (length (chain t top))) up ∙ drop-append_seam (chain t top) zs) in
+        let c_is : course t top x ≡ flat_map (own_stations t) (chain t top) ++ (choice top ∷ (chosen_stations t zs ++ tail t SpellsInner FailsInner x)) = ap (λ q. flat_map (own_stations t) (chain t top) ++ (choice top ∷ (chosen_stations t q ++ tail t SpellsInner FailsInner x))) (ap (drop (length (chain t top))) up ∙ drop-append_seam (chain t top) zs) in
         let h' = subst (λ l. Passes t SpellsInner x started l u b) c_is h in
-        let ups = chain_holds x (choice top ∷ (later t zs ++ tail t SpellsInner FailsInner x)) (chain t top) started u b h' in
+        let ups = chain_holds x (choice top ∷ (chosen_stations t zs ++ tail t SpellsInner FailsInner x)) (chain t top) started u b h' in
         let rest = rest_is x top zs (ups.1).0 u (ups.1).1 up (ups.1).2 in
-        let seq : parts (flat_map (own t) (chain t top) ++ (choice top ∷ (later t zs ++ tail t SpellsInner FailsInner x))) ≡ sequence t x =
-        parts-append (flat_map (own t) (chain t top)) (choice top ∷ (later t zs ++ tail t SpellsInner FailsInner x))
-        ∙ ap (λ z. z ++ parts (choice top ∷ (later t zs ++ tail t SpellsInner FailsInner x))) (parts-own (chain t top))
+        let seq : parts (flat_map (own_stations t) (chain t top) ++ (choice top ∷ (chosen_stations t zs ++ tail t SpellsInner FailsInner x))) ≡ sequence t x =
+        parts-append (flat_map (own_stations t) (chain t top)) (choice top ∷ (chosen_stations t zs ++ tail t SpellsInner FailsInner x))
+        ∙ ap (λ z. z ++ parts (choice top ∷ (chosen_stations t zs ++ tail t SpellsInner FailsInner x))) (parts-own (chain t top))
         ∙ ap (λ z. flat_map (placed_entries t) (chain t top) ++ z) (parts-rest FailsInner x top zs)
         ∙ sym (append_assoc (flat_map (placed_entries t) (chain t top)) (flat_map (placed_entries t) zs) (flat_map (placed_trailers t) (reverse (chain t x))))
         ∙ ap (λ z. z ++ flat_map (placed_trailers t) (reverse (chain t x))) (sym (flat_map-append (placed_entries t) (chain t top) zs) ∙ ap (flat_map (placed_entries t)) (sym up)) in
@@ -196,7 +197,7 @@ module _ (t : Table) (SpellsInner : ℕ → Plain → Bits → Type 0) where
           concrete = rest.concrete;
           under = un;
           end = u;
-          parts = subst (λ ps. PartsPass any t SpellsInner started ps u b) seq (gather x (flat_map (own t) (chain t top) ++ (choice top ∷ (later t zs ++ tail t SpellsInner FailsInner x))) started u b h');
+          parts = subst (λ ps. PartsPass any t SpellsInner started ps u b) seq (gather x (flat_map (own_stations t) (chain t top) ++ (choice top ∷ (chosen_stations t zs ++ tail t SpellsInner FailsInner x))) started u b h');
           values = refl;
           size = rest.fits;
           constraints = subst (AllByRecursion (Holds t u.fields)) (sym (ap (flat_map (constraints_of t)) up ∙ flat_map-append (constraints_of t) (chain t top) zs)) (All-both (Holds t u.fields) (flat_map (constraints_of t) (chain t top)) (flat_map (constraints_of t) zs) ups.0 rest.constraints);

@@ -7,7 +7,7 @@ use Rattle.eds_bits.specs.Bits.{Bits, bits_of, low_bits, first_pieces}
 use Rattle.eds_bits.specs.Scalars.{remainder}
 use Rattle.eds_types.specs.declared.row.Part.TheVariants as part
 use Rattle.eds_types.specs.declared.value.Value.{Num}
-use Rattle.eds_types.specs.Failing.{part_step}
+use Rattle.eds_types.specs.Failing.{part_step, fault_at}
 use Rattle.eds_types.specs.Plain.{Plain, num, text, items, fields, plain, plains_of}
 use Rattle.eds_types.specs.Reading.{Read, ◌>>=◌, inside, judge, advance, expected, ended, read_entry, read_within, read_under, read_chain, read_parts, read_items, check_all, first_from, same}
 use Rattle.eds_types.specs.Rows.{id_of, chain_within, Placed}
@@ -20,15 +20,15 @@ pub packet : read_type example 6 (bits_of (0x01 ∷ 0x23 ∷ 0xC0 ∷ 0x05 ∷ 0
 unfolding read_within read_under read_chain read_parts read_items check_all first_from chain_within low_bits first_pieces same
 packet = refl
 
-pub longer : read_type example 6 (bits_of (0x01 ∷ 0x23 ∷ 0xC0 ∷ 0x05 ∷ 0x00 ∷ 0x02 ∷ 0xBE ∷ 0xEF ∷ [])) ≡ Err (LengthDiffers, step.Part (id_of 6) 6 ∷ [])
+pub longer : read_type example 6 (bits_of (0x01 ∷ 0x23 ∷ 0xC0 ∷ 0x05 ∷ 0x00 ∷ 0x02 ∷ 0xBE ∷ 0xEF ∷ [])) ≡ Err (fault_at LengthDiffers (step.Part (id_of 6) 6 ∷ []))
 unfolding read_within read_under read_chain read_parts read_items check_all first_from chain_within low_bits first_pieces same
 longer = refl
 
-pub other : read_type example 6 (bits_of (0x01 ∷ 0x24 ∷ 0xC0 ∷ 0x05 ∷ 0x00 ∷ 0x01 ∷ 0xBE ∷ 0xEF ∷ [])) ≡ Err (NoDerived, step.Choice (id_of 6) ∷ [])
+pub other : read_type example 6 (bits_of (0x01 ∷ 0x24 ∷ 0xC0 ∷ 0x05 ∷ 0x00 ∷ 0x01 ∷ 0xBE ∷ 0xEF ∷ [])) ≡ Err (fault_at NoDerived (step.Choice (id_of 6) ∷ []))
 unfolding read_within read_under read_chain read_parts read_items check_all first_from chain_within low_bits first_pieces same
 other = refl
 
-pub empty : read_type example 6 [] ≡ Err (Short, step.Part (id_of 6) 0 ∷ [])
+pub empty : read_type example 6 [] ≡ Err (fault_at Short (step.Part (id_of 6) 0 ∷ []))
 unfolding read_within read_under read_chain read_parts read_items check_all first_from chain_within low_bits first_pieces same
 empty = refl
 
@@ -40,7 +40,7 @@ pub checked : read_type example 10 (bits_of (codes "123456789" ++ 0x29 ∷ 0xB1 
 unfolding read_within read_under read_chain read_parts read_items check_all first_from chain_within low_bits first_pieces same remainder
 checked = refl
 
-pub unchecked : read_type example 10 (bits_of (codes "123456789" ++ 0x29 ∷ 0xB2 ∷ [])) ≡ Err (CheckDiffers, step.Part (id_of 10) 1 ∷ [])
+pub unchecked : read_type example 10 (bits_of (codes "123456789" ++ 0x29 ∷ 0xB2 ∷ [])) ≡ Err (fault_at CheckDiffers (step.Part (id_of 10) 1 ∷ []))
 unfolding read_within read_under read_chain read_parts read_items check_all first_from chain_within low_bits first_pieces same remainder
 unchecked = refl
 
@@ -48,11 +48,11 @@ pub list : read_type example 14 (bits_of (3 ∷ 0xAB ∷ 0xC0 ∷ [])) ≡ Ok (f
 unfolding read_within read_under read_chain read_parts read_items check_all first_from chain_within low_bits first_pieces same
 list = refl
 
-pub short_list : read_type example 14 (bits_of (0xFF ∷ 0x12 ∷ 0x34 ∷ [])) ≡ Err (Short, step.Part (id_of 14) 1 ∷ step.Item 4 ∷ [])
+pub short_list : read_type example 14 (bits_of (0xFF ∷ 0x12 ∷ 0x34 ∷ [])) ≡ Err (fault_at Short (step.Part (id_of 14) 1 ∷ step.Item 4 ∷ []))
 unfolding read_within read_under read_chain read_parts read_items check_all first_from chain_within low_bits first_pieces same
 short_list = refl
 
-pub asked : read_type example 7 (bits_of (0x01 ∷ 0x24 ∷ 0xC0 ∷ 0x05 ∷ 0x00 ∷ 0x01 ∷ 0xBE ∷ 0xEF ∷ [])) ≡ Err (ConstraintFails, step.Part (id_of 6) 3 ∷ [])
+pub asked : read_type example 7 (bits_of (0x01 ∷ 0x24 ∷ 0xC0 ∷ 0x05 ∷ 0x00 ∷ 0x01 ∷ 0xBE ∷ 0xEF ∷ [])) ≡ Err (fault_at ConstraintFails (step.Part (id_of 6) 3 ∷ []))
 unfolding read_within read_under read_chain read_parts read_items check_all first_from chain_within low_bits first_pieces same
 asked = refl
 
@@ -64,19 +64,19 @@ pub line : read_type example 21 (bits_of (codes "ab" ++ 10 ∷ [])) ≡ Ok (text
 unfolding read_within read_under read_chain read_parts read_items check_all first_from chain_within low_bits first_pieces same
 line = refl
 
-pub short_line : read_type example 21 (bits_of (codes "abc")) ≡ Err (Short, [])
+pub short_line : read_type example 21 (bits_of (codes "abc")) ≡ Err (fault_at Short [])
 unfolding read_within read_under read_chain read_parts read_items check_all first_from chain_within low_bits first_pieces same
 short_line = refl
 
-pub unterminated : read_type example 21 (bits_of (codes "abcde")) ≡ Err (Unterminated, [])
+pub unterminated : read_type example 21 (bits_of (codes "abcde")) ≡ Err (fault_at Unterminated [])
 unfolding read_within read_under read_chain read_parts read_items check_all first_from chain_within low_bits first_pieces same
 unterminated = refl
 
-pub bad_line : read_type example 21 (bits_of (128 ∷ 10 ∷ [])) ≡ Err (BadText, [])
+pub bad_line : read_type example 21 (bits_of (128 ∷ 10 ∷ [])) ≡ Err (fault_at BadText [])
 unfolding read_within read_under read_chain read_parts read_items check_all first_from chain_within low_bits first_pieces same
 bad_line = refl
 
-pub no_nested : read_type example 27 (bits_of (0x35 ∷ 0xA0 ∷ [])) ≡ Err (NoDerived, step.Part (id_of 27) 0 ∷ step.Choice (id_of 24) ∷ [])
+pub no_nested : read_type example 27 (bits_of (0x35 ∷ 0xA0 ∷ [])) ≡ Err (fault_at NoDerived (step.Part (id_of 27) 0 ∷ step.Choice (id_of 24) ∷ []))
 unfolding read_within read_under read_chain read_parts read_items check_all first_from chain_within low_bits first_pieces same
 no_nested = refl
 
@@ -122,11 +122,11 @@ idle_frame = refl
 pub nested_short : read_type example 27 (bits_of (0x17 ∷ 0x5A ∷ 0x00 ∷ 0x68 ∷ 0x69 ∷ 0x0A ∷ 0xAB ∷ 0xCE ∷ 0xE0 ∷ [])) ≡ Ok (idle, false ∷ false ∷ false ∷ false ∷ [])
 nested_short = with_mark _ _ idle_frame
 
-unmarked : read_frame (num (pos 90)) (bits_of (0x17 ∷ 0x5B ∷ [])) ≡ Err (FixedDiffers, step.Part (id_of 27) 1 ∷ [])
+unmarked : read_frame (num (pos 90)) (bits_of (0x17 ∷ 0x5B ∷ [])) ≡ Err (fault_at FixedDiffers (step.Part (id_of 27) 1 ∷ []))
 unfolding read_within read_under read_chain read_parts read_items check_all first_from chain_within low_bits first_pieces same
 unmarked = refl
 
-pub no_mark : read_type example 27 (bits_of (0x17 ∷ 0x5B ∷ [])) ≡ Err (FixedDiffers, step.Part (id_of 27) 1 ∷ [])
+pub no_mark : read_type example 27 (bits_of (0x17 ∷ 0x5B ∷ [])) ≡ Err (fault_at FixedDiffers (step.Part (id_of 27) 1 ∷ []))
 no_mark = with_mark _ _ unmarked
 
 pub nested_size : length (bits_of (0x17 ∷ 0x5A ∷ 0x00 ∷ 0x68 ∷ 0x69 ∷ 0x0A ∷ 0xAB ∷ 0xCE ∷ 0xE0 ∷ [])) ≡ 72

@@ -257,7 +257,7 @@ keep y = each_number (λ y. AllByRecursion Keep (own_parts example y)) example r
         ⊗ ((solid 8 refl, tt) ⊗ ((row 8, refl, tt), scale 0 2 (lit≤ tt) (record { le = tt }) (record { le = tt })) ⊗ (solid 18 refl, pairs_keep) ⊗ ((row 8, refl, sum_check), refl) ⊗ tt)
         ⊗ tt ⊗ tt ⊗ tt
         ⊗ ((solid 13 refl, tt) ⊗ tt) ⊗ ((solid 13 refl, tt) ⊗ tt) ⊗ ((solid 23 refl, tt) ⊗ tt)
-        ⊗ ((solid 24 refl, tt) ⊗ (row 8, refl, (pos 90, mark, inl (omega (arith, ints), omega (arith, ints)))) ⊗ (lit≤ tt, lit≤ tt) ⊗ (solid 21 refl, tt) ⊗ (solid 22 refl, tt) ⊗ (solid 8 refl, tt) ⊗ tt)
+        ⊗ ((solid 24 refl, tt) ⊗ ((row 8, refl, (pos 90, mark, inl (omega (arith, ints), omega (arith, ints)))), refl) ⊗ (lit≤ tt, lit≤ tt) ⊗ (solid 21 refl, tt) ⊗ (solid 22 refl, tt) ⊗ (solid 8 refl, tt) ⊗ tt)
         ⊗ tt ⊗ tt
         ⊗ ((solid 8 refl, tt) ⊗ tt) ⊗ tt
         ⊗ tt

@@ -14,3 +14,7 @@ pub mod ExampleFrames
 pub mod WhatIsRead
 pub mod TailReading
 pub mod ExamplePacking
+pub mod Solutions
+pub mod UnderivedTables
+pub mod Parting
+pub mod Meeting

@@ -1,4 +1,5 @@
 -- What is read of some frames with a tail.
+use Rattle.eds_types.specs.Failing.{fault_at}
 use Rattle.std.proofs.Common.{◌≡◌, [], ◌∷◌, length, Ok, Err, refl}
 use Rattle.eds_base.specs.declared.fault.Step.TheVariants as step
 use Rattle.eds_base.specs.declared.fault.Reason.TheVariants.{Short, LengthDiffers, CheckDiffers}
@@ -21,19 +22,19 @@ pub followed : read_type example 19 (bits_of (0x01 ∷ 0x04 ∷ 0xAA ∷ 0xAF �
 unfolding read_within read_under read_chain read_parts read_items check_all first_from chain_within low_bits first_pieces same size_within
 followed = refl
 
-pub below_zero : read_type example 19 (bits_of (0x01 ∷ 0x02 ∷ 0x04 ∷ [])) ≡ Err (LengthDiffers, step.Part (id_of 19) 1 ∷ [])
+pub below_zero : read_type example 19 (bits_of (0x01 ∷ 0x02 ∷ 0x04 ∷ [])) ≡ Err (fault_at LengthDiffers (step.Part (id_of 19) 1 ∷ []))
 unfolding read_within read_under read_chain read_parts read_items check_all first_from chain_within low_bits first_pieces same size_within
 below_zero = refl
 
-pub above_most : read_type example 19 (bits_of (0x01 ∷ 0x0C ∷ 0x04 ∷ [])) ≡ Err (LengthDiffers, step.Part (id_of 19) 1 ∷ [])
+pub above_most : read_type example 19 (bits_of (0x01 ∷ 0x0C ∷ 0x04 ∷ [])) ≡ Err (fault_at LengthDiffers (step.Part (id_of 19) 1 ∷ []))
 unfolding read_within read_under read_chain read_parts read_items check_all first_from chain_within low_bits first_pieces same size_within
 above_most = refl
 
-pub unchecked : read_type example 19 (bits_of (0x01 ∷ 0x04 ∷ 0xAA ∷ 0xBB ∷ 0x6A ∷ [])) ≡ Err (CheckDiffers, step.Part (id_of 19) 3 ∷ [])
+pub unchecked : read_type example 19 (bits_of (0x01 ∷ 0x04 ∷ 0xAA ∷ 0xBB ∷ 0x6A ∷ [])) ≡ Err (fault_at CheckDiffers (step.Part (id_of 19) 3 ∷ []))
 unfolding read_within read_under read_chain read_parts read_items check_all first_from chain_within low_bits first_pieces same size_within
 unchecked = refl
 
-pub short : read_type example 19 (bits_of (0x01 ∷ 0x05 ∷ 0xAA ∷ [])) ≡ Err (Short, step.Part (id_of 19) 2 ∷ [])
+pub short : read_type example 19 (bits_of (0x01 ∷ 0x05 ∷ 0xAA ∷ [])) ≡ Err (fault_at Short (step.Part (id_of 19) 2 ∷ []))
 unfolding read_within read_under read_chain read_parts read_items check_all first_from chain_within low_bits first_pieces same size_within
 short = refl
 

@@ -1,4 +1,5 @@
 -- Each run along the course of some container is read so, where no two containers overlap.
+use Rattle.eds_base.specs.declared.fault.Fault.{Fault}
 use Rattle.std.proofs.Common.{◌≡◌, ℕ, zero, suc, ◌<◌, false, cond, List, [], ◌∷◌, ◌++◌, length, map, drop, Option, Some, None, Ok, Err, refl, sym, ap, subst, ◌∙◌, append_assoc, append-nil, arith, ◌⊎◌, inl, inr, unwrap_or}
 use Rattle.std.specs.Prelude.{slice_get, IsTrue}
 use Rattle.std.specs.List.{AllByRecursion, flat_map}
@@ -14,7 +15,7 @@ use Rattle.eds_types.proofs.ChainLaws.{chain_end, same_chain, under_is, child_is
 use Rattle.eds_types.proofs.ExactReading.{done, failed}
 use Rattle.eds_types.proofs.PartReading.{entry_exact}
 use Rattle.eds_types.proofs.ReadingTests.{holds_from, holds_in, found_is, none_is}
-use Rattle.eds_types.specs.Failing.{Station, condition, entry, choice, end, later, own, course, GoesOn, NoneUnder, Where, path_steps, length_path}
+use Rattle.eds_types.specs.Failing.{Station, condition, entry, choice, end, chosen_stations, own_stations, course, GoesOn, NoneUnder, path_steps, length_path, fault_at}
 use Rattle.eds_types.specs.Fields.{IsAtOrUnder, IsCandidate}
 use Rattle.eds_types.specs.Plain.{Plain}
 use Rattle.eds_types.specs.Reading.{Read, Ends, ◌>>=◌, read_parts, check_all, holds, candidate_under, stay, nowhere, under, next_of, next, size_fits, finish, read_own, trailers_up, read_chain, go_on, read_under, read_to_end}
@@ -22,7 +23,7 @@ use Rattle.eds_types.specs.Rows.{Table, chain, is_concrete, constraints_of, Plac
 use Rattle.eds_types.specs.Spelling.{Progress, started, PartPasses}
 use Rattle.eds_types.specs.Tables.{IsTable}
 
-module _ (t : Table) (read : ℕ → Bits → Read Plain) (SpellsInner : ℕ → Plain → Bits → Type 0) (FailsInner : ℕ → Bits → Where → Type 0) where
+module _ (t : Table) (read : ℕ → Bits → Read Plain) (SpellsInner : ℕ → Plain → Bits → Type 0) (FailsInner : ℕ → Bits → Fault → Type 0) where
   module _ (top : ℕ) (Inv : Progress → Type 0) where
     -- a good part that keeps what is true of states
     pub record Keeping (p : Placed) : Type 0 where
@@ -52,21 +53,21 @@ module _ (t : Table) (read : ℕ → Bits → Read Plain) (SpellsInner : ℕ →
     conditions_to x y more [] s b q r h run = h run
     conditions_to x y more (c ∷ cs) s b q r h (inl f) =
         let off = false_from_ne_true (holds t s.fields c) (λ e. (f.1).0 (holds_from t s.fields c e)) in
-        ap (λ z. cond z (check_all t cs s.fields) (Err (Constraint, path_steps c.path)) >>= λ u. q) off ∙ ap (failed (ℕ × Progress × Bits)) (sym (f.1).1) ∙ sym f.2
+        ap (λ z. cond z (check_all t cs s.fields) (Err (fault_at Constraint (path_steps c.path))) >>= λ u. q) off ∙ ap (failed (ℕ × Progress × Bits)) (sym (f.1).1) ∙ sym f.2
     conditions_to x y more (c ∷ cs) s b q r h (inr p) =
         let on = holds_in t s.fields c (p.4).2 in
-        ap (λ z. cond z (check_all t cs s.fields) (Err (Constraint, path_steps c.path)) >>= λ u. q) on
+        ap (λ z. cond z (check_all t cs s.fields) (Err (fault_at Constraint (path_steps c.path))) >>= λ u. q) on
         ∙ conditions_to x y more cs s b q r h (still x (map (condition y) cs ++ more) s p.0 b p.1 p.2 r (p.4).0 (p.4).1 p.3 p.5)
 
     chain_to : (x : ℕ) (more : List Station) (ys : List ℕ) (s : Progress) (b : Bits) (k : Progress × Bits → Ends) (r : Ends) → AllByRecursion (λ y. AllByRecursion Keeping (placed_entries t y)) ys → Inv s
-        → ((m : Progress) (d : Bits) → Inv m → Runs t SpellsInner FailsInner x more m d r → k (m, d) ≡ r) → Runs t SpellsInner FailsInner x (flat_map (own t) ys ++ more) s b r → (read_chain t read ys s b >>= k) ≡ r
+        → ((m : Progress) (d : Bits) → Inv m → Runs t SpellsInner FailsInner x more m d r → k (m, d) ≡ r) → Runs t SpellsInner FailsInner x (flat_map (own_stations t) ys ++ more) s b r → (read_chain t read ys s b >>= k) ≡ r
     unfolding read_chain
     chain_to x more [] s b k r good i h run = h s b i run
     chain_to x more (y ∷ ys) s b k r good i h run =
         let checks = check_all t (constraints_of t y) s.fields in
         let parts = read_parts t read (placed_entries t y) s b in
-        let rest = flat_map (own t) ys ++ more in
-        let run1 = subst (λ l. Runs t SpellsInner FailsInner x l s b r) (append_assoc (own t y) (flat_map (own t) ys) more ∙ append_assoc (map (condition y) (constraints_of t y)) (map entry (placed_entries t y)) rest) run in
+        let rest = flat_map (own_stations t) ys ++ more in
+        let run1 = subst (λ l. Runs t SpellsInner FailsInner x l s b r) (append_assoc (own_stations t y) (flat_map (own_stations t) ys) more ∙ append_assoc (map (condition y) (constraints_of t y)) (map entry (placed_entries t y)) rest) run in
         bind_assoc (read_own t read y s b) (λ v. read_chain t read ys v.0 v.1) k ∙ bind_assoc checks (λ u. parts) (λ v. read_chain t read ys v.0 v.1 >>= k)
         ∙ conditions_to x y (map entry (placed_entries t y) ++ rest) (constraints_of t y) s b (parts >>= λ v. read_chain t read ys v.0 v.1 >>= k) r
         (parts_to x rest (placed_entries t y) s b (λ v. read_chain t read ys v.0 v.1 >>= k) r good.0 i (λ m d j run2. chain_to x more ys m d k r good.1 j h run2)) run1
@@ -76,11 +77,11 @@ module _ (t : Table) (read : ℕ → Bits → Read Plain) (SpellsInner : ℕ →
       where
         go : (m : Progress) (d : Bits) → Runs t SpellsInner FailsInner x (end ∷ []) m d r → finish x (length_path t x) (m, d) ≡ r
         go m d (inl f) =
-            ap (λ z. cond z (Ok (x, m, d)) (Err (LengthDiffers, length_path t x))) (false_from_ne_true (size_fits m.octets m.before) (λ e. (f.1).0 (fits_is t SpellsInner FailsInner read m.octets m.before e)))
+            ap (λ z. cond z (Ok (x, m, d)) (Err (fault_at LengthDiffers (length_path t x)))) (false_from_ne_true (size_fits m.octets m.before) (λ e. (f.1).0 (fits_is t SpellsInner FailsInner read m.octets m.before e)))
             ∙ ap (failed (ℕ × Progress × Bits)) (sym (f.1).1) ∙ sym f.2
         go m d (inr p) =
             let same : p.2 ≡ d = sym (p.3 ∙ ap (λ z. z ++ p.2) (p.4).1) in
-            ap (λ z. cond z (Ok (x, m, d)) (Err (LengthDiffers, length_path t x))) (is_fit t SpellsInner FailsInner read m.octets m.before (p.4).2)
+            ap (λ z. cond z (Ok (x, m, d)) (Err (fault_at LengthDiffers (length_path t x)))) (is_fit t SpellsInner FailsInner read m.octets m.before (p.4).2)
             ∙ ap (λ z. done (x, m, z)) (sym same) ∙ ap (λ z. done (x, z, p.2)) (sym (p.4).0) ∙ sym p.5
 
     -- the parts of all containers above a container under the top keep it
@@ -122,20 +123,20 @@ module _ (t : Table) (read : ℕ → Bits → Read Plain) (SpellsInner : ℕ →
       apart : (z l : ℕ) → IsAtOrUnder t z l → (after : List ℕ) × (chain t l ≡ chain t z ++ after)
       apart z l u = (u.after, (under_is t is z l u.before u.after u.is).1)
 
-      course_by : (x : ℕ) (zs : List ℕ) → chain t x ≡ chain t top ++ zs → flat_map (own t) (chain t top) ++ (choice top ∷ (later t zs ++ tail t SpellsInner FailsInner x)) ≡ course t top x
-      course_by x zs e = ap (λ q. flat_map (own t) (chain t top) ++ (choice top ∷ (later t q ++ tail t SpellsInner FailsInner x))) (sym (ap (drop (length (chain t top))) e ∙ drop-append_seam (chain t top) zs))
+      course_by : (x : ℕ) (zs : List ℕ) → chain t x ≡ chain t top ++ zs → flat_map (own_stations t) (chain t top) ++ (choice top ∷ (chosen_stations t zs ++ tail t SpellsInner FailsInner x)) ≡ course t top x
+      course_by x zs e = ap (λ q. flat_map (own_stations t) (chain t top) ++ (choice top ∷ (chosen_stations t q ++ tail t SpellsInner FailsInner x))) (sym (ap (drop (length (chain t top))) e ∙ drop-append_seam (chain t top) zs))
 
-      under_to : (n x y : ℕ) (zs : List ℕ) (s : Progress) (b : Bits) (r : Ends) → IsAtOrUnder t top x → IsAtOrUnder t top y → chain t x ≡ chain t y ++ zs → length zs < n → Inv s → Runs t SpellsInner FailsInner x (choice y ∷ (later t zs ++ tail t SpellsInner FailsInner x)) s b r → read_under t read n y s b ≡ r
+      under_to : (n x y : ℕ) (zs : List ℕ) (s : Progress) (b : Bits) (r : Ends) → IsAtOrUnder t top x → IsAtOrUnder t top y → chain t x ≡ chain t y ++ zs → length zs < n → Inv s → Runs t SpellsInner FailsInner x (choice y ∷ (chosen_stations t zs ++ tail t SpellsInner FailsInner x)) s b r → read_under t read n y s b ≡ r
       unfolding read_under
       under_to zero x y zs s b r ux u e lt i run = absurd (omega arith)
       under_to (suc n) x y zs s b r ux u e lt i (inl f) =
           let same = (f.1).0 in
           let q : next t y s.fields ≡ nowhere = ap (λ w. next t w s.fields) same ∙ nowhere_is x s (f.1).1 (f.1).2 (candidate_under t x s.fields) refl in
-          ap (go_on t read (read_under t read n) y s b) q ∙ ap (λ w. failed (ℕ × Progress × Bits) (NoDerived, step.Choice (id_of w) ∷ [])) same ∙ ap (failed (ℕ × Progress × Bits)) (sym (f.1).3) ∙ sym f.2
-      under_to (suc n) x y zs s b r ux u e lt i (inr p) = past zs e lt (p.4).2 (still x (later t zs ++ tail t SpellsInner FailsInner x) s p.0 b p.1 p.2 r (p.4).0 (p.4).1 p.3 p.5) (λ z zs' m d uz ez lz j run'. under_to n x z zs' m d r ux uz ez lz j run')
+          ap (go_on t read (read_under t read n) y s b) q ∙ ap (λ w. failed (ℕ × Progress × Bits) (fault_at NoDerived (step.Choice (id_of w) ∷ []))) same ∙ ap (failed (ℕ × Progress × Bits)) (sym (f.1).3) ∙ sym f.2
+      under_to (suc n) x y zs s b r ux u e lt i (inr p) = past zs e lt (p.4).2 (still x (chosen_stations t zs ++ tail t SpellsInner FailsInner x) s p.0 b p.1 p.2 r (p.4).0 (p.4).1 p.3 p.5) (λ z zs' m d uz ez lz j run'. under_to n x z zs' m d r ux uz ez lz j run')
         where
-          past : (zs : List ℕ) → chain t x ≡ chain t y ++ zs → length zs < suc n → (GoesOn t y x s ⊎ ((y ≡ x) × IsTrue (is_concrete t x) × NoneUnder t x s)) → Runs t SpellsInner FailsInner x (later t zs ++ tail t SpellsInner FailsInner x) s b r
-              → ((z : ℕ) (zs' : List ℕ) (m : Progress) (d : Bits) → IsAtOrUnder t top z → chain t x ≡ chain t z ++ zs' → length zs' < n → Inv m → Runs t SpellsInner FailsInner x (choice z ∷ (later t zs' ++ tail t SpellsInner FailsInner x)) m d r → read_under t read n z m d ≡ r)
+          past : (zs : List ℕ) → chain t x ≡ chain t y ++ zs → length zs < suc n → (GoesOn t y x s ⊎ ((y ≡ x) × IsTrue (is_concrete t x) × NoneUnder t x s)) → Runs t SpellsInner FailsInner x (chosen_stations t zs ++ tail t SpellsInner FailsInner x) s b r
+              → ((z : ℕ) (zs' : List ℕ) (m : Progress) (d : Bits) → IsAtOrUnder t top z → chain t x ≡ chain t z ++ zs' → length zs' < n → Inv m → Runs t SpellsInner FailsInner x (choice z ∷ (chosen_stations t zs' ++ tail t SpellsInner FailsInner x)) m d r → read_under t read n z m d ≡ r)
               → go_on t read (read_under t read n) y s b (next t y s.fields) ≡ r
           past [] e lt (inl g) run ih = absurd (longer t is y x g.child g.towards.0 g.towards.1 (same_chain t is x y (e ∙ append-nil (chain t y))))
           past [] e lt (inr g) run ih =
@@ -155,7 +156,7 @@ module _ (t : Table) (read : ℕ → Bits → Read Plain) (SpellsInner : ℕ →
               let uz : IsAtOrUnder t top z = under_in t is top z (u.after ++ z ∷ []) (chain_z ∙ ap (λ c. c ++ z ∷ []) up.1 ∙ append_assoc (chain t top) u.after (z ∷ [])) in
               let ex : chain t x ≡ chain t z ++ more = e ∙ sym (append_assoc (chain t y) (z ∷ []) more) ∙ ap (λ c. c ++ more) (sym chain_z) in
               ap (go_on t read (read_under t read n) y s b) q
-              ∙ parts_to x (choice z ∷ (later t more ++ tail t SpellsInner FailsInner x)) (placed_entries t z) s b (λ v. read_under t read n z v.0 v.1) r (last_kept z uz) i (λ m d j run'. ih z more m d uz ex (omega arith) j run')
+              ∙ parts_to x (choice z ∷ (chosen_stations t more ++ tail t SpellsInner FailsInner x)) (placed_entries t z) s b (λ v. read_under t read n z v.0 v.1) r (last_kept z uz) i (λ m d j run'. ih z more m d uz ex (omega arith) j run')
               (subst (λ l. Runs t SpellsInner FailsInner x l s b r) (later_is t SpellsInner FailsInner z more (tail t SpellsInner FailsInner x)) run)
 
       pub container_to : (b : Bits) (r : Ends) (x : ℕ) → IsAtOrUnder t top x → Runs t SpellsInner FailsInner x (course t top x) started b r → read_to_end t read top b ≡ r
@@ -163,5 +164,5 @@ module _ (t : Table) (read : ℕ → Bits → Read Plain) (SpellsInner : ℕ →
           let up = under_is t is top x u.before u.after u.is in
           let run' = subst (λ q. Runs t SpellsInner FailsInner x q started b r) (sym (course_by x u.after up.1)) run in
           let itself = itself_in t is top in
-          chain_to x (choice top ∷ (later t u.after ++ tail t SpellsInner FailsInner x)) (chain t top) started b (λ v. read_under t read 16 top v.0 v.1) r (kept.entries top itself) agrees.start
+          chain_to x (choice top ∷ (chosen_stations t u.after ++ tail t SpellsInner FailsInner x)) (chain t top) started b (λ v. read_under t read 16 top v.0 v.1) r (kept.entries top itself) agrees.start
           (λ m d j run2. under_to 16 x top u.after m d r u itself up.1 (short_chain t is top x u.after up.1) j run2) run'

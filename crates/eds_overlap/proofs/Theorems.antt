@@ -1,9 +1,10 @@
 -- The laws, from exact reading and the laws of types.
+use Rattle.eds_base.specs.declared.fault.Fault.{Fault}
 use Rattle.std.proofs.Common.{◌≡◌, ℕ, ◌+◌, suc, [], ◌∷◌, ◌++◌, length, Ok, Err, refl, sym, ap, subst, ◌∙◌, ◌⊎◌, inl, inr, arith, append-nil}
 use Rattle.std.proofs.lemmas.List.{length-append}
 use Rattle.eds_bits.specs.Bits.{Bits}
 use Rattle.eds_bits.specs.Style.{any}
-use Rattle.eds_types.specs.Failing.{Where, FailsAt, FailsWithin}
+use Rattle.eds_types.specs.Failing.{FailsAt, FailsWithin}
 use Rattle.eds_types.specs.Plain.{Plain}
 use Rattle.eds_types.specs.Reading.{Read, read_within}
 use Rattle.eds_types.specs.Rows.{Table}
@@ -53,7 +54,7 @@ one_outcome t id h b = record {
     e : IsRead t id b (read_type t id b) × ((r : Read Plain) → IsRead t id b r → read_type t id b ≡ r)
     e = reading_is_exact t id h b
 
-    go : (r : Read Plain) → IsRead t id b r → ((v : Plain) × (c : Bits) × (rest : Bits) × (b ≡ c ++ rest) × Spells t id v c) ⊎ ((g : Where) × FailsAt t id b g)
+    go : (r : Read Plain) → IsRead t id b r → ((v : Plain) × (c : Bits) × (rest : Bits) × (b ≡ c ++ rest) × Spells t id v c) ⊎ ((g : Fault) × FailsAt t id b g)
     go (Ok x) k = inl (x.0, k.0, x.1, k.1, k.2)
     go (Err g) k = inr (g, k)
 

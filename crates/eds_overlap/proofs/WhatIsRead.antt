@@ -1,8 +1,9 @@
 -- What the reading function gives of some bits is so by the definitions.
+use Rattle.eds_base.specs.declared.fault.Fault.{Fault}
 use Rattle.std.proofs.Common.{◌≡◌, ℕ, ◌+◌, ◌≤◌, [], ◌∷◌, ◌++◌, length, take, Ok, Err, refl, sym, ap, subst, ◌∙◌, append-nil, arith}
 use Rattle.std.proofs.lemmas.List.{length-append}
 use Rattle.eds_bits.specs.Bits.{Bits}
-use Rattle.eds_types.specs.Failing.{Where, FailsAt}
+use Rattle.eds_types.specs.Failing.{FailsAt}
 use Rattle.eds_types.specs.Plain.{Plain}
 use Rattle.eds_types.specs.Reading.{Read}
 use Rattle.eds_types.specs.Rows.{Table}
@@ -27,7 +28,7 @@ module _ (t : Table) (id : ℕ) (readable : IsReadable t id) where
   pub spelled : (v : Plain) (b : Bits) → read_type t id b ≡ Ok (v, []) → Spells t id v b
   spelled v b e = let s = read_so b (Ok (v, [])) e in subst (Spells t id v) (sym (s.1 ∙ append-nil s.0)) s.2
 
-  pub failed : (b : Bits) (g : Where) → read_type t id b ≡ Err g → FailsAt t id b g
+  pub failed : (b : Bits) (g : Fault) → read_type t id b ≡ Err g → FailsAt t id b g
   failed b g e = read_so b (Err g) e
 
   -- n of the m bits are read, and k are left

@@ -20,8 +20,8 @@ use Rattle.eds_types.specs.declared.row.Part.TheVariants as part
 use Rattle.eds_types.specs.declared.reason.PackReason.TheVariants as reason
 use Rattle.eds_types.specs.declared.row.TypeRow.{TypeRow}
 use Rattle.eds_types.specs.declared.value.Value.{Num}
-use Rattle.eds_types.specs.Failing.{FailsAt}
-use Rattle.eds_types.specs.Packing.{PackFailsAt}
+use Rattle.eds_types.specs.Failing.{FailsAt, fault_at}
+use Rattle.eds_types.specs.Packing.{PackFailsAt, pack_fault_at}
 use Rattle.eds_types.specs.Plain.{Plain, num, label, truth, text, bits, items, fields, plains_of}
 use Rattle.eds_types.specs.Rows.{Table, id_of}
 use Rattle.eds_types.specs.Spelling.{Spells}
@@ -163,31 +163,31 @@ tail_packet k os = fields k (plains_of (num (pos 1) ∷ bits (8 * length os) os 
 pub record WorkedFrames : Type 0 where
   pub packet : Spells example 6 housekeeping (bits_of (0x01 ∷ 0x23 ∷ 0xC0 ∷ 0x05 ∷ 0x00 ∷ 0x01 ∷ 0xBE ∷ 0xEF ∷ []))
   -- the length entry tells one octet more than there are
-  pub longer : FailsAt example 6 (bits_of (0x01 ∷ 0x23 ∷ 0xC0 ∷ 0x05 ∷ 0x00 ∷ 0x02 ∷ 0xBE ∷ 0xEF ∷ [])) (LengthDiffers, step.Part (id_of 6) 6 ∷ [])
+  pub longer : FailsAt example 6 (bits_of (0x01 ∷ 0x23 ∷ 0xC0 ∷ 0x05 ∷ 0x00 ∷ 0x02 ∷ 0xBE ∷ 0xEF ∷ [])) (fault_at LengthDiffers (step.Part (id_of 6) 6 ∷ []))
   -- no packet has the application number 292
-  pub other : FailsAt example 6 (bits_of (0x01 ∷ 0x24 ∷ 0xC0 ∷ 0x05 ∷ 0x00 ∷ 0x01 ∷ 0xBE ∷ 0xEF ∷ [])) (NoDerived, step.Choice (id_of 6) ∷ [])
+  pub other : FailsAt example 6 (bits_of (0x01 ∷ 0x24 ∷ 0xC0 ∷ 0x05 ∷ 0x00 ∷ 0x01 ∷ 0xBE ∷ 0xEF ∷ [])) (fault_at NoDerived (step.Choice (id_of 6) ∷ []))
   -- read as the container of the application 291, the number doesn't meet its constraint
-  pub asked : FailsAt example 7 (bits_of (0x01 ∷ 0x24 ∷ 0xC0 ∷ 0x05 ∷ 0x00 ∷ 0x01 ∷ 0xBE ∷ 0xEF ∷ [])) (ConstraintFails, step.Part (id_of 6) 3 ∷ [])
-  pub empty : FailsAt example 6 [] (Short, step.Part (id_of 6) 0 ∷ [])
+  pub asked : FailsAt example 7 (bits_of (0x01 ∷ 0x24 ∷ 0xC0 ∷ 0x05 ∷ 0x00 ∷ 0x01 ∷ 0xBE ∷ 0xEF ∷ [])) (fault_at ConstraintFails (step.Part (id_of 6) 3 ∷ []))
+  pub empty : FailsAt example 6 [] (fault_at Short (step.Part (id_of 6) 0 ∷ []))
   -- the trailers of the derived container come before those of its base
   pub trailers : Spells example 11 (fields 12 (plains_of (num (pos 1) ∷ num (pos 2) ∷ num (pos 3) ∷ num (pos 4) ∷ []))) (bits_of (1 ∷ 2 ∷ 3 ∷ 4 ∷ []))
   -- the text 123456789 and its check
   pub checked : Spells example 10 (fields 10 (plains_of (text (codes "123456789") ∷ []))) (bits_of (codes "123456789" ++ 0x29 ∷ 0xB1 ∷ []))
-  pub unchecked : FailsAt example 10 (bits_of (codes "123456789" ++ 0x29 ∷ 0xB2 ∷ [])) (CheckDiffers, step.Part (id_of 10) 1 ∷ [])
+  pub unchecked : FailsAt example 10 (bits_of (codes "123456789" ++ 0x29 ∷ 0xB2 ∷ [])) (fault_at CheckDiffers (step.Part (id_of 10) 1 ∷ []))
   -- a list of three items of four bits, and four bits that are left
   pub list : Reads example 14 (fields 14 (plains_of (num (pos 3) ∷ items (plains_of (num (pos 10) ∷ num (pos 11) ∷ num (pos 12) ∷ [])) ∷ []))) (bits_of (3 ∷ 0xAB ∷ 0xC0 ∷ [])) 20
-  pub short_list : FailsAt example 14 (bits_of (0xFF ∷ 0x12 ∷ 0x34 ∷ [])) (Short, step.Part (id_of 14) 1 ∷ step.Item 4 ∷ [])
+  pub short_list : FailsAt example 14 (bits_of (0xFF ∷ 0x12 ∷ 0x34 ∷ [])) (fault_at Short (step.Part (id_of 14) 1 ∷ step.Item 4 ∷ []))
   -- the texts of up to four octets with a termination octet
   pub line : Spells example 21 (text (codes "ab")) (bits_of (codes "ab" ++ 10 ∷ []))
-  pub short_line : FailsAt example 21 (bits_of (codes "abc")) (Short, [])
-  pub unterminated : FailsAt example 21 (bits_of (codes "abcde")) (Unterminated, [])
-  pub bad_line : FailsAt example 21 (bits_of (128 ∷ 10 ∷ [])) (BadText, [])
+  pub short_line : FailsAt example 21 (bits_of (codes "abc")) (fault_at Short [])
+  pub unterminated : FailsAt example 21 (bits_of (codes "abcde")) (fault_at Unterminated [])
+  pub bad_line : FailsAt example 21 (bits_of (128 ∷ 10 ∷ [])) (fault_at BadText [])
   -- one container in another, told by a number in it, or by its type
   pub nested : Spells example 27 busy (bits_of (0x23 ∷ 0x45 ∷ 0xA0 ∷ 0x06 ∷ 0x86 ∷ 0x90 ∷ 0xAA ∷ 0xBC ∷ 0xEE ∷ []))
   pub nested_short : Reads example 27 idle (bits_of (0x17 ∷ 0x5A ∷ 0x00 ∷ 0x68 ∷ 0x69 ∷ 0x0A ∷ 0xAB ∷ 0xCE ∷ 0xE0 ∷ [])) 68
   -- no container in the nested one's family has the number 3
-  pub no_nested : FailsAt example 27 (bits_of (0x35 ∷ 0xA0 ∷ [])) (NoDerived, step.Part (id_of 27) 0 ∷ step.Choice (id_of 24) ∷ [])
-  pub no_mark : FailsAt example 27 (bits_of (0x17 ∷ 0x5B ∷ [])) (FixedDiffers, step.Part (id_of 27) 1 ∷ [])
+  pub no_nested : FailsAt example 27 (bits_of (0x35 ∷ 0xA0 ∷ [])) (fault_at NoDerived (step.Part (id_of 27) 0 ∷ step.Choice (id_of 24) ∷ []))
+  pub no_mark : FailsAt example 27 (bits_of (0x17 ∷ 0x5B ∷ [])) (fault_at FixedDiffers (step.Part (id_of 27) 1 ∷ []))
 
 -- what some frames with a tail say
 pub record WorkedTails : Type 0 where
@@ -196,37 +196,37 @@ pub record WorkedTails : Type 0 where
   -- the tail isn't all that is left: the last octet is no part of the packet
   pub followed : Reads example 19 (tail_packet 19 (0xAA ∷ [])) (bits_of (0x01 ∷ 0x04 ∷ 0xAA ∷ 0xAF ∷ 0xBB ∷ [])) 32
   -- the length entry tells fewer octets than there are without a tail, or more than there are with the longest
-  pub below_zero : FailsAt example 19 (bits_of (0x01 ∷ 0x02 ∷ 0x04 ∷ [])) (LengthDiffers, step.Part (id_of 19) 1 ∷ [])
-  pub above_most : FailsAt example 19 (bits_of (0x01 ∷ 0x0C ∷ 0x04 ∷ [])) (LengthDiffers, step.Part (id_of 19) 1 ∷ [])
-  pub unchecked : FailsAt example 19 (bits_of (0x01 ∷ 0x04 ∷ 0xAA ∷ 0xBB ∷ 0x6A ∷ [])) (CheckDiffers, step.Part (id_of 19) 3 ∷ [])
-  pub short : FailsAt example 19 (bits_of (0x01 ∷ 0x05 ∷ 0xAA ∷ [])) (Short, step.Part (id_of 19) 2 ∷ [])
+  pub below_zero : FailsAt example 19 (bits_of (0x01 ∷ 0x02 ∷ 0x04 ∷ [])) (fault_at LengthDiffers (step.Part (id_of 19) 1 ∷ []))
+  pub above_most : FailsAt example 19 (bits_of (0x01 ∷ 0x0C ∷ 0x04 ∷ [])) (fault_at LengthDiffers (step.Part (id_of 19) 1 ∷ []))
+  pub unchecked : FailsAt example 19 (bits_of (0x01 ∷ 0x04 ∷ 0xAA ∷ 0xBB ∷ 0x6A ∷ [])) (fault_at CheckDiffers (step.Part (id_of 19) 3 ∷ []))
+  pub short : FailsAt example 19 (bits_of (0x01 ∷ 0x05 ∷ 0xAA ∷ [])) (fault_at Short (step.Part (id_of 19) 2 ∷ []))
   pub even : Spells example 20 (tail_packet 20 (0xAA ∷ [])) (bits_of (0x01 ∷ 0x02 ∷ 0xAA ∷ 0xAD ∷ []))
 
 -- where and why some values don't pack
 pub record WorkedPacking : Type 0 where
   -- of another kind; with another number of fields; of a container that isn't the type's, or is abstract
-  pub kind : PackFailsAt example 8 (label (codes "x")) (reason.WrongKind, [])
-  pub few_fields : PackFailsAt example 14 (fields 14 (plains_of [])) (reason.WrongKind, [])
-  pub not_derived : PackFailsAt example 14 (fields 30 (plains_of (num (pos 1) ∷ []))) (reason.NotDerived, step.Choice (id_of 30) ∷ [])
-  pub abstract : PackFailsAt example 15 (fields 15 (plains_of (num (pos 1) ∷ []))) (reason.Abstract, step.Choice (id_of 15) ∷ [])
+  pub kind : PackFailsAt example 8 (label (codes "x")) (pack_fault_at reason.WrongKind [])
+  pub few_fields : PackFailsAt example 14 (fields 14 (plains_of [])) (pack_fault_at reason.WrongKind [])
+  pub not_derived : PackFailsAt example 14 (fields 30 (plains_of (num (pos 1) ∷ []))) (pack_fault_at reason.NotDerived (step.Choice (id_of 30) ∷ []))
+  pub abstract : PackFailsAt example 15 (fields 15 (plains_of (num (pos 1) ∷ []))) (pack_fault_at reason.Abstract (step.Choice (id_of 15) ∷ []))
   -- scalars, texts and bits
-  pub range : PackFailsAt example 13 (num (pos 16)) (reason.OutOfRange, [])
-  pub unlisted : PackFailsAt example 5 (label (codes "x")) (reason.NoLabel, [])
-  pub stop_within : PackFailsAt example 21 (text (codes "a" ++ 10 ∷ [])) (reason.BadText, [])
-  pub long_text : PackFailsAt example 21 (text (codes "abcde")) (reason.WrongSize, [])
-  pub few_bits : PackFailsAt example 22 (bits 8 (0xAB ∷ [])) (reason.WrongSize, [])
+  pub range : PackFailsAt example 13 (num (pos 16)) (pack_fault_at reason.OutOfRange [])
+  pub unlisted : PackFailsAt example 5 (label (codes "x")) (pack_fault_at reason.NoLabel [])
+  pub stop_within : PackFailsAt example 21 (text (codes "a" ++ 10 ∷ [])) (pack_fault_at reason.BadText [])
+  pub long_text : PackFailsAt example 21 (text (codes "abcde")) (pack_fault_at reason.WrongSize [])
+  pub few_bits : PackFailsAt example 22 (bits 8 (0xAB ∷ [])) (pack_fault_at reason.WrongSize [])
   -- items of an array, and of a list
-  pub items_missing : PackFailsAt example 23 (items (plains_of (num (pos 1) ∷ []))) (reason.WrongSize, [])
-  pub item : PackFailsAt example 23 (items (plains_of (num (pos 1) ∷ num (pos 99) ∷ []))) (reason.OutOfRange, step.Item 1 ∷ [])
-  pub count : PackFailsAt example 14 (fields 14 (plains_of (num (pos 3) ∷ items (plains_of (num (pos 1) ∷ [])) ∷ []))) (reason.CountWrong, step.Part (id_of 14) 1 ∷ [])
-  pub list_item : PackFailsAt example 14 (fields 14 (plains_of (num (pos 2) ∷ items (plains_of (num (pos 1) ∷ num (pos 99) ∷ [])) ∷ []))) (reason.OutOfRange, step.Part (id_of 14) 1 ∷ step.Item 1 ∷ [])
+  pub items_missing : PackFailsAt example 23 (items (plains_of (num (pos 1) ∷ []))) (pack_fault_at reason.WrongSize [])
+  pub item : PackFailsAt example 23 (items (plains_of (num (pos 1) ∷ num (pos 99) ∷ []))) (pack_fault_at reason.OutOfRange (step.Item 1 ∷ []))
+  pub count : PackFailsAt example 14 (fields 14 (plains_of (num (pos 3) ∷ items (plains_of (num (pos 1) ∷ [])) ∷ []))) (pack_fault_at reason.CountWrong (step.Part (id_of 14) 1 ∷ []))
+  pub list_item : PackFailsAt example 14 (fields 14 (plains_of (num (pos 2) ∷ items (plains_of (num (pos 1) ∷ num (pos 99) ∷ [])) ∷ []))) (pack_fault_at reason.OutOfRange (step.Part (id_of 14) 1 ∷ step.Item 1 ∷ []))
   -- a constraint of the container's own, and fields that are those of a derived container
-  pub asked : PackFailsAt example 15 (fields 16 (plains_of (num (pos 15) ∷ []))) (reason.Constraint, step.Part (id_of 15) 0 ∷ [])
-  pub derived : PackFailsAt example 30 (fields 30 (plains_of (num (pos 1) ∷ []))) (reason.NotMostDerived, step.Choice (id_of 30) ∷ [])
+  pub asked : PackFailsAt example 15 (fields 16 (plains_of (num (pos 15) ∷ []))) (pack_fault_at reason.Constraint (step.Part (id_of 15) 0 ∷ []))
+  pub derived : PackFailsAt example 30 (fields 30 (plains_of (num (pos 1) ∷ []))) (pack_fault_at reason.NotMostDerived (step.Choice (id_of 30) ∷ []))
   -- a tail of nine octets is too long by itself, whatever the length entry could tell
-  pub too_many : PackFailsAt example 19 (tail_packet 19 (0 ∷ 0 ∷ 0 ∷ 0 ∷ 0 ∷ 0 ∷ 0 ∷ 0 ∷ 0 ∷ [])) (reason.WrongSize, step.Part (id_of 19) 2 ∷ [])
+  pub too_many : PackFailsAt example 19 (tail_packet 19 (0 ∷ 0 ∷ 0 ∷ 0 ∷ 0 ∷ 0 ∷ 0 ∷ 0 ∷ 0 ∷ [])) (pack_fault_at reason.WrongSize (step.Part (id_of 19) 2 ∷ []))
   -- with two octets in its tail the packet has five, which are no pairs
-  pub odd : PackFailsAt example 20 (tail_packet 20 (0xAA ∷ 0xBB ∷ [])) (reason.LengthField, step.Part (id_of 20) 1 ∷ [])
+  pub odd : PackFailsAt example 20 (tail_packet 20 (0xAA ∷ 0xBB ∷ [])) (pack_fault_at reason.LengthField (step.Part (id_of 20) 1 ∷ []))
   -- more octets than the length entry can tell; and where it can, too many bits
-  pub untold : PackFailsAt example 33 (fields 33 (plains_of [])) (reason.LengthField, step.Part (id_of 33) 0 ∷ [])
-  pub too_long : PackFailsAt example 34 (fields 34 (plains_of [])) (reason.TooLong, [])
+  pub untold : PackFailsAt example 33 (fields 33 (plains_of [])) (pack_fault_at reason.LengthField (step.Part (id_of 33) 0 ∷ []))
+  pub too_long : PackFailsAt example 34 (fields 34 (plains_of [])) (pack_fault_at reason.TooLong [])

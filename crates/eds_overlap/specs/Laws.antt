@@ -1,13 +1,14 @@
 -- The laws of reading. Those of types and values alone are laws of eds_types, and are offered here again.
+use Rattle.eds_base.specs.declared.fault.Fault.{Fault}
 use Rattle.std.specs.Prelude.{◌≡◌, ◌↔◌, ℕ, ◌<◌, ◌≤◌, List, ◌++◌, length, Ok, Err, ◌⊎◌}
 use Rattle.eds_base.specs.declared.fault.Reason.TheVariants.{Short}
 use Rattle.eds_bits.specs.Bits.{Bits}
 use Rattle.eds_bits.specs.Style.{Style, any}
-use Rattle.eds_types.specs.Failing.{course, Passes, Where, FailsWithin, FailsAt}
+use Rattle.eds_types.specs.Failing.{course, Passes, FailsWithin, FailsAt}
 use Rattle.eds_types.specs.Fields.{values_of, IsAtOrUnder}
 pub use Rattle.eds_types.specs.Laws.{IsThere, OneSize, HasCanonical, OneCanonical, LeastIsLeast, EmptyTypes, PacksOrFails, PackingIsDecided}
 use Rattle.eds_types.specs.Overlap.{IsClear}
-use Rattle.eds_types.specs.Packing.{Where as PackWhere, most_bits, PackFailsAt}
+use Rattle.eds_types.specs.Packing.{PackFault, most_bits, PackFailsAt}
 use Rattle.eds_types.specs.Plain.{Plain, Plains, fields, list_of}
 use Rattle.eds_types.specs.Reading.{Read, read_within}
 use Rattle.eds_types.specs.Rows.{Table, chain, chain_within}
@@ -39,10 +40,10 @@ ReadingIsExact = (t : Table) (id : ℕ) → IsReadable t id → (b : Bits) → I
 
 -- the bits begin with a spelling, and only one, of one value; or reading fails, at one place for one reason
 pub record HasOneOutcome (t : Table) (id : ℕ) (b : Bits) : Type 0 where
-  pub either : ((v : Plain) × (c : Bits) × (rest : Bits) × (b ≡ c ++ rest) × Spells t id v c) ⊎ ((g : Where) × FailsAt t id b g)
+  pub either : ((v : Plain) × (c : Bits) × (rest : Bits) × (b ≡ c ++ rest) × Spells t id v c) ⊎ ((g : Fault) × FailsAt t id b g)
   pub one_value : (v w : Plain) (c d x y : Bits) → b ≡ c ++ x → b ≡ d ++ y → Spells t id v c → Spells t id w d → (v ≡ w) × (c ≡ d)
-  pub one_place : (g h : Where) → FailsAt t id b g → FailsAt t id b h → g ≡ h
-  pub not_both : (v : Plain) (c x : Bits) (g : Where) → b ≡ c ++ x → Spells t id v c → FailsAt t id b g → ⊥
+  pub one_place : (g h : Fault) → FailsAt t id b g → FailsAt t id b h → g ≡ h
+  pub not_both : (v : Plain) (c x : Bits) (g : Fault) → b ≡ c ++ x → Spells t id v c → FailsAt t id b g → ⊥
 
 abbrev pub OneOutcome : Type 0
 OneOutcome = (t : Table) (id : ℕ) → IsReadable t id → (b : Bits) → HasOneOutcome t id b
@@ -53,7 +54,7 @@ OneReading = (t : Table) (id : ℕ) → IsReadable t id → (v w : Plain) (b c m
 
 -- where reading fails for another reason than too few bits, more bits change nothing
 abbrev pub FaultsStay : Type 0
-FaultsStay = (t : Table) (id : ℕ) (b more : Bits) (g : Where) → (g.0 ≡ Short → ⊥) → FailsAt t id b g → FailsAt t id (b ++ more) g
+FaultsStay = (t : Table) (id : ℕ) (b more : Bits) (g : Fault) → (g.reason ≡ Short → ⊥) → FailsAt t id b g → FailsAt t id (b ++ more) g
 
 -- ---- spellings and the course
 
@@ -76,7 +77,7 @@ SpellingIsCourse = (t : Table) (id : ℕ) → IsThere t id → IsContainer t id 
 pub record HasRoom (t : Table) : Type 0 where
   pub chains : (n id : ℕ) → 16 ≤ n → chain_within n t id ≡ chain t id
   pub spellings : (n id : ℕ) → 32 ≤ n → (style : Style) (v : Plain) (b : Bits) → SpellsWithin n style t id v b ↔ SpellsWithin 32 style t id v b
-  pub faults : (n id : ℕ) → 32 ≤ n → (b : Bits) (g : Where) → FailsWithin n t id b g ↔ FailsAt t id b g
+  pub faults : (n id : ℕ) → 32 ≤ n → (b : Bits) (g : Fault) → FailsWithin n t id b g ↔ FailsAt t id b g
 
 abbrev pub BoundsSuffice : Type 0
 BoundsSuffice = (t : Table) → KeepsRules t → HasRoom t
@@ -96,7 +97,7 @@ pub record PacksAgain (t : Table) (id : ℕ) (v : Plain) (n : ℕ) : Type 0 wher
   pub spelling : Bits
   pub is : Canon t id v spelling
   pub size : length spelling ≡ n
-  pub no_fault : (g : PackWhere) → PackFailsAt t id v g → ⊥
+  pub no_fault : (g : PackFault) → PackFailsAt t id v g → ⊥
 
 abbrev pub ReadIsPacked : Type 0
 ReadIsPacked = (t : Table) (id : ℕ) → IsThere t id → (v : Plain) (b : Bits) → Spells t id v b → length b ≤ most_bits → PacksAgain t id v (length b)

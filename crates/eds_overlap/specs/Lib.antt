@@ -1,2 +1,4 @@
 pub mod Laws
 pub mod Example
+pub mod Pairs
+pub mod Underived

@@ -7,6 +7,7 @@ ghost use Rattle.eds_types.specs.Rules.{KeepsRules};
 ghost use Rattle.eds_types.specs.Sizes.{open_of};
 ghost use Rattle.eds_overlap.specs.Example.{example, WorkedFrames, WorkedPacking, WorkedTails};
 ghost use Rattle.eds_overlap.specs.Laws.{ReadingIsExact, SpellingIsCourse, OneOutcome, OneReading, FaultsStay, BoundsSuffice, SameValue, PackedIsRead, ReadIsPacked};
+ghost use Rattle.eds_overlap.specs.Underived.{UnderivedAreClear};
 
 pub use eds_types::law::{canonical_spelling, empty_types, least_size, packing_is_decided};
 
@@ -73,4 +74,9 @@ pub fn worked_tails()
 /// Where and why some values don't pack by the table of the examples.
 pub fn worked_packing()
     ensures { WorkedPacking }
+{}
+
+/// Where no container derives from another one, each type but an open binary is clear.
+pub fn underived_are_clear()
+    ensures { UnderivedAreClear }
 {}

@@ -1,4 +1,10 @@
 //! Containers whose values can't be told apart, and the laws that hold where there are none.
 #![tactic(auto)]
 
+mod find;
 pub mod law;
+mod paths;
+mod sets;
+
+pub use find::{Overlap, find_overlap};
+pub use sets::solution_sets;

@@ -3,11 +3,11 @@ use Rattle.std.proofs.Common.{◌≡◌, ℕ, ℤ, List, [], ◌∷◌, Bool, le
 use Rattle.std.proofs.lemmas.List.{length-map}
 use Rattle.eds_base.specs.declared.ids.TypeId.{TypeId}
 use Rattle.eds_types.specs.declared.value.Value.{Value}
-use Rattle.eds_types.specs.declared.value.Value.TheVariants.{rolls-Num, rolls-Label, rolls-Bool, rolls-Fields}
+use Rattle.eds_types.specs.declared.value.Value.TheVariants.{rolls-Num, rolls-Label, rolls-Bool, rolls-Fields, rolls-Items, rolls-Text, rolls-Bits}
 use Rattle.eds_types.specs.declared.value.Value.TheVariants as value
 use Rattle.eds_types.specs.declared.value.Value.TheOpen.{Value-F}
 use Rattle.eds_types.specs.declared.value.Value.TheFolds.{fold-roll-Value}
-use Rattle.eds_types.specs.Plain.{Plain, num, label, truth, fields, list_of, plains_of, plain_step, plain}
+use Rattle.eds_types.specs.Plain.{Plain, num, label, truth, text, bits, fields, items, list_of, plains_of, plain_step, plain}
 
 pub plain_num : (n : ℤ) → plain (value.Num n) ≡ num n
 plain_num n = ap plain (sym (rolls-Num n)) ∙ fold-roll-Value Plain plain_step (Value-F.Num n)
@@ -28,3 +28,12 @@ list_of-plains_of (v ∷ vs) = ap (λ ws. v ∷ ws) (list_of-plains_of vs)
 -- a value has one plain tree
 pub length_plains : (vs : List Value) → length (map plain vs) ≡ length vs
 length_plains vs = length-map vs plain
+
+pub plain_items : (vs : Vec Value Global) → plain (value.Items vs) ≡ items (plains_of (map plain vs.items))
+plain_items vs = ap plain (sym (rolls-Items vs)) ∙ fold-roll-Value Plain plain_step (Value-F.Items vs)
+
+pub plain_text : (s : List ℕ) → plain (value.Text s) ≡ text s
+plain_text s = ap plain (sym (rolls-Text s)) ∙ fold-roll-Value Plain plain_step (Value-F.Text s)
+
+pub plain_bits : (n : ℕ) (os : List ℕ) → plain (value.Bits n os) ≡ bits n os
+plain_bits n os = ap plain (sym (rolls-Bits n os)) ∙ fold-roll-Value Plain plain_step (Value-F.Bits n os)

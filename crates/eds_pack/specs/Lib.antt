@@ -1,4 +1,6 @@
+pub mod BuiltTables
+pub mod Counting
+pub mod Nesting
 pub mod Packs
-pub mod Scalars
-pub mod Sizes
-pub mod Written
+pub mod Putting
+pub mod Seeking

@@ -5,7 +5,7 @@ use Rattle.eds_base.specs.declared.fail.Fail.TheVariants.{Named, Memory}
 use Rattle.eds_bits.specs.Bits.{Bits, octets_for}
 use Rattle.eds_pack.specs.declared.fail.PackFail.{PackFail}
 use Rattle.eds_types.specs.declared.reason.PackReason.TheVariants.{Room}
-use Rattle.eds_types.specs.Packing.{Where, most_bits}
+use Rattle.eds_types.specs.Packing.{PackFault, most_bits, pack_fault_at}
 use Rattle.eds_types.specs.Plain.{Plain}
 use Rattle.eds_types.specs.Rows.{Table}
 use Rattle.eds_types.specs.Spelling.{Canon}
@@ -15,12 +15,12 @@ abbrev pub Packs : Table → ℕ → Plain → ℕ → Type 0
 Packs t id v n = (b : Bits) × Canon t id v b × (length b ≡ n) × (n ≤ most_bits)
 
 -- where a fault is, and why
-abbrev pub where_of : PackFail → Where
-where_of f = (f.reason, f.path)
+abbrev pub where_of : PackFail → PackFault
+where_of f = pack_fault_at f.reason f.path
 
 -- the fault for this reason at this path
-abbrev pub fail_at : Where → PackFail
-fail_at g = record { reason = g.0; path = g.1; need = 0 }
+abbrev pub fail_at : PackFault → PackFail
+fail_at g = record { reason = g.reason; path = g.path; need = 0 }
 
 -- the fault of a room that is too small: so many octets are needed
 abbrev pub no_room : ℕ → PackFail

@@ -1,9 +1,10 @@
-//! Where a value doesn't pack, and why.
+//! PackFault a value doesn't pack, and why.
 
-ghost use Rattle.std.specs.Prelude.{◌≡◌, [], ◌∷◌};
+ghost use Rattle.std.specs.Prelude.{◌≡◌, []};
+ghost use Rattle.eds_types.specs.Packing.{pack_fault_at};
 ghost use Rattle.eds_pack.specs.Packs.{fail_at, no_room as no_room_of};
 
-use eds_base::{Path, Step};
+use eds_base::Path;
 use eds_types::PackReason;
 
 /// The first fault of a value that is packed.
@@ -16,23 +17,10 @@ pub struct PackFail {
 }
 
 impl PackFail {
-    /// A fault of the whole value.
-    pub(crate) fn whole(reason: PackReason) -> PackFail
-        ensures { result ≡ fail_at (reason, []) }
+    /// A fault at a path.
+    pub(crate) fn at(reason: PackReason, path: Path) -> PackFail
+        ensures { result ≡ fail_at (pack_fault_at reason path) }
     {
-        PackFail {
-            reason,
-            path: Path::root(),
-            need: 0,
-        }
-    }
-
-    /// A fault one step into the value.
-    pub(crate) fn behind(step: Step, reason: PackReason) -> PackFail
-        ensures { result ≡ fail_at (reason, step ∷ []) }
-    {
-        let mut path = Path::root();
-        path.put_first(step);
         PackFail {
             reason,
             path,

@@ -2,14 +2,19 @@
 #![tactic(auto)]
 
 mod fail;
-mod fields;
+pub mod law;
+mod leaf;
 mod octets;
+mod plain;
 mod room;
-mod scalar;
+mod seek;
 mod size;
+mod tally;
+mod whole;
+mod write;
 
 pub use eds_types::PackReason;
 pub use fail::PackFail;
 pub use octets::pack;
 pub use room::pack_into;
-pub use size::{conforms, packed_bits};
+pub use whole::{conforms, packed_bits};

@@ -3,8 +3,8 @@
 ghost use Rattle.std.specs.Prelude.{◌≡◌, ◌<◌, ℕ, Ok, Err, length, replicate, IfOk, IfErr};
 ghost use Rattle.eds_base.specs.declared.fail.Fail.TheVariants.{Named, Memory};
 ghost use Rattle.eds_bits.specs.Bits.{Bits, octets_of};
-ghost use Rattle.eds_types.specs.FlatTables.{IsFlatTable};
-ghost use Rattle.eds_types.specs.Packing.{Where, PackFailsAt};
+ghost use Rattle.eds_pack.specs.BuiltTables.{IsBuiltTable};
+ghost use Rattle.eds_types.specs.Packing.{PackFault, PackFailsAt};
 ghost use Rattle.eds_types.specs.Plain.{plain};
 ghost use Rattle.eds_types.specs.Spelling.{Canon};
 ghost use Rattle.eds_pack.specs.Packs.{Packs, IfNamed, where_of, fail_at};
@@ -12,8 +12,7 @@ ghost use Rattle.eds_pack.specs.Packs.{Packs, IfNamed, where_of, fail_at};
 use crate::room::write_whole;
 use crate::{PackFail, packed_bits};
 use eds_base::{Fail, Items, Memory as NoMemory, Octets, TypeId};
-use eds_overlap::law;
-use eds_types::{TypeTable, Value};
+use eds_types::{TypeTable, Value, law};
 use std::alloc::Global;
 
 // So many octets, all zero.
@@ -32,12 +31,12 @@ pub fn pack(
     value: &Value,
 ) -> Result<(Octets, u32), Fail<PackFail>>
     requires known { id.0 < length table.now }
-    requires flat { IsFlatTable table.now }
+    requires built { IsBuiltTable table.now }
     ensures size { IfOk result (λ p. Packs table.now id.0 (plain value.now) p.1) }
     ensures octets { IfOk result (λ p. (b : Bits) → Canon table.now id.0 (plain value.now) b → p.0 ≡ octets_of b) }
     ensures packs { (n : ℕ) → Packs table.now id.0 (plain value.now) n → IfErr result (λ e. e ≡ Memory) }
     ensures fault { IfErr result (λ e. IfNamed (λ f. PackFailsAt table.now id.0 (plain value.now) (where_of f)) e) }
-    ensures fails { (g : Where) → PackFailsAt table.now id.0 (plain value.now) g → result ≡ Err (Named (fail_at g)) }
+    ensures fails { (g : PackFault) → PackFailsAt table.now id.0 (plain value.now) g → result ≡ Err (Named (fail_at g)) }
 {
     table.keeps_rules();
     law::canonical_spelling();

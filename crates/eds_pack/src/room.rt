@@ -1,39 +1,19 @@
 //! The second pass: writing what the first has found to pack.
 
-ghost use Rattle.std.specs.Prelude.{◌≡◌, ◌<◌, ◌≤◌, ◌+◌, ◌-◌, ◌*◌, ◌++◌, ◌⊎◌, ℕ, Ok, Err, All, false, length, drop, replicate, OnOk, OnErr, IfOk, IfErr, IsOkAnd};
+ghost use Rattle.std.specs.Prelude.{◌≡◌, ◌<◌, ◌≤◌, ◌+◌, ◌-◌, ◌*◌, ◌++◌, ◌⊎◌, ℕ, Ok, Err, All, false, length, drop, replicate, OnOk, OnErr, IfOk, IfErr};
 ghost use Rattle.eds_bits.specs.Bits.{Bits, bits_of, oct, octets_for, octets_of, with_piece};
-ghost use Rattle.eds_codec.specs.Writing.{Written};
-ghost use Rattle.eds_types.specs.FlatTables.{IsFlatTable};
-ghost use Rattle.eds_types.specs.Packing.{Where, PackFailsAt};
+ghost use Rattle.eds_pack.specs.BuiltTables.{IsBuiltTable};
+ghost use Rattle.eds_types.specs.Packing.{PackFault, PackFailsAt};
 ghost use Rattle.eds_types.specs.Plain.{plain};
 ghost use Rattle.eds_types.specs.Spelling.{Canon};
 ghost use Rattle.eds_pack.specs.Packs.{Packs, LacksRoom, where_of, fail_at, no_room};
-ghost use Rattle.eds_pack.specs.Sizes.{value_size as value_size_of};
-ghost use Rattle.eds_pack.specs.Written.{ValueSpells};
 
-use crate::fields::write_container;
-use crate::scalar::write_scalar;
+use crate::whole::MOST_NESTED;
+use crate::write::write_value;
 use crate::{PackFail, packed_bits};
 use eds_base::TypeId;
 use eds_bits::put;
-use eds_overlap::law;
-use eds_types::{Kind, TypeTable, Value};
-
-// Writes a value, which packs, from the first bit of the room on.
-fn write_value(table: &TypeTable, id: TypeId, value: &Value, room: &mut [u8])
-    requires known { id.0 < length table.now }
-    requires flat { IsFlatTable table.now }
-    requires fits { IsOkAnd (value_size_of table.now id.0 (plain value.now)) (λ n. n ≤ 8 * length room.old) }
-    ensures { Written (ValueSpells table.now id.0 (plain value.now)) 0 room.old room.new }
-{
-    table.keeps_rules();
-    match &table.row(id).kind {
-        Kind::Con(_) => write_container(table, id, value, room),
-        kind => {
-            write_scalar(kind, value, room, 0);
-        }
-    }
-}
+use eds_types::{Kind, TypeTable, Value, law};
 
 // Fills the last octet that is begun with zeros, where the first `at` bits are written.
 fn fill(room: &mut [u8], at: u32)
@@ -49,7 +29,7 @@ fn fill(room: &mut [u8], at: u32)
 /// fills the last octet that is begun with zeros.
 pub(crate) fn write_whole(table: &TypeTable, id: TypeId, value: &Value, size: u32, room: &mut [u8])
     requires known { id.0 < length table.now }
-    requires flat { IsFlatTable table.now }
+    requires built { IsBuiltTable table.now }
     requires packs { Packs table.now id.0 (plain value.now) size }
     requires fits { octets_for size ≤ length room.old }
     requires octets { All (λ o. o < 256) room.old }
@@ -57,7 +37,7 @@ pub(crate) fn write_whole(table: &TypeTable, id: TypeId, value: &Value, size: u3
 {
     table.keeps_rules();
     law::canonical_spelling();
-    write_value(table, id, value, room);
+    write_value(table, MOST_NESTED, id, value, room, 0);
     fill(room, size);
 }
 
@@ -71,12 +51,12 @@ pub fn pack_into(
     room: &mut [u8],
 ) -> Result<u32, PackFail>
     requires known { id.0 < length table.now }
-    requires flat { IsFlatTable table.now }
+    requires built { IsBuiltTable table.now }
     ensures size { IfOk result (λ n. Packs table.now id.0 (plain value.now) n) }
     ensures packs { (n : ℕ) → Packs table.now id.0 (plain value.now) n → octets_for n ≤ length room.old → result ≡ Ok n }
     ensures written { OnOk result ((b : Bits) → Canon table.now id.0 (plain value.now) b → room.new ≡ octets_of b ++ drop (oct b) room.old) }
     ensures fault { IfErr result (λ f. PackFailsAt table.now id.0 (plain value.now) (where_of f) ⊎ LacksRoom table.now id.0 (plain value.now) (length room.old) f) }
-    ensures fails { (g : Where) → PackFailsAt table.now id.0 (plain value.now) g → result ≡ Err (fail_at g) }
+    ensures fails { (g : PackFault) → PackFailsAt table.now id.0 (plain value.now) g → result ≡ Err (fail_at g) }
     ensures room { (n : ℕ) → Packs table.now id.0 (plain value.now) n → length room.old < octets_for n → result ≡ Err (no_room (octets_for n)) }
     ensures same { OnErr result (room.new ≡ room.old) }
 {

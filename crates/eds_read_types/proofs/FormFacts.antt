@@ -8,8 +8,10 @@ use Rattle.eds_bits.specs.declared.forms.Encoding.{Encoding}
 use Rattle.eds_bits.specs.declared.forms.ByteOrder.{ByteOrder}
 use Rattle.eds_bits.specs.declared.forms.IntForm.{IntForm}
 use Rattle.eds_bits.specs.declared.forms.BoolForm.{BoolForm}
+use Rattle.eds_bits.specs.declared.forms.TextForm.{TextForm}
 use Rattle.eds_bits.specs.Encodings.{IsForm, digit_bits, order_bits}
 use Rattle.eds_read_types.specs.Sizes.{is_size, are_whole, go_together, is_form, some_bits, few_bits}
+use Rattle.eds_read_types.specs.TextForms.{is_length, is_text, text_form_if, text_form}
 use Rattle.eds_read_types.specs.Forms.{form_if, int_form, bool_form_if, bool_form}
 
 -- ---- integers
@@ -69,3 +71,23 @@ bool_form-is bits zero_is_false some few = go (is_size bits) refl
     go : (t : Bool) (h : is_size bits ≡ t) → Some (bool_with bits zero_is_false some few) ≡ bool_form_if bits zero_is_false t h
     go true h = ap Some (same_bool bits zero_is_false some (some_bits bits h) few (few_bits bits h))
     go false h = absurd (let no : true ≡ false = sym (size-is bits some few) ∙ h in cc)
+
+-- ---- strings
+
+abbrev text_with : (octets stop : ℕ) (fixed ascii : Bool) → 1 ≤ octets → octets ≤ 65536 → stop ≤ 127 → TextForm
+text_with octets stop fixed ascii some few plain = record { length = octets; fixed = fixed; ascii = ascii; stop = stop; some = some; few = few; plain = plain }
+
+same_text : (octets stop : ℕ) (fixed ascii : Bool) (some more : 1 ≤ octets) (few fewer : octets ≤ 65536) (plain plainer : stop ≤ 127) → text_with octets stop fixed ascii some few plain ≡ text_with octets stop fixed ascii more fewer plainer
+same_text octets stop fixed ascii some more few fewer plain plainer =
+    ap₂ (λ s f. text_with octets stop fixed ascii s f plain) (le_prop some more) (le_prop few fewer) ∙ ap (text_with octets stop fixed ascii more fewer) (le_prop plain plainer)
+
+pub text_form-is : (octets stop : ℕ) (fixed ascii : Bool) (some : 1 ≤ octets) (few : octets ≤ 65536) (plain : stop ≤ 127) → Some (text_with octets stop fixed ascii some few plain) ≡ text_form octets stop fixed ascii
+unfolding text_form
+text_form-is octets stop fixed ascii some few plain = go (is_text octets stop) refl
+  where
+    fits : is_text octets stop ≡ true
+    fits = and_from (is_length octets) (nat_le stop 127) (and_from (nat_le 1 octets) (nat_le octets 65536) (le-leb 1 octets some) (le-leb octets 65536 few)) (le-leb stop 127 plain)
+
+    go : (t : Bool) (h : is_text octets stop ≡ t) → Some (text_with octets stop fixed ascii some few plain) ≡ text_form_if octets stop fixed ascii t h
+    go true h = ap Some (same_text octets stop fixed ascii some _ few _ plain _)
+    go false h = absurd (let no : true ≡ false = sym fits ∙ h in cc)

@@ -4,14 +4,17 @@ pub mod EndFacts
 pub mod ListingFacts
 pub mod LawFacts
 mod EntriesLemmas
-mod NoBreaks
+pub mod NoBreaks
 mod BaseSteps
 mod NumberSteps
 mod RowSteps
-mod SheetPlaces
+pub mod SheetPlaces
 mod Unbroken
 pub mod TableFacts
-pub mod FlatRules
+pub mod PlainRules
+pub mod PartFacts
+pub mod SortFacts
+pub mod Found
 pub mod ChainFacts
 pub mod NumberFacts
 pub mod TableRules

@@ -43,8 +43,10 @@ use Rattle.eds_read_types.specs.Places.{element, is_element, in_file, held, is_c
 use Rattle.eds_read_types.specs.Entries.{entries_at}
 use Rattle.eds_read_types.specs.Bases.{bases_of}
 use Rattle.eds_read_types.specs.Numbers.{numbers_of}
-use Rattle.eds_read_types.specs.TableRows.{entry_part, scalar_kind, scalar_kind_in, kind_of as kind_at, table_row, rows_from, table_rows, has_few_entries, are_few}
-use Rattle.eds_read_types.specs.ScalarKinds.{is_enumerated, is_boolean}
+use Rattle.eds_read_types.specs.TableRows.{entry_part, scalar_kind_by, scalar_kind_in, kind_of as kind_at, table_row, rows_from, table_rows, has_few_entries, are_few}
+use Rattle.eds_read_types.specs.declared.sort.Sort.{Sort}
+use Rattle.eds_read_types.specs.declared.sort.Sort.TheVariants as sort
+use Rattle.eds_read_types.specs.Sorts.{sort_of}
 
 -- ---- the table
 
@@ -791,14 +793,20 @@ few_numbered trees c (d ∷ ds) h = (h.0, few_numbered trees (counted c d.kind) 
 no_container : (trees : List (List Node)) (names : Names) (id : ℕ) (at : Place) → is_container trees at ≡ false → container_by (kind_at trees names id at) ≡ None
 no_container trees names id at e = rw e (in_file_or_not (slice_get trees at.file))
   where
-    scalar : (t : List Node) (a b : Bool) → is_enumerated t at.node ≡ a → is_boolean t at.node ≡ b → container_by (scalar_kind t at.node (numbers_of trees (type_places names) (bases_of trees names) id)) ≡ None
-    scalar t true b p q = rw p refl
-    scalar t false true p q = rw (p, q) refl
-    scalar t false false p q = rw (p, q) refl
+    scalar : (t : List Node) (s : Option Sort) → container_by (scalar_kind_by s t at.node (numbers_of trees (type_places names) (bases_of trees names) id)) ≡ None
+    scalar t None = refl
+    scalar t (Some sort.Integer) = refl
+    scalar t (Some sort.Enumerated) = refl
+    scalar t (Some sort.Boolean) = refl
+    scalar t (Some sort.Text) = refl
+    scalar t (Some sort.Binary) = refl
+    scalar t (Some sort.Array) = refl
+    scalar t (Some sort.SubRange) = refl
+    scalar t (Some sort.Container) = refl
 
     in_file_or_not : (o : Option (List Node)) → container_by (scalar_kind_in o at.node (numbers_of trees (type_places names) (bases_of trees names) id)) ≡ None
     in_file_or_not None = refl
-    in_file_or_not (Some t) = scalar t (is_enumerated t at.node) (is_boolean t at.node) refl refl
+    in_file_or_not (Some t) = scalar t (sort_of (name_at t at.node))
 
 few_row : (trees : List (List Node)) (names : Names) (id : ℕ) (d : Declared) → HasFew trees d.place → has_few_entries (table_row trees names id d) ≡ true
 few_row trees names id d h = go (is_container trees d.place) refl
@@ -811,7 +819,7 @@ few_rows : (trees : List (List Node)) (names : Names) (n : ℕ) (ds : List Decla
 few_rows trees names n [] h = refl
 few_rows trees names n (d ∷ ds) h = and_from (has_few_entries (table_row trees names n d)) (list_all has_few_entries (rows_from trees names (n + 1) ds)) (few_row trees names n d h.0) (few_rows trees names (n + 1) ds h.1)
 
-length-rows : (trees : List (List Node)) (names : Names) (n : ℕ) (ds : List Declared) → length (rows_from trees names n ds) ≡ length ds
+pub length-rows : (trees : List (List Node)) (names : Names) (n : ℕ) (ds : List Declared) → length (rows_from trees names n ds) ≡ length ds
 length-rows trees names n [] = refl
 length-rows trees names n (d ∷ ds) = ap suc (length-rows trees names (n + 1) ds)
 

@@ -1,5 +1,5 @@
 -- The declared types of a sheet are among its elements.
-use Rattle.std.proofs.Common.{◌≡◌, ℕ, zero, suc, ◌+◌, Bool, true, false, List, [], ◌∷◌, ◌++◌, map, filter, length, slice_get, Option, Some, None, Ok, refl, sym, ap, subst, ◌∙◌}
+use Rattle.std.proofs.Common.{◌≡◌, ℕ, zero, suc, ◌+◌, Bool, true, false, List, [], ◌∷◌, ◌++◌, map, filter, length, slice_get, Option, Some, None, Ok, refl, sym, ap, subst, ◌∙◌, arith}
 use Rattle.std.specs.List.{AllByRecursion, flat_map}
 use Rattle.std.proofs.lemmas.List.{map-append}
 use Rattle.eds_base.specs.declared.ids.Place.{Place}
@@ -7,12 +7,14 @@ use Rattle.eds_base.specs.declared.refusal.Refusal.{Refusal}
 use Rattle.eds_base.specs.Refusals.{least}
 use Rattle.eds_tree.specs.declared.tree.Node.{Node}
 use Rattle.eds_tree.specs.declared.link.Link.{Link}
+use Rattle.eds_tree.specs.Breaks.{Judgement, breaks_in, breaks_from, breaks_of}
 use Rattle.eds_tree.specs.Trees.{name_at, children_of, links_from, links_of}
 use Rattle.eds_names.specs.declared.declared.Declared.{Declared}
 use Rattle.eds_names.specs.Standings.{below, standings_from, standings_of}
 use Rattle.eds_names.specs.Declarations.{Declaration, kind_of, declared_as, declaration_at, declarations_in, declarations_from, numbered, counted, none_counted, declared_in}
 use Rattle.eds_names.specs.LookUp.{Names, duplicates, names_of, unless, names_in}
 use Rattle.eds_read_types.specs.Places.{places_in, places_from, elements, is_type, types, type_places}
+use Rattle.eds_read_types.proofs.NoBreaks.{append-none}
 
 -- ---- elements with what stands around them, and their links
 
@@ -63,10 +65,6 @@ at_one P [] h k x e = cc
 at_one P (y ∷ ys) h zero x e = let is : y ≡ x = cc in subst P is h.0
 at_one P (y ∷ ys) h (suc k) x e = at_one P ys h.1 k x e
 
-append-none : {A : Type 0} (xs ys : List A) → xs ++ ys ≡ [] → (xs ≡ []) × (ys ≡ [])
-append-none [] ys h = (refl, h)
-append-none (x ∷ xs) ys h = cc
-
 pub each-none : {A : Type 0} (f : A → List Refusal) (xs : List A) → flat_map f xs ≡ [] → AllByRecursion (λ x. f x ≡ []) xs
 each-none f [] h = tt
 each-none f (x ∷ xs) h = let p = append-none (f x) (flat_map f xs) h in (p.0, each-none f xs p.1)
@@ -115,3 +113,22 @@ module _ (P : Place → Type 0) where
       go : (o : Option Refusal) → unless o (names_of trees) ≡ Ok names → AllByRecursion (λ (d : Declared). P d.place) names.declared
       go None e = let is : names_of trees ≡ names = cc in subst (λ (n : Names). AllByRecursion (λ (d : Declared). P d.place) n.declared) is all
       go (Some r) e = cc
+
+-- ---- from rules on elements to elements
+
+module _ (judge : Judgement) (trees : List (List Node)) (P : Place → Type 0) (holds : (file : ℕ) (t : List Node) (link : Link) → slice_get trees file ≡ Some t → judge file t link ≡ [] → P (record { file = file; node = link.node })) where
+  in_links : (file : ℕ) (t : List Node) → slice_get trees file ≡ Some t → (ls : List Link) → flat_map (judge file t) ls ≡ [] → AllByRecursion P (map (λ link. record { file = file; node = link.node }) ls)
+  in_links file t there [] h = tt
+  in_links file t there (l ∷ ls) h = let p = append-none (judge file t l) (flat_map (judge file t) ls) h in (holds file t l there p.0, in_links file t there ls p.1)
+
+  in_files : (file : ℕ) (ts : List (List Node)) → ((k : ℕ) (t : List Node) → slice_get ts k ≡ Some t → (n : ℕ) → file + k ≡ n → slice_get trees n ≡ Some t) → breaks_from judge file ts ≡ [] → AllByRecursion P (places_from file ts)
+  in_files file [] there h = tt
+  in_files file (t ∷ ts) there h =
+      let p = append-none (breaks_in judge file t) (breaks_from judge (file + 1) ts) h in
+      join P (places_in file t) (places_from (file + 1) ts)
+      (in_links file t (there 0 t refl file (omega arith)) (links_of t) p.0)
+      (in_files (file + 1) ts (λ k u e n q. there (suc k) u e n (omega (arith, q))) p.1)
+
+  -- what a rule that is broken nowhere says of each element
+  pub at_elements : breaks_of judge trees ≡ [] → AllByRecursion P (elements trees)
+  at_elements h = in_files 0 trees (λ k t e n q. let is : k ≡ n = omega (arith, q) in subst (λ i. slice_get trees i ≡ Some t) is e) h

@@ -1,18 +1,17 @@
--- The rows of a sheet that breaks no rule on types keep the rules of a table, and are flat.
-use Rattle.std.proofs.Common.{◌≡◌, ℕ, zero, suc, ◌+◌, ◌≤◌, Bool, true, false, ◌||◌, List, [], ◌∷◌, ◌++◌, length, map, slice_get, option_map, Option, Some, None, refl, sym, ap, subst, ◌∙◌, arith, lit≤}
+-- The rows of a sheet that breaks no rule on types keep the rules of a table.
+use Rattle.std.proofs.Common.{◌≡◌, ℕ, zero, suc, ◌+◌, ◌<◌, ◌≤◌, Bool, true, false, ◌||◌, List, [], ◌∷◌, ◌++◌, length, map, slice_get, option_map, Option, Some, None, refl, sym, ap, subst, ◌∙◌, arith, lit≤}
 use Rattle.std.specs.Prelude.{nat_le, codes, not, Ok, if◌then◌else◌}
 use Rattle.std.specs.List.{AllByRecursion, filter_map, flat_map, list_all}
 use Rattle.std.proofs.Common.{leb-true}
 use Rattle.std.proofs.lemmas.Bool.{and_parts}
 use Rattle.std.proofs.lemmas.List.{length-map}
-use Rattle.std.proofs.lemmas.Option.{slice_get-map}
+use Rattle.std.proofs.lemmas.Option.{slice_get-map, slice_get_within}
 use Rattle.std.proofs.lemmas.Slice.Eq.{bytes_eq-Decides}
 use Rattle.eds_base.specs.Reading.{◌>>=◌, same}
 use Rattle.eds_base.specs.Refusals.{least}
 use Rattle.eds_base.specs.declared.ids.Place.{Place}
 use Rattle.eds_base.specs.declared.ids.TypeId.{TypeId}
 use Rattle.eds_base.specs.declared.refusal.Refusal.{Refusal}
-use Rattle.eds_base.specs.declared.rule.Rule.TheVariants.{Unsupported}
 use Rattle.eds_bits.specs.Lists.{Has}
 use Rattle.eds_tree.specs.declared.tree.Node.{Node}
 use Rattle.eds_tree.specs.Trees.{node_name, name_at}
@@ -26,9 +25,12 @@ use Rattle.eds_names.proofs.Differing.{differ}
 use Rattle.eds_types.specs.declared.row.TypeRow.{TypeRow}
 use Rattle.eds_types.specs.declared.row.Kind.{Kind}
 use Rattle.eds_types.specs.declared.row.Kind.TheVariants as kind
+use Rattle.eds_types.specs.declared.row.Container.{Container}
+use Rattle.eds_types.specs.declared.row.Part.{Part}
+use Rattle.eds_types.specs.Rows.{base_in, base_of, container_by, container_in, container_of, number_of_id, entries_in}
+use Rattle.eds_types.specs.Sizes.{open_of}
 use Rattle.eds_types.specs.FlatTables.{IsScalarEntry, IsFlatKind, IsFlatTable}
-use Rattle.eds_types.specs.Rows.{base_in, base_of, number_of_id, entries_in, constraints_in}
-use Rattle.eds_types.specs.Rules.{AreDistinct, IsListing, KindKeeps, HasKind, IsScalarKind, DerivesFrom, name_of, KeepsRules}
+use Rattle.eds_types.specs.Rules.{AreDistinct, IsListing, KindKeeps, HasKind, IsScalarKind, DerivesFrom, IsNested, name_of, KeepsRules}
 use Rattle.eds_read_types.specs.declared.numbers.FormAndDomain.{FormAndDomain}
 use Rattle.eds_read_types.specs.Places.{element, is_element, is_container, is_sub_range, is_number, attribute, own_name, elements, types, type_places}
 use Rattle.eds_read_types.specs.References.{references, row_for, judged_text, judged_by, judged_at, broken_with}
@@ -37,22 +39,29 @@ use Rattle.eds_read_types.specs.Entries.{entries_at}
 use Rattle.eds_read_types.specs.Forms.{int_form_of, bool_form_of}
 use Rattle.eds_read_types.specs.Listings.{listing_of}
 use Rattle.eds_read_types.specs.Bases.{base_found, bases_of}
-use Rattle.eds_read_types.specs.Numbers.{form_or_wide, truth_or_octet, numbers_of}
-use Rattle.eds_read_types.specs.TableRows.{entry_id, entry_part, container_at, scalar_kind_in, kind_of, table_row, rows_from, table_rows, has_few_entries, are_few}
+use Rattle.eds_read_types.specs.Numbers.{form_or_wide, numbers_of}
+use Rattle.eds_read_types.specs.TableRows.{entry_id, entry_part, container_at, scalar_kind_by, scalar_kind_in, kind_of, table_row, rows_from, table_rows, has_few_entries, are_few}
 use Rattle.eds_read_types.specs.TableBreaks.{table_breaks}
 use Rattle.eds_read_types.specs.DuplicateEntry.{repeats, duplicates_at}
-use Rattle.eds_read_types.specs.ScalarKinds.{is_enumerated, is_boolean, breaks_in, breaks_at}
+use Rattle.eds_read_types.specs.declared.sort.Sort.{Sort}
+use Rattle.eds_read_types.specs.declared.sort.Sort.TheVariants as sort
+use Rattle.eds_read_types.specs.Sorts.{sort_of}
+use Rattle.eds_read_types.specs.ScalarKinds.{breaks_in, breaks_at}
 use Rattle.eds_read_types.specs.BadEncoding.{encoding_breaks}
 use Rattle.eds_read_types.specs.BadEnumeration.{enumeration_breaks}
 use Rattle.eds_read_types.specs.WrongKind.{kind_by, wrong_kind_by, wrong_kind_at}
-use Rattle.eds_read_types.specs.UnsupportedEntry.{is_scalar, not_scalar_at, not_flat_at}
+use Rattle.eds_read_types.specs.UnsupportedEntry.{unsupported_by, unsupported_entry_at}
+use Rattle.eds_read_types.specs.LengthField.{untold_by, length_field_at}
 use Rattle.eds_read_types.specs.declared.reference_row.Wanted.TheVariants.{NumberType}
 use Rattle.eds_read_types.proofs.NoBreaks.{least-none, append-none, types-apart, no_repeats}
 use Rattle.eds_read_types.proofs.Unbroken.{IsUnbroken, unbroken}
 use Rattle.eds_read_types.proofs.SheetPlaces.{at_one, each-none as nowhere, of_types}
-use Rattle.eds_read_types.proofs.Limits.{few_types}
+use Rattle.eds_read_types.proofs.Limits.{few_types, length-rows}
 use Rattle.eds_read_types.proofs.LawFacts.{name_apart, enumerated_unbroken}
-use Rattle.eds_read_types.proofs.FlatRules.{KeepsRow, AreFlatRows, scalar_by_kind, flat_by_rows, keeps_by_rows}
+use Rattle.eds_read_types.proofs.PlainRules.{EntryKeeps, IsPlainKind, KeepsRow, ArePlainRows, keeps_by_rows}
+use Rattle.eds_read_types.proofs.PartFacts.{rank_by, few_ranks, mapped_there, placed_all, all_mapped, no_item, part_none}
+use Rattle.eds_read_types.proofs.Found.{id_there}
+use Rattle.eds_read_types.proofs.SortFacts.{sort_named, binary_keeps}
 use Rattle.eds_read_types.proofs.ChainFacts.{each-none, level}
 use Rattle.eds_read_types.proofs.NumberFacts.{HasNumbers, base_there, base_is_sub, few_levels, less_levels, domains, derives_from}
 
@@ -130,9 +139,9 @@ is_number_named node = same (node_name node) (codes "IntegerDataType") || same (
 in_tree_number : (o : Option (List Node)) (n : ℕ) (numbers : FormAndDomain) → is_number_named (o >>= λ t. slice_get t n) ≡ true → scalar_kind_in o n numbers ≡ kind.Int numbers.form numbers.spans
 in_tree_number None n numbers h = refl
 in_tree_number (Some t) n numbers h =
-    let enumerated : is_enumerated t n ≡ false = number_apart (name_at t n) (codes "EnumeratedDataType") refl refl h in
-    let boolean : is_boolean t n ≡ false = number_apart (name_at t n) (codes "BooleanDataType") refl refl h in
-    rw (enumerated, boolean) refl
+    either (same (name_at t n) (codes "IntegerDataType")) (same (name_at t n) (codes "SubRangeDataType")) (scalar_kind_by (sort_of (name_at t n)) t n numbers ≡ kind.Int numbers.form numbers.spans) h
+    (λ e. subst (λ name. scalar_kind_by (sort_of name) t n numbers ≡ kind.Int numbers.form numbers.spans) (sym ((bytes_eq-Decides (name_at t n) (codes "IntegerDataType")).0 e)) refl)
+    (λ e. subst (λ name. scalar_kind_by (sort_of name) t n numbers ≡ kind.Int numbers.form numbers.spans) (sym ((bytes_eq-Decides (name_at t n) (codes "SubRangeDataType")).0 e)) refl)
 
 sub_is_number : (trees : List (List Node)) (at : Place) → is_sub_range trees at ≡ true → is_number trees at ≡ true
 sub_is_number trees at h = rw h (true_or (is_element trees (codes "IntegerDataType") at))
@@ -142,40 +151,23 @@ number_kind trees names id at h =
     let container : is_container trees at ≡ false = number_apart (node_name (element trees at)) (codes "ContainerDataType") refl refl h in
     rw container (in_tree_number (slice_get trees at.file) at.node (numbers_of trees (type_places names) (bases_of trees names) id) h)
 
--- whatever is no container is scalar
-scalar_is_scalar : (o : Option (List Node)) (n : ℕ) (numbers : FormAndDomain) → IsScalarKind (scalar_kind_in o n numbers)
-scalar_is_scalar None n numbers = tt
-scalar_is_scalar (Some t) n numbers = go (is_enumerated t n) (is_boolean t n)
+-- whatever is no container has no parts
+scalar_by : (o : Option (List Node)) (n : ℕ) (numbers : FormAndDomain) → container_by (scalar_kind_in o n numbers) ≡ None
+scalar_by None n numbers = refl
+scalar_by (Some t) n numbers = go (sort_of (name_at t n))
   where
-    go : (a b : Bool) → IsScalarKind (if a then kind.Enum (form_or_wide (int_form_of t n)) (listing_of t n) else if b then kind.Bool (truth_or_octet (bool_form_of t n)) else kind.Int numbers.form numbers.spans)
-    go true b = tt
-    go false true = tt
-    go false false = tt
+    go : (s : Option Sort) → container_by (scalar_kind_by s t n numbers) ≡ None
+    go None = refl
+    go (Some sort.Integer) = refl
+    go (Some sort.Enumerated) = refl
+    go (Some sort.Boolean) = refl
+    go (Some sort.Text) = refl
+    go (Some sort.Binary) = refl
+    go (Some sort.Array) = refl
+    go (Some sort.SubRange) = refl
+    go (Some sort.Container) = refl
 
 -- ---- entries
-
--- a type that is no container is scalar in the table
-scalar_there : (trees : List (List Node)) (names : Names) (id : ℕ) (place : Place) → slice_get (type_places names) id ≡ Some place → is_container trees place ≡ false → HasKind (table_rows trees names) id IsScalarKind
-scalar_there trees names id place there scalar =
-    let d = declared_there (types names) id place there in
-    let same_place : is_container trees (d.0).place ≡ false = ap (is_container trees) d.2 ∙ scalar in
-    (table_row trees names id d.0, row_there trees names 0 (types names) id d.0 d.1 id (omega arith), rw same_place (scalar_is_scalar (slice_get trees (d.0).place.file) (d.0).place.node (numbers_of trees (type_places names) (bases_of trees names) id)))
-
-entry_scalar : (trees : List (List Node)) (names : Names) (at : Place) → not_scalar_at trees names at ≡ [] → HasKind (table_rows trees names) (entry_id trees names at).0 IsScalarKind
-entry_scalar trees names at h = there (slice_get (type_places names) (entry_id trees names at).0) refl h
-  where
-    no_container : (b : Bool) (r : Refusal) → (if not b then [] else r ∷ []) ≡ [] → b ≡ false
-    no_container true r k = absurd cc
-    no_container false r k = refl
-
-    there : (o : Option Place) → slice_get (type_places names) (entry_id trees names at).0 ≡ o → (if is_scalar trees o then [] else broken_with Unsupported at (codes "Entry") ∷ []) ≡ [] → HasKind (table_rows trees names) (entry_id trees names at).0 IsScalarKind
-    there None e k = absurd cc
-    there (Some place) e k = scalar_there trees names (entry_id trees names at).0 place e (no_container (is_container trees place) _ k)
-
-entries_scalar : (trees : List (List Node)) (names : Names) (ats : List Place) → flat_map (not_scalar_at trees names) ats ≡ [] → AllByRecursion (IsScalarEntry (table_rows trees names)) (map (entry_part trees names) ats)
-entries_scalar trees names [] h = tt
-entries_scalar trees names (at ∷ ats) h =
-    let p = append-none (not_scalar_at trees names at) (flat_map (not_scalar_at trees names) ats) h in (entry_scalar trees names at p.0, entries_scalar trees names ats p.1)
 
 part_names : (trees : List (List Node)) (names : Names) (ats : List Place) → filter_map name_of (map (entry_part trees names) ats) ≡ map (own_name trees) ats
 part_names trees names [] = refl
@@ -219,6 +211,17 @@ base_of_sub trees names at base h e = text_of (attribute trees (codes "baseType"
     text_of None k f = absurd cc
     text_of (Some text) k f = found text (look_up names at text) k f
 
+-- a container has no base
+no_base : (trees : List (List Node)) (names : Names) (at : Place) → is_container trees at ≡ true → base_found trees names at ≡ None
+no_base trees names at is = go (base_found trees names at) refl
+  where
+    go : (o : Option TypeId) → base_found trees names at ≡ o → base_found trees names at ≡ None
+    go None e = e
+    go (Some base) e =
+        let number = sub_is_number trees at (base_is_sub trees names at base e) in
+        let other : is_container trees at ≡ false = number_apart (node_name (element trees at)) (codes "ContainerDataType") refl refl number in
+        absurd (clash (is_container trees at) other is)
+
 -- ---- the rows of a sheet
 
 module _ (trees : List (List Node)) (names : Names) (word : Option (List ℕ)) (named : names_in trees ≡ Ok names) (u : IsUnbroken trees names word) where
@@ -228,27 +231,78 @@ module _ (trees : List (List Node)) (names : Names) (word : Option (List ℕ)) (
 
   -- ---- containers
 
+  row_of : (id : ℕ) (d : Declared) → slice_get (types names) id ≡ Some d → slice_get (table_rows trees names) id ≡ Some (table_row trees names id d)
+  row_of id d there = row_there trees names 0 (types names) id d there id (omega arith)
+
+  -- how deep types are nested: in a container there are types that nest no further
+  rank : ℕ → ℕ
+  rank id = rank_by (container_of (table_rows trees names) id)
+
+  -- the type of an entry is there
+  entry_there : (q : Place) (id : ℕ) (d : Declared) → slice_get (types names) id ≡ Some d → (entry_id trees names q).0 < length (table_rows trees names)
+  entry_there q id d there = subst (λ n. (entry_id trees names q).0 < n) (sym (length-rows trees names 0 (types names))) (id_there trees names q (slice_get_within (types names) id d there) named)
+
+  -- an entry's type is no container
+  entry_scalar : (id : ℕ) (d : Declared) → slice_get (types names) id ≡ Some d → container_of (table_rows trees names) id ≡ Some (container_at trees names d.place) → (k : ℕ) (q : Place) → slice_get (entries_at trees d.place) k ≡ Some q → container_of (table_rows trees names) (entry_id trees names q).0 ≡ None
+  entry_scalar id d there is k q e =
+      let part_there : slice_get (entries_in (container_of (table_rows trees names) id)) k ≡ Some (entry_part trees names q) = ap (λ c. slice_get (entries_in c) k) is ∙ (slice_get-map (entry_part trees names) (entries_at trees d.place) k ∙ ap (option_map (entry_part trees names)) e) in
+      no_container (container_of (table_rows trees names) (entry_id trees names q).0) q (part_none unsupported_entry_at trees names u.flat id d.place (place_there (types names) id d there) k (entry_part trees names q) part_there q e)
+    where
+      no_container : (o : Option Container) (at : Place) → unsupported_by at o ≡ [] → o ≡ None
+      no_container None at h = refl
+      no_container (Some c) at h = absurd cc
+
+  -- and no open binary
+  entry_keeps : (id : ℕ) (d : Declared) → slice_get (types names) id ≡ Some d → container_of (table_rows trees names) id ≡ Some (container_at trees names d.place) → (k : ℕ) (p : Part) → slice_get (map (entry_part trees names) (entries_at trees d.place)) k ≡ Some p → EntryKeeps (table_rows trees names) rank (record { container = id; place = k; part = p })
+  unfolding rank
+  entry_keeps id d there is k p e =
+      let place = place_there (types names) id d there in
+      let q = mapped_there (entry_part trees names) (entries_at trees d.place) k p e in
+      let part_there : slice_get (entries_in (container_of (table_rows trees names) id)) k ≡ Some (entry_part trees names q.0) = ap (λ c. slice_get (entries_in c) k) is ∙ (e ∙ ap Some (sym q.2)) in
+      let scalar = entry_scalar id d there is k q.0 q.1 in
+      let closed = no_open (open_of (table_rows trees names) (entry_id trees names q.0).0) q.0 (part_none length_field_at trees names u.lengths id d.place place k (entry_part trees names q.0) part_there q.0 q.1) in
+      subst (λ part. EntryKeeps (table_rows trees names) rank (record { container = id; place = k; part = part })) q.2
+      (record {
+        fits = ((λ c same_type. absurd (none_some (container_of (table_rows trees names) (entry_id trees names q.0).0) c scalar same_type)), closed);
+        nests = λ inner same_type. nests (entry_id trees names q.0).0 inner same_type (entry_there q.0 id d there) scalar;
+      })
+    where
+      no_open : (o : Option ℕ) (at : Place) → untold_by at o ≡ [] → o ≡ None
+      no_open None at h = refl
+      no_open (Some n) at h = absurd cc
+
+      none_some : (o : Option Container) (c : Container) → o ≡ None → o ≡ Some c → ⊥
+      none_some o c e f = cc
+
+      nests : (n inner : ℕ) → Some n ≡ Some inner → n < length (table_rows trees names) → container_of (table_rows trees names) n ≡ None → IsNested (table_rows trees names) (λ id. rank_by (container_of (table_rows trees names) id)) id inner
+      nests n inner same_type lt none =
+          let i : n ≡ inner = cc in
+          let low = ap rank_by none in
+          let high = ap rank_by is in
+          subst (IsNested (table_rows trees names) (λ id. rank_by (container_of (table_rows trees names) id)) id) i (lt, omega (arith, low, high))
+
   container_row : (id : ℕ) (d : Declared) → slice_get (types names) id ≡ Some d → is_container trees d.place ≡ true → length (entries_at trees d.place) ≤ 32767
-      → KeepsRow (table_rows trees names) (record { name = d.name; base = base_found trees names d.place; kind = kind.Con (container_at trees names d.place) })
+      → KeepsRow (table_rows trees names) rank id (record { name = d.name; base = base_found trees names d.place; kind = kind.Con (container_at trees names d.place) })
   container_row id d there is few =
       let place = place_there (types names) id d there in
-      let no_base = no_base_by (base_found trees names d.place) refl in
-      let entries : flat_map (not_scalar_at trees names) (entries_at trees d.place) ≡ [] = rw is at (each-none (not_flat_at trees names) (type_places names) u.flat id d.place place) in
+      let rootless = no_base trees names d.place is in
+      let container : container_of (table_rows trees names) id ≡ Some (container_at trees names d.place) = ap container_in (row_of id d there) ∙ rw is refl in
       let differ : repeats trees [] (entries_at trees d.place) ≡ [] = rw is at (each-none (duplicates_at trees names) (type_places names) u.duplicates id d.place place) in
       record {
         kind_keeps = (subst (λ n. n ≤ 32767) (sym (length-map (entries_at trees d.place) (entry_part trees names))) few, lit≤ tt);
-        derives = λ base e. absurd (no_other base e no_base);
-        flat = record { concrete = refl; root = ap number_of_id no_base; entries = entries_scalar trees names (entries_at trees d.place) entries; trailers = refl };
-        bare = refl;
-        names = subst AreDistinct (sym (part_names trees names (entries_at trees d.place))) (apart-distinct (map (own_name trees) (entries_at trees d.place)) (no_repeats trees [] (entries_at trees d.place) differ).1);
+        derives = λ base e. absurd (no_other base e rootless);
+        plain = record {
+          concrete = refl;
+          root = ap number_of_id rootless;
+          bare = refl;
+          trailers = refl;
+          entries = placed_all (EntryKeeps (table_rows trees names) rank) id 0 (map (entry_part trees names) (entries_at trees d.place)) (λ k p e i same_place. subst (λ n. EntryKeeps (table_rows trees names) rank (record { container = id; place = n; part = p })) (to_sum k i same_place) (entry_keeps id d there container k p e));
+          names = subst AreDistinct (sym (part_names trees names (entries_at trees d.place))) (apart-distinct (map (own_name trees) (entries_at trees d.place)) (no_repeats trees [] (entries_at trees d.place) differ).1);
+        };
       }
     where
-      no_base_by : (o : Option TypeId) → base_found trees names d.place ≡ o → base_found trees names d.place ≡ None
-      no_base_by None e = e
-      no_base_by (Some base) e =
-          let number = sub_is_number trees d.place (base_is_sub trees names d.place base e) in
-          let other : is_container trees d.place ≡ false = number_apart (node_name (element trees d.place)) (codes "ContainerDataType") refl refl number in
-          absurd (clash (is_container trees d.place) other is)
+      to_sum : (k i : ℕ) → k + 0 ≡ i → k ≡ i
+      to_sum k i e = omega (arith, e)
 
       no_other : (base : ℕ) → number_of_id (base_found trees names d.place) ≡ Some base → base_found trees names d.place ≡ None → ⊥
       no_other base e f = let no : None ≡ Some base = sym (ap number_of_id f) ∙ e in cc
@@ -264,15 +318,21 @@ module _ (trees : List (List Node)) (names : Names) (word : Option (List ℕ)) (
       numbers : HasNumbers (numbers_of trees (type_places names) (bases_of trees names) id)
       numbers = domains trees names u.cycles u.chains u.encodings u.ranges u.subs id
 
-      of_type : (t : List Node) (a b : Bool) → is_enumerated t d.place.node ≡ a → encoding_breaks t d.place ≡ [] → enumeration_breaks t d.place ≡ []
-          → KindKeeps (if a then kind.Enum (form_or_wide (int_form_of t d.place.node)) (listing_of t d.place.node) else if b then kind.Bool (truth_or_octet (bool_form_of t d.place.node)) else kind.Int (numbers_of trees (type_places names) (bases_of trees names) id).form (numbers_of trees (type_places names) (bases_of trees names) id).spans)
-      of_type t true b e enc enu = let l = enumerated_unbroken t d.place e enc enu in subst (λ form. IsListing (form_or_wide form) (listing_of t d.place.node)) (sym l.form_is) l.lists
-      of_type t false true e enc enu = tt
-      of_type t false false e enc enu = numbers
+      of_type : (t : List Node) (s : Option Sort) → sort_of (name_at t d.place.node) ≡ s → encoding_breaks t d.place ≡ [] → enumeration_breaks t d.place ≡ []
+          → KindKeeps (scalar_kind_by s t d.place.node (numbers_of trees (type_places names) (bases_of trees names) id))
+      of_type t None e enc enu = numbers
+      of_type t (Some sort.Integer) e enc enu = numbers
+      of_type t (Some sort.Enumerated) e enc enu = let l = enumerated_unbroken t d.place (sort_named (name_at t d.place.node) sort.Enumerated e) enc enu in subst (λ form. IsListing (form_or_wide form) (listing_of t d.place.node)) (sym l.form_is) l.lists
+      of_type t (Some sort.Boolean) e enc enu = tt
+      of_type t (Some sort.Text) e enc enu = tt
+      of_type t (Some sort.Binary) e enc enu = binary_keeps t d.place.node
+      of_type t (Some sort.Array) e enc enu = numbers
+      of_type t (Some sort.SubRange) e enc enu = numbers
+      of_type t (Some sort.Container) e enc enu = numbers
 
       in_tree : (o : Option (List Node)) → breaks_in encoding_breaks o d.place ≡ [] → breaks_in enumeration_breaks o d.place ≡ [] → KindKeeps (scalar_kind_in o d.place.node (numbers_of trees (type_places names) (bases_of trees names) id))
       in_tree None enc enu = numbers
-      in_tree (Some t) enc enu = of_type t (is_enumerated t d.place.node) (is_boolean t d.place.node) refl enc enu
+      in_tree (Some t) enc enu = of_type t (sort_of (name_at t d.place.node)) refl enc enu
 
   -- a type that has a base derives from it
   derives : (id : ℕ) (d : Declared) → slice_get (types names) id ≡ Some d → (base : TypeId) → base_found trees names d.place ≡ Some base → HasKind (table_rows trees names) base.0 (DerivesFrom (kind_of trees names id d.place))
@@ -293,32 +353,35 @@ module _ (trees : List (List Node)) (names : Names) (word : Option (List ℕ)) (
   number_some None n e = absurd cc
   number_some (Some id) n e = (id, refl, cc)
 
-  flat_scalar : (base : Option ℕ) (k : Kind) → IsScalarKind k → IsFlatKind (table_rows trees names) base k
-  flat_scalar base (kind.Int form spans) s = tt
-  flat_scalar base (kind.Enum form listing) s = tt
-  flat_scalar base (kind.Bool form) s = tt
-  flat_scalar base (kind.Str form) s = absurd s
-  flat_scalar base (kind.Bin n free) s = absurd s
-  flat_scalar base (kind.Arr item n) s = absurd s
-  flat_scalar base (kind.Con c) s = absurd s
+  plain_scalar : (id : ℕ) (base : Option ℕ) (o : Option (List Node)) (n : ℕ) (numbers : FormAndDomain) → IsPlainKind (table_rows trees names) rank id base (scalar_kind_in o n numbers)
+  plain_scalar id base None n numbers = tt
+  plain_scalar id base (Some t) n numbers = go (sort_of (name_at t n))
+    where
+      go : (s : Option Sort) → IsPlainKind (table_rows trees names) rank id base (scalar_kind_by s t n numbers)
+      go None = tt
+      go (Some sort.Integer) = tt
+      go (Some sort.Enumerated) = tt
+      go (Some sort.Boolean) = tt
+      go (Some sort.Text) = tt
+      go (Some sort.Binary) = tt
+      go (Some sort.Array) = tt
+      go (Some sort.SubRange) = tt
+      go (Some sort.Container) = tt
 
-  scalar_row : (id : ℕ) (d : Declared) → slice_get (types names) id ≡ Some d → is_container trees d.place ≡ false → KeepsRow (table_rows trees names) (table_row trees names id d)
+  scalar_row : (id : ℕ) (d : Declared) → slice_get (types names) id ≡ Some d → is_container trees d.place ≡ false → KeepsRow (table_rows trees names) rank id (table_row trees names id d)
   scalar_row id d there is =
-      let scalar : IsScalarKind (kind_of trees names id d.place) = rw is (scalar_is_scalar (slice_get trees d.place.file) d.place.node (numbers_of trees (type_places names) (bases_of trees names) id)) in
       record {
         kind_keeps = rw is (scalar_keeps id d there);
         derives = λ base e. (let some = number_some (base_found trees names d.place) base e in subst (λ n. HasKind (table_rows trees names) n (DerivesFrom (kind_of trees names id d.place))) some.2 (derives id d there some.0 some.1));
-        flat = flat_scalar (number_of_id (base_found trees names d.place)) (kind_of trees names id d.place) scalar;
-        bare = ap constraints_in (scalar_by_kind (kind_of trees names id d.place) scalar);
-        names = subst (λ c. AreDistinct (filter_map name_of (entries_in c))) (sym (scalar_by_kind (kind_of trees names id d.place) scalar)) tt;
+        plain = rw is (plain_scalar id (number_of_id (base_found trees names d.place)) (slice_get trees d.place.file) d.place.node (numbers_of trees (type_places names) (bases_of trees names) id));
       }
 
   -- ---- all rows
 
-  keeps_row : (id : ℕ) (d : Declared) → slice_get (types names) id ≡ Some d → has_few_entries (table_row trees names id d) ≡ true → KeepsRow (table_rows trees names) (table_row trees names id d)
+  keeps_row : (id : ℕ) (d : Declared) → slice_get (types names) id ≡ Some d → has_few_entries (table_row trees names id d) ≡ true → KeepsRow (table_rows trees names) rank id (table_row trees names id d)
   keeps_row id d there few = go (is_container trees d.place) refl
     where
-      go : (b : Bool) → is_container trees d.place ≡ b → KeepsRow (table_rows trees names) (table_row trees names id d)
+      go : (b : Bool) → is_container trees d.place ≡ b → KeepsRow (table_rows trees names) rank id (table_row trees names id d)
       go true is =
           let short : nat_le (length (map (entry_part trees names) (entries_at trees d.place))) 32767 ≡ true = rw is at few in
           rw is (container_row id d there is (subst (λ n. n ≤ 32767) (length-map (entries_at trees d.place) (entry_part trees names)) (leb-true _ 32767 short)))
@@ -336,8 +399,29 @@ module _ (trees : List (List Node)) (names : Names) (word : Option (List ℕ)) (
           subst (λ n. level (bases_of trees names) id ≡ suc (level (bases_of trees names) n)) some.2
           (less_levels trees names u.cycles u.chains u.encodings u.ranges u.subs id some.0 (base_there trees names id r.declared.place place ∙ some.1))
 
-  flat_rows : NamesDiffer names.declared → are_few (table_rows trees names) ≡ true → AreFlatRows (table_rows trees names)
-  flat_rows apart few =
+  -- a type that derives is an integer type or a sub-range, and so is its base
+  base_ranks : (id base : ℕ) → base_of (table_rows trees names) id ≡ Some base → rank id ≡ rank base
+  unfolding rank
+  base_ranks id base e = go (slice_get (table_rows trees names) id) refl e
+    where
+      none : (n : ℕ) (d : Declared) → slice_get (types names) n ≡ Some d → is_number trees d.place ≡ true → container_of (table_rows trees names) n ≡ None
+      none n d there number = ap container_in (row_of n d there) ∙ ap container_by (number_kind trees names n d.place number)
+
+      go : (o : Option TypeRow) → slice_get (table_rows trees names) id ≡ o → base_in o ≡ Some base → rank_by (container_of (table_rows trees names) id) ≡ rank_by (container_of (table_rows trees names) base)
+      go None q h = absurd cc
+      go (Some row) q h =
+          let r = row_at trees names 0 (types names) id row q id (omega arith) in
+          let some = number_some (base_found trees names r.declared.place) base (sym (ap (λ (w : TypeRow). number_of_id w.base) r.is) ∙ h) in
+          let place = place_there (types names) id r.declared r.there in
+          let b = base_of_sub trees names r.declared.place some.0 (at_one (λ at. judged_at (wrong_kind_at trees names) trees at ≡ []) (type_places names) fitting id r.declared.place place) some.1 in
+          let other = declared_there (types names) (some.0).0 b.place b.there in
+          let base_number : is_number trees (other.0).place ≡ true = ap (is_number trees) other.2 ∙ b.number in
+          let number = sub_is_number trees r.declared.place (base_is_sub trees names r.declared.place some.0 some.1) in
+          ap rank_by (none id r.declared r.there number) ∙ sym (ap rank_by (subst (λ n. container_of (table_rows trees names) n ≡ None) some.2 (none (some.0).0 other.0 other.1 base_number)))
+
+  plain_rows : NamesDiffer names.declared → are_few (table_rows trees names) ≡ true → ArePlainRows (table_rows trees names)
+  unfolding rank
+  plain_rows apart few =
       let parts = and_parts (nat_le (length (table_rows trees names)) 4096) (list_all has_few_entries (table_rows trees names)) few in
       record {
         few = leb-true _ 4096 parts.0;
@@ -345,24 +429,108 @@ module _ (trees : List (List Node)) (names : Names) (word : Option (List ℕ)) (
         level = level (bases_of trees names);
         chains = few_levels trees names u.cycles u.chains u.encodings u.ranges u.subs;
         base_level = base_row;
+        rank = rank;
+        nesting = λ id. few_ranks (container_of (table_rows trees names) id);
+        base_rank = base_ranks;
         rows = λ id row e. row_keeps id row e (all_there has_few_entries (table_rows trees names) parts.1 id row e);
       }
     where
-      row_keeps : (id : ℕ) (row : TypeRow) → slice_get (table_rows trees names) id ≡ Some row → has_few_entries row ≡ true → KeepsRow (table_rows trees names) row
+      row_keeps : (id : ℕ) (row : TypeRow) → slice_get (table_rows trees names) id ≡ Some row → has_few_entries row ≡ true → KeepsRow (table_rows trees names) rank id row
       row_keeps id row e h =
           let r = row_at trees names 0 (types names) id row e id (omega arith) in
-          subst (KeepsRow (table_rows trees names)) (sym r.is) (keeps_row id r.declared r.there (ap has_few_entries (sym r.is) ∙ h))
+          subst (KeepsRow (table_rows trees names) rank id) (sym r.is) (keeps_row id r.declared r.there (ap has_few_entries (sym r.is) ∙ h))
 
--- ---- the laws
-
-unbroken_sheet : (trees : List (List Node)) (names : Names) (word : Option (List ℕ)) → shape_verdict trees ≡ Ok tt → names_in trees ≡ Ok names → least (table_breaks trees names word) ≡ None → AreFlatRows (table_rows trees names)
-unbroken_sheet trees names word shaped named none =
-    flat_rows trees names word named (unbroken trees names word (least-none (table_breaks trees names word) none)) (differ trees names named) (few_types trees names shaped named)
+-- ---- the law
 
 -- the rows of a sheet that is not refused keep the rules
 pub table_keeps : (trees : List (List Node)) (names : Names) (word : Option (List ℕ)) → shape_verdict trees ≡ Ok tt → names_in trees ≡ Ok names → least (table_breaks trees names word) ≡ None → KeepsRules (table_rows trees names)
-table_keeps trees names word shaped named none = keeps_by_rows (table_rows trees names) (unbroken_sheet trees names word shaped named none)
+table_keeps trees names word shaped named none =
+    keeps_by_rows (table_rows trees names) (plain_rows trees names word named (unbroken trees names word (least-none (table_breaks trees names word) none)) (differ trees names named) (few_types trees names shaped named))
 
--- and are scalar types and flat containers
-pub table_flat : (trees : List (List Node)) (names : Names) (word : Option (List ℕ)) → shape_verdict trees ≡ Ok tt → names_in trees ≡ Ok names → least (table_breaks trees names word) ≡ None → IsFlatTable (table_rows trees names)
-table_flat trees names word shaped named none = flat_by_rows (table_rows trees names) (unbroken_sheet trees names word shaped named none)
+-- ---- tables that are flat
+
+-- a string or a binary
+abbrev pub is_octets : (name : List ℕ) → Bool
+is_octets name = same name (codes "StringDataType") || same name (codes "BinaryDataType")
+
+-- the type at a place is none
+abbrev pub IsNoOctets : List (List Node) → Place → Type 0
+IsNoOctets trees at = is_octets (node_name (element trees at)) ≡ false
+
+module _ (trees : List (List Node)) (names : Names) (word : Option (List ℕ)) (named : names_in trees ≡ Ok names) (u : IsUnbroken trees names word) (none : AllByRecursion (IsNoOctets trees) (type_places names)) where
+  abbrev rows : List TypeRow
+  rows = table_rows trees names
+
+  -- a type that is no container is scalar
+  scalar_there : (id : ℕ) (d : Declared) → slice_get (types names) id ≡ Some d → is_container trees d.place ≡ false → IsScalarKind (kind_of trees names id d.place)
+  scalar_there id d there is = rw is (in_tree (slice_get trees d.place.file) (at_one (IsNoOctets trees) (type_places names) none id d.place (place_there (types names) id d there)))
+    where
+      octets_named : (name element : List ℕ) → is_octets element ≡ true → same name element ≡ true → is_octets name ≡ false → ⊥
+      octets_named name element h e f = clash (is_octets name) f (subst (λ n. is_octets n ≡ true) (sym ((bytes_eq-Decides name element).0 e)) h)
+
+      by_sort : (t : List Node) (s : Option Sort) → sort_of (name_at t d.place.node) ≡ s → is_octets (name_at t d.place.node) ≡ false → IsScalarKind (scalar_kind_by s t d.place.node (numbers_of trees (type_places names) (bases_of trees names) id))
+      by_sort t None e f = tt
+      by_sort t (Some sort.Integer) e f = tt
+      by_sort t (Some sort.Enumerated) e f = tt
+      by_sort t (Some sort.Boolean) e f = tt
+      by_sort t (Some sort.Text) e f = absurd (octets_named (name_at t d.place.node) (codes "StringDataType") refl (sort_named (name_at t d.place.node) sort.Text e) f)
+      by_sort t (Some sort.Binary) e f = absurd (octets_named (name_at t d.place.node) (codes "BinaryDataType") refl (sort_named (name_at t d.place.node) sort.Binary e) f)
+      by_sort t (Some sort.Array) e f = tt
+      by_sort t (Some sort.SubRange) e f = tt
+      by_sort t (Some sort.Container) e f = tt
+
+      in_tree : (o : Option (List Node)) → is_octets (node_name (o >>= λ t. slice_get t d.place.node)) ≡ false → IsScalarKind (scalar_kind_in o d.place.node (numbers_of trees (type_places names) (bases_of trees names) id))
+      in_tree None h = tt
+      in_tree (Some t) h = by_sort t (sort_of (name_at t d.place.node)) refl h
+
+  -- the entries of a container are scalar
+  entries_scalar : (id : ℕ) (d : Declared) → slice_get (types names) id ≡ Some d → container_of rows id ≡ Some (container_at trees names d.place) → AllByRecursion (IsScalarEntry rows) (map (entry_part trees names) (entries_at trees d.place))
+  entries_scalar id d there is = all_mapped (entry_part trees names) (IsScalarEntry rows) (entries_at trees d.place) (λ k q e. scalar_entry k q e)
+    where
+      scalar_entry : (k : ℕ) (q : Place) → slice_get (entries_at trees d.place) k ≡ Some q → HasKind rows (entry_id trees names q).0 IsScalarKind
+      scalar_entry k q e = go (slice_get (types names) (entry_id trees names q).0) refl
+        where
+          lt : (entry_id trees names q).0 < length (types names)
+          lt = id_there trees names q (slice_get_within (types names) id d there) named
+
+          go : (o : Option Declared) → slice_get (types names) (entry_id trees names q).0 ≡ o → HasKind rows (entry_id trees names q).0 IsScalarKind
+          go None f = absurd (no_item (types names) (entry_id trees names q).0 lt f)
+          go (Some other) f =
+              let row = row_of trees names word named u (entry_id trees names q).0 other f in
+              let bare : container_of rows (entry_id trees names q).0 ≡ None = entry_scalar trees names word named u id d there is k q e in
+              (table_row trees names (entry_id trees names q).0 other, row, scalar_there (entry_id trees names q).0 other f (not_container other (ap container_in (sym row) ∙ bare)))
+            where
+              not_container : (other : Declared) → container_by (kind_of trees names (entry_id trees names q).0 other.place) ≡ None → is_container trees other.place ≡ false
+              not_container other h = by (is_container trees other.place) refl
+                where
+                  by : (b : Bool) → is_container trees other.place ≡ b → b ≡ false
+                  by false g = refl
+                  by true g = let no : Some (container_at trees names other.place) ≡ None = rw g at h in absurd cc
+
+  flat_row : (id : ℕ) (d : Declared) → slice_get (types names) id ≡ Some d → IsFlatKind rows (base_of rows id) (kind_of trees names id d.place)
+  flat_row id d there = go (is_container trees d.place) refl
+    where
+      flat_scalar : (base : Option ℕ) (k : Kind) → IsScalarKind k → IsFlatKind rows base k
+      flat_scalar base (kind.Int form spans) s = tt
+      flat_scalar base (kind.Enum form listing) s = tt
+      flat_scalar base (kind.Bool form) s = tt
+      flat_scalar base (kind.Str form) s = absurd s
+      flat_scalar base (kind.Bin n free) s = absurd s
+      flat_scalar base (kind.Arr item n) s = absurd s
+      flat_scalar base (kind.Con c) s = absurd s
+
+      go : (b : Bool) → is_container trees d.place ≡ b → IsFlatKind rows (base_of rows id) (kind_of trees names id d.place)
+      go false is = flat_scalar (base_of rows id) (kind_of trees names id d.place) (scalar_there id d there is)
+      go true is =
+          let row = row_of trees names word named u id d there in
+          let container : container_of rows id ≡ Some (container_at trees names d.place) = ap container_in row ∙ rw is refl in
+          rw is (record { concrete = refl; root = ap base_in row ∙ ap number_of_id (no_base trees names d.place is); entries = entries_scalar id d there container; trailers = refl })
+
+  flat_rows : IsFlatTable rows
+  flat_rows id row e =
+      let r = row_at trees names 0 (types names) id row e id (omega arith) in
+      subst (λ (w : TypeRow). IsFlatKind rows (base_of rows id) w.kind) (sym r.is) (flat_row id r.declared r.there)
+
+-- of a sheet without strings and binaries the rows are scalar types and flat containers
+pub table_flat : (trees : List (List Node)) (names : Names) (word : Option (List ℕ)) → names_in trees ≡ Ok names → least (table_breaks trees names word) ≡ None → AllByRecursion (IsNoOctets trees) (elements trees) → IsFlatTable (table_rows trees names)
+table_flat trees names word named none octets = flat_rows trees names word named (unbroken trees names word (least-none (table_breaks trees names word) none)) (of_types (IsNoOctets trees) trees names named octets)

@@ -17,6 +17,7 @@ use Rattle.eds_read_types.specs.BadEncoding.{breaks_encoding}
 use Rattle.eds_read_types.specs.EmptyRange.{breaks_range, breaks_sub_range}
 use Rattle.eds_read_types.specs.BadEnumeration.{breaks_enumeration}
 use Rattle.eds_read_types.specs.DuplicateEntry.{breaks_duplicate}
+use Rattle.eds_read_types.specs.LengthField.{breaks_length}
 use Rattle.eds_read_types.specs.TableBreaks.{rules, table_breaks}
 use Rattle.eds_read_types.proofs.NoBreaks.{append-none}
 
@@ -52,6 +53,7 @@ pub record IsUnbroken (trees : List (List Node)) (names : Names) (word : Option 
   pub subs : breaks_sub_range trees names ≡ []
   pub enumerations : breaks_enumeration trees names ≡ []
   pub duplicates : breaks_duplicate trees names ≡ []
+  pub lengths : breaks_length trees names ≡ []
 
 pub unbroken : (trees : List (List Node)) (names : Names) (word : Option (List ℕ)) → table_breaks trees names word ≡ [] → IsUnbroken trees names word
 unbroken trees names word h =
@@ -73,4 +75,5 @@ unbroken trees names word h =
       subs = scalars.1.1.0;
       enumerations = scalars.1.1.1.0;
       duplicates = containers.1.0;
+      lengths = containers.1.1.0;
     }

@@ -3,7 +3,7 @@ use Rattle.std.specs.Prelude.{ℕ, ℤ, List, [], ◌∷◌, filter, if◌then�
 use Rattle.eds_base.specs.Reading.{◌>>=◌}
 use Rattle.eds_tree.specs.declared.tree.Node.{Node}
 use Rattle.eds_tree.specs.Trees.{children_at, attribute_at, is_named}
-use Rattle.eds_tree.specs.AttributeTexts.{whole_number}
+use Rattle.eds_base.specs.Numbers.{whole_number}
 
 -- those of some elements that have a name
 abbrev pub named_among : List Node → List ℕ → List ℕ → List ℕ

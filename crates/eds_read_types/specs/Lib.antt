@@ -1,6 +1,8 @@
 pub mod Held
 pub mod Sizes
 pub mod Forms
+pub mod TextForms
+pub mod Sorts
 pub mod Ranges
 pub mod Domains
 pub mod Listings
@@ -24,5 +26,7 @@ pub mod DuplicateEntry
 pub mod Unbroken
 pub mod Numbers
 pub mod TableRows
+pub mod Parts
+pub mod LengthField
 pub mod TableBreaks
 pub mod TableRead

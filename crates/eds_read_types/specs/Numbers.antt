@@ -1,12 +1,14 @@
 -- The forms and domains of integer types and sub-ranges by their numbers among all types.
-use Rattle.std.specs.Prelude.{ℕ, zero, suc, List, Option, Some, None, slice_get, true, refl, if◌then◌else◌}
+use Rattle.std.specs.Prelude.{ℕ, zero, suc, List, Option, Some, None, slice_get, true, false, refl, if◌then◌else◌}
 use Rattle.std.specs.Option.{unwrap_or}
+use Rattle.std.proofs.Common.{leb-true}
 use Rattle.eds_base.specs.declared.ids.Place.{Place}
 use Rattle.eds_base.specs.declared.ids.TypeId.{TypeId}
 use Rattle.eds_bits.specs.declared.forms.Encoding.TheVariants.{TwosComplement}
 use Rattle.eds_bits.specs.declared.forms.ByteOrder.TheVariants.{Big}
 use Rattle.eds_bits.specs.declared.forms.IntForm.{IntForm}
 use Rattle.eds_bits.specs.declared.forms.BoolForm.{BoolForm}
+use Rattle.eds_bits.specs.declared.forms.TextForm.{TextForm}
 use Rattle.eds_tree.specs.declared.tree.Node.{Node}
 use Rattle.eds_read_types.specs.declared.numbers.FormAndDomain.{FormAndDomain}
 use Rattle.eds_read_types.specs.declared.range.Range.{Range}
@@ -34,6 +36,14 @@ octet_form = record { bits = 8; zero_is_false = true; some = some_bits 8 refl; f
 -- the same for truth values
 abbrev pub truth_or_octet : Option BoolForm → BoolForm
 truth_or_octet form = unwrap_or form octet_form
+
+-- a fixed string of one octet in UTF-8
+abbrev pub octet_text : TextForm
+octet_text = record { length = 1; fixed = true; ascii = false; stop = 0; some = leb-true 1 1 refl; few = leb-true 1 65536 refl; plain = leb-true 0 127 refl }
+
+-- the same for strings
+abbrev pub text_or_octet : Option TextForm → TextForm
+text_or_octet form = unwrap_or form octet_text
 
 -- ---- one type
 

@@ -22,6 +22,12 @@ is_enumerated t n = is_named t (codes "EnumeratedDataType") n
 abbrev pub is_boolean : List Node → ℕ → Bool
 is_boolean t n = is_named t (codes "BooleanDataType") n
 
+abbrev pub is_string : List Node → ℕ → Bool
+is_string t n = is_named t (codes "StringDataType") n
+
+abbrev pub is_binary : List Node → ℕ → Bool
+is_binary t n = is_named t (codes "BinaryDataType") n
+
 -- ---- rules at one type of a file
 
 -- the refusal at a place, where a rule is broken there

@@ -14,6 +14,7 @@ use Rattle.eds_read_types.specs.EmptyRange.{breaks_range, breaks_sub_range}
 use Rattle.eds_read_types.specs.BadEnumeration.{breaks_enumeration}
 use Rattle.eds_read_types.specs.EmptyType.{breaks_empty}
 use Rattle.eds_read_types.specs.DuplicateEntry.{breaks_duplicate}
+use Rattle.eds_read_types.specs.LengthField.{breaks_length}
 
 -- what breaks each rule, in the phases in which they are judged
 abbrev pub rules : List (List Node) → Names → (word : Option (List ℕ)) → List (List (List Refusal))
@@ -21,7 +22,7 @@ rules trees names word =
     (breaks_unresolved trees names word ∷ breaks_kind trees names word ∷ [])
     ∷ (breaks_cycle trees names ∷ breaks_chain trees names ∷ breaks_flat trees names ∷ [])
     ∷ (breaks_encoding trees names ∷ breaks_range trees names ∷ breaks_sub_range trees names ∷ breaks_enumeration trees names ∷ [])
-    ∷ (breaks_empty trees names word ∷ breaks_duplicate trees names ∷ [])
+    ∷ (breaks_empty trees names word ∷ breaks_duplicate trees names ∷ breaks_length trees names ∷ [])
     ∷ []
 
 -- All breaks of these rules, each phase judged only where no phase before it is broken.

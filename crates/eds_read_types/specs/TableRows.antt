@@ -5,6 +5,7 @@ use Rattle.std.specs.List.{flat_map, list_all}
 use Rattle.eds_base.specs.declared.ids.Place.{Place}
 use Rattle.eds_base.specs.declared.ids.TypeId.{TypeId}
 use Rattle.eds_tree.specs.declared.tree.Node.{Node}
+use Rattle.eds_tree.specs.Trees.{name_at}
 use Rattle.eds_names.specs.declared.declared.Declared.{Declared}
 use Rattle.eds_names.specs.LookUp.{Names}
 use Rattle.eds_types.specs.declared.row.TypeRow.{TypeRow}
@@ -20,9 +21,12 @@ use Rattle.eds_read_types.specs.Entries.{entries_at, type_named}
 use Rattle.eds_read_types.specs.ReadTypes.{id_found}
 use Rattle.eds_read_types.specs.Forms.{int_form_of, bool_form_of}
 use Rattle.eds_read_types.specs.Listings.{listing_of}
-use Rattle.eds_read_types.specs.ScalarKinds.{is_enumerated, is_boolean}
+use Rattle.eds_read_types.specs.declared.sort.Sort.{Sort}
+use Rattle.eds_read_types.specs.declared.sort.Sort.TheVariants as sort
+use Rattle.eds_read_types.specs.Sorts.{sort_of}
+use Rattle.eds_read_types.specs.TextForms.{text_form_of, is_open, binary_bits_of}
 use Rattle.eds_read_types.specs.Bases.{base_found, bases_of}
-use Rattle.eds_read_types.specs.Numbers.{form_or_wide, truth_or_octet, numbers_of}
+use Rattle.eds_read_types.specs.Numbers.{form_or_wide, truth_or_octet, text_or_octet, numbers_of}
 
 -- ---- containers
 
@@ -47,11 +51,24 @@ container_at trees names at = record { hidden = false; constraints = []; entries
 
 -- ---- types
 
--- an enumerated type, a boolean type, or one of such numbers
+-- a binary of the bits that it says, or of an octet; in a sheet that is not refused each binary has a size
+abbrev pub binary_kind : List Node → ℕ → Kind
+binary_kind t n = kind.Bin (unwrap_or (binary_bits_of t n) 8) (is_open t n)
+
+-- an enumerated or boolean type, a string, a binary, or a type of such numbers
+abbrev pub scalar_kind_by : Option Sort → List Node → ℕ → FormAndDomain → Kind
+scalar_kind_by None t n numbers = kind.Int numbers.form numbers.spans
+scalar_kind_by (Some sort.Integer) t n numbers = kind.Int numbers.form numbers.spans
+scalar_kind_by (Some sort.Enumerated) t n numbers = kind.Enum (form_or_wide (int_form_of t n)) (listing_of t n)
+scalar_kind_by (Some sort.Boolean) t n numbers = kind.Bool (truth_or_octet (bool_form_of t n))
+scalar_kind_by (Some sort.Text) t n numbers = kind.Str (text_or_octet (text_form_of t n))
+scalar_kind_by (Some sort.Binary) t n numbers = binary_kind t n
+scalar_kind_by (Some sort.Array) t n numbers = kind.Int numbers.form numbers.spans
+scalar_kind_by (Some sort.SubRange) t n numbers = kind.Int numbers.form numbers.spans
+scalar_kind_by (Some sort.Container) t n numbers = kind.Int numbers.form numbers.spans
+
 abbrev pub scalar_kind : List Node → ℕ → FormAndDomain → Kind
-scalar_kind t n numbers =
-    if is_enumerated t n then kind.Enum (form_or_wide (int_form_of t n)) (listing_of t n) else
-    if is_boolean t n then kind.Bool (truth_or_octet (bool_form_of t n)) else kind.Int numbers.form numbers.spans
+scalar_kind t n numbers = scalar_kind_by (sort_of (name_at t n)) t n numbers
 
 abbrev pub scalar_kind_in : Option (List Node) → ℕ → FormAndDomain → Kind
 scalar_kind_in None n numbers = kind.Int numbers.form numbers.spans

@@ -1,30 +1,37 @@
-//! The rule that the type which the TYPE word names has bits.
+//! The rule that a type which is named has bits.
 
-ghost use Rattle.std.specs.Prelude.{◌≡◌, option_map, IfOk};
-ghost use Rattle.eds_base.specs.Refusals.{least};
-ghost use Rattle.eds_read_types.specs.EmptyType.{is_hollow as is_hollow_at, empty_by};
+ghost use Rattle.std.specs.Prelude.{◌≡◌};
+ghost use Rattle.eds_read_types.specs.EmptyType.{is_hollow as is_hollow_at, may_be_empty as may_be_empty_at};
 
-use crate::base_graph::BaseGraph;
 use crate::breaks::broken;
-use crate::element::is_container;
-use crate::entry::entries_at;
-use crate::reference::type_found;
+use crate::reference::word_type;
 use crate::rules::SheetRule;
-use eds_base::{Memory, Place, Refusal, Rule};
-use eds_tree::Tree;
+use crate::sheet_rows::{SheetRows, is_open};
+use eds_base::{Memory, Refusal, Rule, TypeId};
+use eds_types::{Kind, TypeRows};
 use std::alloc::Global;
 
-fn is_hollow(alloc: Global, trees: &[Tree], at: Place) -> Result<bool, Memory>
-    ensures { IfOk result (λ b. b ≡ is_hollow_at trees.now at) }
+/// Whether a type is a container without entries.
+fn is_hollow(rows: &TypeRows, id: TypeId) -> bool
+    ensures { result ≡ is_hollow_at rows.now id.0 }
 {
-    if !is_container(trees, at) {
-        return Ok(false);
+    match rows.get(id.0 as usize) {
+        None => false,
+        Some(row) => match &row.kind {
+            Kind::Con(container) => match container.entries.as_slice() {
+                [] => true,
+                [_, ..] => false,
+            },
+            _ => false,
+        },
     }
-    let entries = entries_at(alloc, trees, at)?;
-    match entries.as_slice() {
-        [] => Ok(true),
-        [_, ..] => Ok(false),
-    }
+}
+
+/// Whether a type is spelled by no bits.
+fn may_be_empty(rows: &TypeRows, id: TypeId) -> bool
+    ensures { result ≡ may_be_empty_at rows.now id.0 }
+{
+    is_hollow(rows, id) || is_open(rows, id)
 }
 
 /// The type that the TYPE word names has bits.
@@ -35,21 +42,17 @@ impl SheetRule for EmptyType {
 
     ghost breaks = { breaks_empty };
 
-    fn least(alloc: Global, graph: &BaseGraph) -> Result<Option<Refusal>, Memory> {
-        let sheet = graph.sheet;
-        let text = match sheet.asked {
-            None => return Ok(None),
-            Some(text) => text,
-        };
-        let at = sheet.word_place();
-        let found = match type_found(alloc, sheet, at, text)? {
-            None => return Ok(None),
-            Some(found) => found,
-        };
-        if is_hollow(alloc, sheet.trees, found)? {
-            Ok(Some(broken(Rule::EmptyType, at)))
-        } else {
-            Ok(None)
+    fn least(alloc: Global, sheet: &SheetRows) -> Result<Option<Refusal>, Memory> {
+        let named = sheet.graph.sheet;
+        match word_type(alloc, named)? {
+            None => Ok(None),
+            Some(id) => {
+                if may_be_empty(sheet.rows, id) {
+                    Ok(Some(broken(Rule::EmptyType, named.word_place())))
+                } else {
+                    Ok(None)
+                }
+            }
         }
     }
 }

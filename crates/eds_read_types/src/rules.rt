@@ -10,13 +10,14 @@ ghost use Rattle.eds_read_types.specs.TableBreaks.{table_breaks};
 use crate::bad_encoding::BadEncoding;
 use crate::bad_enumeration::BadEnumeration;
 use crate::base_cycle::BaseCycle;
-use crate::base_graph::BaseGraph;
 use crate::breaks::{PlaceRule, TypeRule, least_over, least_over_types};
 use crate::duplicate_entry::DuplicateEntry;
 use crate::empty_range::{EmptyRange, EmptySubRange};
 use crate::empty_type::EmptyType;
+use crate::length_field::LengthField;
 use crate::limit_chain::LimitChain;
 use crate::reference::{ReferenceRule, least_over_references};
+use crate::sheet_rows::{AtParts, RowRule, SheetRows, least_over_rows};
 use crate::unresolved::Unresolved;
 use crate::unsupported_entry::UnsupportedEntry;
 use crate::wrong_kind::WrongKind;
@@ -30,8 +31,8 @@ pub(crate) trait SheetRule {
     ghost breaks: { List (List node) → Names → Option (List ℕ) → List refusal };
 
     /// The least of them.
-    fn least(alloc: Global, graph: &BaseGraph) -> Result<Option<Refusal>, Memory>
-        ensures { IfOk result (λ r. r ≡ least (breaks graph.now.sheet.now.trees.now graph.now.sheet.now.space.now (option_map (λ w. w.now) graph.now.sheet.now.asked))) };
+    fn least(alloc: Global, sheet: &SheetRows) -> Result<Option<Refusal>, Memory>
+        ensures { IfOk result (λ r. r ≡ least (breaks sheet.now.graph.now.sheet.now.trees.now sheet.now.graph.now.sheet.now.space.now (option_map (λ w. w.now) sheet.now.graph.now.sheet.now.asked))) };
 }
 
 // ---- some rules
@@ -44,7 +45,7 @@ impl SheetRule for NoRule {
 
     ghost breaks = { λ trees names word. [] };
 
-    fn least(_: Global, _: &BaseGraph) -> Result<Option<Refusal>, Memory> {
+    fn least(_: Global, _: &SheetRows) -> Result<Option<Refusal>, Memory> {
         Ok(None)
     }
 }
@@ -57,9 +58,9 @@ impl<R: SheetRule, S: SheetRule> SheetRule for And<R, S> {
 
     ghost breaks = { λ trees names word. R.breaks trees names word ++ S.breaks trees names word };
 
-    fn least(alloc: Global, graph: &BaseGraph) -> Result<Option<Refusal>, Memory> {
-        let here = R::least(alloc, graph)?;
-        let others = S::least(alloc, graph)?;
+    fn least(alloc: Global, sheet: &SheetRows) -> Result<Option<Refusal>, Memory> {
+        let here = R::least(alloc, sheet)?;
+        let others = S::least(alloc, sheet)?;
         Ok(Refusal::first(here, others))
     }
 }
@@ -72,10 +73,10 @@ impl<R: SheetRule, S: SheetRule> SheetRule for Then<R, S> {
 
     ghost breaks = { λ trees names word. judged_first (R.breaks trees names word) (S.breaks trees names word) };
 
-    fn least(alloc: Global, graph: &BaseGraph) -> Result<Option<Refusal>, Memory> {
-        match R::least(alloc, graph)? {
+    fn least(alloc: Global, sheet: &SheetRows) -> Result<Option<Refusal>, Memory> {
+        match R::least(alloc, sheet)? {
             Some(refusal) => Ok(Some(refusal)),
-            None => S::least(alloc, graph),
+            None => S::least(alloc, sheet),
         }
     }
 }
@@ -91,8 +92,8 @@ impl<R: PlaceRule> SheetRule for AtTypes<R> {
 
     ghost breaks = { λ trees names word. flat_map (R.breaks trees names) (type_places names) };
 
-    fn least(alloc: Global, graph: &BaseGraph) -> Result<Option<Refusal>, Memory> {
-        least_over::<R>(alloc, graph.sheet, graph.sheet.types)
+    fn least(alloc: Global, sheet: &SheetRows) -> Result<Option<Refusal>, Memory> {
+        least_over::<R>(alloc, sheet.graph.sheet, sheet.graph.sheet.types)
     }
 }
 
@@ -105,8 +106,21 @@ impl<R: TypeRule> SheetRule for AtNumbers<R> {
 
     ghost breaks = { λ trees names word. breaks_over (R.breaks trees (type_places names) (bases_of trees names)) 0 (type_places names) };
 
-    fn least(alloc: Global, graph: &BaseGraph) -> Result<Option<Refusal>, Memory> {
-        least_over_types::<R>(alloc, graph)
+    fn least(alloc: Global, sheet: &SheetRows) -> Result<Option<Refusal>, Memory> {
+        least_over_types::<R>(alloc, sheet.graph)
+    }
+}
+
+/// A rule that is judged at each type over the rows of all types.
+pub(crate) struct AtRows<R>(PhantomData<R>);
+
+impl<R: RowRule> SheetRule for AtRows<R> {
+    ghost use Rattle.eds_read_types.specs.Parts.{at_rows};
+
+    ghost breaks = { λ trees names word. at_rows R.breaks trees names };
+
+    fn least(alloc: Global, sheet: &SheetRows) -> Result<Option<Refusal>, Memory> {
+        least_over_rows::<R>(alloc, sheet)
     }
 }
 
@@ -118,8 +132,8 @@ impl<R: ReferenceRule> SheetRule for AtReferences<R> {
 
     ghost breaks = { λ trees names word. at_references (R.breaks trees names) trees word };
 
-    fn least(alloc: Global, graph: &BaseGraph) -> Result<Option<Refusal>, Memory> {
-        least_over_references::<R>(alloc, graph.sheet)
+    fn least(alloc: Global, sheet: &SheetRows) -> Result<Option<Refusal>, Memory> {
+        least_over_references::<R>(alloc, sheet.graph.sheet)
     }
 }
 
@@ -129,7 +143,7 @@ type References = And<AtReferences<Unresolved>, And<AtReferences<WrongKind>, NoR
 
 type Bases = And<
     AtNumbers<BaseCycle>,
-    And<AtNumbers<LimitChain>, And<AtTypes<UnsupportedEntry>, NoRule>>,
+    And<AtNumbers<LimitChain>, And<AtRows<AtParts<UnsupportedEntry>>, NoRule>>,
 >;
 
 type Scalars = And<
@@ -137,13 +151,16 @@ type Scalars = And<
     And<AtTypes<EmptyRange>, And<AtNumbers<EmptySubRange>, And<AtTypes<BadEnumeration>, NoRule>>>,
 >;
 
-type Containers = And<EmptyType, And<AtTypes<DuplicateEntry>, NoRule>>;
+type Containers = And<
+    EmptyType,
+    And<AtTypes<DuplicateEntry>, And<AtRows<AtParts<LengthField>>, NoRule>>,
+>;
 
 type TypeRules = Then<References, Then<Bases, Then<Scalars, Then<Containers, NoRule>>>>;
 
 /// The first break of all rules on the types of a sheet.
-pub(crate) fn least_break(alloc: Global, graph: &BaseGraph) -> Result<Option<Refusal>, Memory>
-    ensures { IfOk result (λ r. r ≡ least (table_breaks graph.now.sheet.now.trees.now graph.now.sheet.now.space.now (option_map (λ w. w.now) graph.now.sheet.now.asked))) }
+pub(crate) fn least_break(alloc: Global, sheet: &SheetRows) -> Result<Option<Refusal>, Memory>
+    ensures { IfOk result (λ r. r ≡ least (table_breaks sheet.now.graph.now.sheet.now.trees.now sheet.now.graph.now.sheet.now.space.now (option_map (λ w. w.now) sheet.now.graph.now.sheet.now.asked))) }
 {
-    TypeRules::least(alloc, graph)
+    TypeRules::least(alloc, sheet)
 }

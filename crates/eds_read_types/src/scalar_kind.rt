@@ -2,7 +2,7 @@
 
 ghost use Rattle.std.specs.Prelude.{◌≡◌};
 ghost use Rattle.eds_base.specs.Refusals.{least};
-ghost use Rattle.eds_read_types.specs.ScalarKinds.{is_integer, is_enumerated, is_boolean, broken_where};
+ghost use Rattle.eds_read_types.specs.ScalarKinds.{is_integer, is_enumerated, is_boolean, is_string, is_binary, broken_where};
 
 use crate::breaks::broken;
 use eds_base::{Place, Refusal, Rule};
@@ -27,6 +27,20 @@ pub(crate) fn is_boolean(tree: &Tree, node: u32) -> bool
     ensures { result ≡ is_boolean tree.now node }
 {
     tree.name_at(node) == "BooleanDataType"
+}
+
+/// Whether it is a string.
+pub(crate) fn is_string(tree: &Tree, node: u32) -> bool
+    ensures { result ≡ is_string tree.now node }
+{
+    tree.name_at(node) == "StringDataType"
+}
+
+/// Whether it is a binary.
+pub(crate) fn is_binary(tree: &Tree, node: u32) -> bool
+    ensures { result ≡ is_binary tree.now node }
+{
+    tree.name_at(node) == "BinaryDataType"
 }
 
 /// The refusal at a place, where a rule is broken there.

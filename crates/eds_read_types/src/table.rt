@@ -5,7 +5,7 @@ ghost use Rattle.eds_base.specs.Answering.{Answers};
 ghost use Rattle.eds_base.specs.Refusals.{least};
 ghost use Rattle.eds_tree.specs.ShapeCheck.{shape_verdict};
 ghost use Rattle.eds_names.specs.LookUp.{names_in};
-ghost use Rattle.eds_types.specs.FlatTables.{IsFlatTable};
+ghost use Rattle.eds_read_types.specs.TableRows.{table_rows as table_rows_of};
 ghost use Rattle.eds_read_types.specs.TableBreaks.{table_breaks};
 ghost use Rattle.eds_read_types.specs.TableRead.{typed_of, table_read};
 
@@ -13,11 +13,12 @@ use crate::base_graph::{BaseGraph, bases_of, cycles_of};
 use crate::named_trees::{NamedTrees, elements, type_places};
 use crate::reference::word_type;
 use crate::rules::least_break;
+use crate::sheet_rows::SheetRows;
 use crate::table_row::{table_rows, used_types};
 use eds_base::{Fail, Memory, Refusal, TypeId};
 use eds_names::Space;
 use eds_tree::Trees;
-use eds_types::{TypeTable, Used};
+use eds_types::{TypeRows, TypeTable, Used};
 use std::alloc::Global;
 
 /// What is read of the types of a sheet (CCSDS 876.0-B, data types).
@@ -31,15 +32,14 @@ pub struct SheetTypes {
     pub asked_type: Option<TypeId>,
 }
 
-/// The table of a sheet that breaks no rule.
-fn typed_of(alloc: Global, graph: &BaseGraph) -> Result<SheetTypes, Memory>
-    requires { least (table_breaks graph.now.sheet.now.trees.now graph.now.sheet.now.space.now (option_map (λ w. w.now) graph.now.sheet.now.asked)) ≡ None }
-    ensures typed { IfOk result (λ t. t ≡ typed_of graph.now.sheet.now.trees.now graph.now.sheet.now.space.now (option_map (λ w. w.now) graph.now.sheet.now.asked)) }
-    ensures flat { IfOk result (λ t. IsFlatTable t.table) }
+/// What is read of a sheet that breaks no rule, of which the rows are given.
+fn typed_of(alloc: Global, sheet: &NamedTrees, rows: TypeRows) -> Result<SheetTypes, Memory>
+    requires read { rows ≡ table_rows_of sheet.now.trees.now sheet.now.space.now }
+    requires unbroken { least (table_breaks sheet.now.trees.now sheet.now.space.now (option_map (λ w. w.now) sheet.now.asked)) ≡ None }
+    ensures { IfOk result (λ t. t ≡ typed_of sheet.now.trees.now sheet.now.space.now (option_map (λ w. w.now) sheet.now.asked)) }
 {
-    let asked_type = word_type(alloc, graph.sheet)?;
-    let used = used_types(alloc, graph.sheet, asked_type)?;
-    let rows = table_rows(alloc, graph)?;
+    let asked_type = word_type(alloc, sheet)?;
+    let used = used_types(alloc, sheet, asked_type)?;
     let table = TypeTable::of(alloc, rows)?;
     Ok(SheetTypes {
         table,
@@ -50,12 +50,13 @@ fn typed_of(alloc: Global, graph: &BaseGraph) -> Result<SheetTypes, Memory>
 
 #[tactic(auto, unfolding(crate::specs::TableRead::table_read))]
 fn read_graph(alloc: Global, graph: &BaseGraph) -> Result<SheetTypes, Fail<Refusal>>
-    ensures typed { Answers (λ t. t) result (table_read graph.now.sheet.now.trees.now graph.now.sheet.now.space.now (option_map (λ w. w.now) graph.now.sheet.now.asked)) }
-    ensures flat { IfOk result (λ t. IsFlatTable t.table) }
+    ensures { Answers (λ t. t) result (table_read graph.now.sheet.now.trees.now graph.now.sheet.now.space.now (option_map (λ w. w.now) graph.now.sheet.now.asked)) }
 {
-    match least_break(alloc, graph)? {
+    let rows = table_rows(alloc, graph)?;
+    let found = least_break(alloc, &SheetRows { graph, rows: &rows })?;
+    match found {
         Some(refusal) => Err(Fail::Named(refusal)),
-        None => Ok(typed_of(alloc, graph)?),
+        None => Ok(typed_of(alloc, graph.sheet, rows)?),
     }
 }
 
@@ -76,7 +77,6 @@ pub fn read_types(
     requires shaped { shape_verdict trees.now ≡ Ok tt }
     requires named { names_in trees.now ≡ Ok space.now }
     ensures types { Answers (λ t. t) result (table_read trees.now space.now (option_map (λ w. w.now) asked.entry)) }
-    ensures flat { IfOk result (λ t. IsFlatTable t.table) }
     ensures known { IfOk result (λ t. IfSome t.asked_type (λ id. id.0 < length t.table)) }
     ensures given { IfOk result (λ t. is_some t.asked_type ≡ is_some asked.entry) }
 {

@@ -4,7 +4,7 @@ ghost use Rattle.std.specs.Prelude.{◌≡◌, ◌++◌, ◌∷◌, [], map, fil
 ghost use Rattle.eds_read_types.specs.Places.{is_type, type_places};
 ghost use Rattle.eds_read_types.specs.Bases.{bases_of as bases_in};
 ghost use Rattle.eds_read_types.specs.Numbers.{numbers_of as numbers_by_id};
-ghost use Rattle.eds_read_types.specs.TableRows.{entry_type as entry_type_of, entry_id as entry_id_of, entry_part as entry_part_of, container_at as container_by, scalar_kind as scalar_kind_of, scalar_kind_in as scalar_kind_by, kind_of as kind_by_id, table_row as table_row_of, rows_from, table_rows as table_rows_of, entry_types, used_types as used_types_of};
+ghost use Rattle.eds_read_types.specs.TableRows.{entry_type as entry_type_of, entry_id as entry_id_of, entry_part as entry_part_of, container_at as container_by, binary_kind as binary_kind_of, scalar_kind as scalar_kind_of, scalar_kind_in as scalar_kind_by, kind_of as kind_by_id, table_row as table_row_of, rows_from, table_rows as table_rows_of, entry_types, used_types as used_types_of};
 
 use crate::base_graph::{BaseGraph, base_found};
 use crate::element::{is_container, own_name, tree_at};
@@ -12,9 +12,10 @@ use crate::entry::{entries_at, type_named};
 use crate::form::{bool_form_of, int_form_of};
 use crate::listing::listing_of;
 use crate::named_trees::NamedTrees;
-use crate::numbers::{FormAndDomain, form_or_wide, numbers_of, truth_or_octet};
+use crate::numbers::{FormAndDomain, form_or_wide, numbers_of, text_or_octet, truth_or_octet};
 use crate::reference::id_found;
-use crate::scalar_kind::{is_boolean, is_enumerated};
+use crate::sort::{Sort, sort_of};
+use crate::text_form::{binary_bits_of, is_open, text_form_of};
 use eds_base::{Memory, Place, Text, TypeId};
 use eds_names::Declared;
 use eds_tree::Tree;
@@ -66,7 +67,17 @@ fn container_at(alloc: Global, sheet: &NamedTrees, at: Place) -> Result<Containe
     })
 }
 
-/// An enumerated type, a boolean type, or one of such numbers.
+/// A binary of the bits that it says, or of an octet where it says no good number.
+fn binary_kind(tree: &Tree, node: u32) -> Kind
+    ensures { result ≡ binary_kind_of tree.now node }
+{
+    match binary_bits_of(tree, node) {
+        None => Kind::Bin(8, is_open(tree, node)),
+        Some(bits) => Kind::Bin(bits, is_open(tree, node)),
+    }
+}
+
+/// An enumerated or boolean type, a string, a binary, or a type of such numbers.
 fn scalar_kind(
     alloc: Global,
     tree: &Tree,
@@ -75,13 +86,15 @@ fn scalar_kind(
 ) -> Result<Kind, Memory>
     ensures { IfOk result (λ k. k ≡ scalar_kind_of tree.now node numbers) }
 {
-    if is_enumerated(tree, node) {
-        let listing = listing_of(alloc, tree, node)?;
-        Ok(Kind::Enum(form_or_wide(int_form_of(tree, node)), listing))
-    } else if is_boolean(tree, node) {
-        Ok(Kind::Bool(truth_or_octet(bool_form_of(tree, node))))
-    } else {
-        Ok(Kind::Int(numbers.form, numbers.spans))
+    match sort_of(tree.name_at(node)) {
+        Some(Sort::Enumerated) => {
+            let listing = listing_of(alloc, tree, node)?;
+            Ok(Kind::Enum(form_or_wide(int_form_of(tree, node)), listing))
+        }
+        Some(Sort::Boolean) => Ok(Kind::Bool(truth_or_octet(bool_form_of(tree, node)))),
+        Some(Sort::Text) => Ok(Kind::Str(text_or_octet(text_form_of(tree, node)))),
+        Some(Sort::Binary) => Ok(binary_kind(tree, node)),
+        _ => Ok(Kind::Int(numbers.form, numbers.spans)),
     }
 }
 

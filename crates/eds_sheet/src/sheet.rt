@@ -75,18 +75,14 @@ fn counts_of(space: &Space, typed: &SheetTypes) -> Result<Counts, Memory>
     })
 }
 
-/// Compiles the files of a sheet: their types, the type that a further word names, looked up from the root, and how many
-/// items they declare. A sheet that breaks a rule is refused for the first that it breaks: the rules are judged in their
-/// phases, within a phase by place and then by number. A file that is no element tree hides all other rules; what is not
-/// compiled yet is judged after the elements, and before the names.
+/// The sheet of some files, or the first rule that they break.
 #[tactic(auto, unfolding(crate::specs::Compiled::compiled))]
-pub fn compile(alloc: Global, files: &Files, extra: Option<&str>) -> Result<Sheet, Fail<Refusal>>
+fn sheet_of(alloc: Global, files: &Files, extra: Option<&str>) -> Result<Sheet, Fail<Refusal>>
     requires few { length files.now ≤ 64 }
     requires short { All (λ octets. length octets < 2 ^ 32) files.now }
     ensures sheet { Answers (λ s. s) result (compiled files.now (option_map (λ w. w.now) extra.entry)) }
     ensures word { IfOk result (λ s. IfSome s.word (λ id. id.0 < length s.table)) }
     ensures asked { IfOk result (λ s. is_some s.word ≡ is_some extra.entry) }
-    ensures flat { IfOk result (λ s. IsFlatTable s.table) }
 {
     let trees = read_trees(alloc, files)?;
     shape_check(alloc, &trees)?;
@@ -99,4 +95,19 @@ pub fn compile(alloc: Global, files: &Files, extra: Option<&str>) -> Result<Shee
         word: typed.asked_type,
         counts,
     })
+}
+
+/// Compiles the files of a sheet: their types, the type that a further word names, looked up from the root, and how many
+/// items they declare. A sheet that breaks a rule is refused for the first that it breaks: the rules are judged in their
+/// phases, within a phase by place and then by number. A file that is no element tree hides all other rules; what is not
+/// compiled yet is judged after the elements, and before the names.
+pub fn compile(alloc: Global, files: &Files, extra: Option<&str>) -> Result<Sheet, Fail<Refusal>>
+    requires few { length files.now ≤ 64 }
+    requires short { All (λ octets. length octets < 2 ^ 32) files.now }
+    ensures sheet { Answers (λ s. s) result (compiled files.now (option_map (λ w. w.now) extra.entry)) }
+    ensures word { IfOk result (λ s. IfSome s.word (λ id. id.0 < length s.table)) }
+    ensures asked { IfOk result (λ s. is_some s.word ≡ is_some extra.entry) }
+    ensures flat { IfOk result (λ s. IsFlatTable s.table) }
+{
+    sheet_of(alloc, files, extra)
 }

@@ -6,9 +6,8 @@ pub first_from-append : (found : Option (List ℕ)) (xs ys : List (List ℕ)) �
 first_from-append found [] ys = refl
 first_from-append found (x ∷ xs) ys = first_from-append (first_of found x) xs ys
 
-pub first_of_five : (vs ws xs ys zs : List (List ℕ)) → first_in_order (vs ++ (ws ++ (xs ++ (ys ++ zs)))) ≡ first_from (first_from (first_from (first_from (first_in_order vs) ws) xs) ys) zs
-first_of_five vs ws xs ys zs =
-    first_from-append None vs (ws ++ (xs ++ (ys ++ zs)))
-    ∙ (first_from-append (first_in_order vs) ws (xs ++ (ys ++ zs))
-    ∙ (first_from-append (first_from (first_in_order vs) ws) xs (ys ++ zs)
-    ∙ first_from-append (first_from (first_from (first_in_order vs) ws) xs) ys zs))
+pub first_of_four : (ws xs ys zs : List (List ℕ)) → first_in_order (ws ++ (xs ++ (ys ++ zs))) ≡ first_from (first_from (first_from (first_in_order ws) xs) ys) zs
+first_of_four ws xs ys zs =
+    first_from-append None ws (xs ++ (ys ++ zs))
+    ∙ (first_from-append (first_in_order ws) xs (ys ++ zs)
+    ∙ first_from-append (first_from (first_in_order ws) xs) ys zs)

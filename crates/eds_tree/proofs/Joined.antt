@@ -1,11 +1,11 @@
--- Texts cut at separators, and numbers that digits spell.
+-- Texts cut at separators.
 use Rattle.std.proofs.Common.{◌≡◌, ℕ, zero, suc, ◌+◌, ◌-◌, ◌*◌, ◌<◌, ◌≤◌, ◌^◌, Bool, true, false, ◌&&◌, nat_lt, nat_le, nat_eq, List, [], ◌∷◌, length, get_or, take, drop, Some, None, refl, sym, ap, ◌∙◌, arith}
 use Rattle.std.specs.Prelude.{position}
 use Rattle.std.specs.List.{list_all, position_or_len}
 use Rattle.std.proofs.lemmas.Bool.Decides.{nat_tests}
 use Rattle.std.proofs.lemmas.List.{take_rest}
 use Rattle.std.proofs.lemmas.List.Quantifiers.{position-Some}
-use Rattle.eds_tree.specs.AttributeTexts.{parts, is_name, are_names, decimal_value, up_to_limit}
+use Rattle.eds_tree.specs.AttributeTexts.{parts, is_name, are_names}
 
 parts-cut : (sep : ℕ) (xs : List ℕ) (i : ℕ) → i < length xs → nat_eq (get_or xs i 0) sep ≡ true → ((k : ℕ) → k < i → nat_eq (get_or xs k 0) sep ≡ false) → parts sep xs ≡ take i xs ∷ parts sep (drop (i + 1) xs)
 parts-cut sep [] i lt h none = absurd (omega arith)
@@ -54,23 +54,3 @@ joined-stop sep xs i e h = ap (list_all is_name) (parts-at sep xs i e) ∙ rw h 
 -- a part that is one
 pub joined-next : (sep : ℕ) (xs : List ℕ) (i : ℕ) → position (λ c. nat_eq c sep) xs ≡ Some i → is_name (take i xs) ≡ true → are_names sep (take (length xs - (i + 1)) (drop (i + 1) xs)) ≡ are_names sep xs
 joined-next sep xs i e h = ap (are_names sep) (take_rest xs (i + 1)) ∙ sym (ap (list_all is_name) (parts-at sep xs i e) ∙ rw h refl)
-
--- ---- numbers
-
-pub grows : (xs : List ℕ) (n : ℕ) → n ≤ decimal_value n xs
-grows [] n = omega arith
-grows (c ∷ cs) n = omega (arith, grows cs (10 * n + (c - 48)))
-
-not_up_to : (n m : ℕ) → m < n → nat_le n m ≡ false
-not_up_to n m h = grind (arith, nat_tests)
-
-up_to : (n m : ℕ) → n ≤ m → nat_le n m ≡ true
-up_to n m h = grind (arith, nat_tests)
-
--- what is past the limit stays past it
-pub past-limit : (n d : ℕ) (xs : List ℕ) (m : ℕ) → 1 ≤ length xs → d ≡ get_or xs 0 0 - 48 → 2 ^ 64 < 10 * n + d → decimal_value n xs ≡ m → up_to_limit m ≡ None
-past-limit n d [] m some e h is = absurd (omega arith)
-past-limit n d (c ∷ cs) m some e h is =
-    let here : d ≡ c - 48 = e in
-    let over : 2 ^ 64 < m = omega (arith, grows cs (10 * n + (c - 48))) in
-    rw (not_up_to m (2 ^ 64) over) refl

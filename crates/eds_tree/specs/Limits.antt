@@ -72,11 +72,13 @@ breaks_children file t link = limit_in file (codes "children") (slice_get (child
 
 -- ---- the rule
 
--- the breaks of Limit in the files of a sheet: at one place the first of these counts
-abbrev pub breaks_limit : List (List Node) → List Refusal
-breaks_limit ts =
+-- the limits on the elements of all files
+abbrev pub breaks_counts : List (List Node) → List Refusal
+breaks_counts ts =
     breaks_count (codes "types") (codes "DataTypeSet") (codes "DATATYPE") 4096 ts
     ++ breaks_count (codes "interfaces") (codes "DeclaredInterfaceSet") (codes "Interface") 512 ts
     ++ breaks_count (codes "components") (codes "ComponentSet") (codes "Component") 64 ts
-    ++ breaks_of breaks_machines ts
-    ++ breaks_of breaks_children ts
+
+-- the breaks of Limit in the files of a sheet: at one place the first of these counts
+abbrev pub breaks_limit : List (List Node) → List Refusal
+breaks_limit ts = breaks_counts ts ++ breaks_of breaks_machines ts ++ breaks_of breaks_children ts

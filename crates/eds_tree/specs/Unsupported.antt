@@ -8,7 +8,7 @@ use Rattle.eds_tree.specs.declared.link.Link.{Link}
 use Rattle.eds_tree.specs.ByteOrder.{first_in_order}
 use Rattle.eds_tree.specs.Trees.{name_at, attributes_at, text_among}
 use Rattle.eds_tree.specs.Shapes.{is_among}
-use Rattle.eds_tree.specs.AttributeTexts.{whole_number, is_decimal_fraction, flag_value}
+use Rattle.eds_base.specs.Numbers.{whole_number, is_decimal_fraction, flag_value}
 use Rattle.eds_tree.specs.Attributes.{has_attribute}
 use Rattle.eds_tree.specs.Breaks.{Judgement, refusal_if}
 
@@ -70,10 +70,6 @@ may_fail name = is_among (map codes ("OnCommandPrimitive" ∷ "OnParameterPrimit
 abbrev pub has_failed : (name : List ℕ) → List (List ℕ × List ℕ) → Bool
 has_failed name held = may_fail name && spells_flag true (text_among held (codes "failed"))
 
--- a binary without a size of its own
-abbrev pub has_open_size : List (List ℕ × List ℕ) → Bool
-has_open_size held = spells_flag false (text_among held (codes "fixedSize"))
-
 -- a generic type that stands for one value
 abbrev pub has_fixed_value : (name : List ℕ) → List (List ℕ × List ℕ) → Bool
 has_fixed_value name held = same name (codes "GenericTypeMap") && has_attribute held (codes "fixedValue")
@@ -97,9 +93,8 @@ abbrev pub unsupported_words : (parent name : List ℕ) → List (List ℕ × Li
 unsupported_words parent name held =
     word_if (is_element_unsupported parent name held) name
     ++ (word_if (has_failed name held) (codes "failed")
-    ++ (word_if (has_open_size held) (codes "fixedSize")
     ++ (word_if (has_fixed_value name held) (codes "fixedValue")
-    ++ word_if (has_transaction held) (codes "transaction"))))
+    ++ word_if (has_transaction held) (codes "transaction")))
 
 -- the first in byte order of what isn't supported of an element below the root
 abbrev pub unsupported_word : List Node → Link → Option (List ℕ)

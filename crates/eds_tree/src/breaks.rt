@@ -11,12 +11,12 @@ ghost use Rattle.eds_tree.specs.Trees.{links_of};
 ghost use Rattle.eds_tree.specs.Breaks.{refusal_if, breaks_in, breaks_of};
 
 use crate::link::Link;
-use crate::tree::{Node, Tree};
+use crate::tree::{Tree, Trees};
 use eds_base::{Items, Kept, Memory, Place, Refusal, Rule, Text};
 use std::alloc::Global;
 
 /// A rule that is judged at one element at a time.
-pub(crate) trait ElementRule {
+pub trait ElementRule {
     /// All that breaks it where one element of a file is judged.
     ghost breaks: { ℕ → List node → link → List refusal };
 
@@ -24,14 +24,14 @@ pub(crate) trait ElementRule {
     fn least_at(
         alloc: Global,
         file: u16,
-        nodes: &[Node],
+        tree: &Tree,
         link: Link,
     ) -> Result<Option<Refusal>, Memory>
-        ensures { IfOk result (λ r. r ≡ least (breaks file nodes.now link)) };
+        ensures { IfOk result (λ r. r ≡ least (breaks file tree.now link)) };
 }
 
-/// A rule is broken at an element where there is a word to keep.
-pub(crate) fn refusal(
+/// The refusal of an element that breaks a rule, where there is a word to keep.
+pub fn refusal(
     alloc: Global,
     rule: Rule,
     file: u16,
@@ -54,14 +54,14 @@ pub(crate) fn refusal(
 fn least_over<R: ElementRule>(
     alloc: Global,
     file: u16,
-    nodes: &[Node],
+    tree: &Tree,
     links: &[Link],
 ) -> Result<Option<Refusal>, Memory>
-    ensures { IfOk result (λ r. r ≡ least (flat_map (R.breaks file nodes.now) links.now)) }
+    ensures { IfOk result (λ r. r ≡ least (flat_map (R.breaks file tree.now) links.now)) }
 {
     let mut found = None;
     for link in links {
-        let here = R::least_at(alloc, file, nodes, *link)?;
+        let here = R::least_at(alloc, file, tree, *link)?;
         found = Refusal::first(found, here);
     }
     Ok(found)
@@ -78,7 +78,7 @@ fn least_in<R: ElementRule>(
     ensures { IfOk result (λ r. r ≡ least (breaks_in R.breaks file tree.now)) }
 {
     match links {
-        Some(links) => least_over::<R>(alloc, file, tree.as_slice(), links.as_slice()),
+        Some(links) => least_over::<R>(alloc, file, tree, links.as_slice()),
         None => Ok(None),
     }
 }
@@ -110,4 +110,14 @@ pub(crate) fn walks(alloc: Global, trees: &[Tree]) -> Result<Items<Items<Link>>,
         walks.push(tree.links(alloc)?)?;
     }
     Ok(walks)
+}
+
+/// The first break of a rule in the files of a sheet, by place, where there is one.
+pub fn first_break<R: ElementRule>(alloc: Global, trees: &Trees) -> Result<Option<Refusal>, Memory>
+    requires { length trees.now ≤ 64 }
+    ensures { IfOk result (λ r. r ≡ least (breaks_of R.breaks trees.now)) }
+{
+    let trees = trees.as_slice();
+    let walks = walks(alloc, trees)?;
+    least_of::<R>(alloc, trees, &walks)
 }

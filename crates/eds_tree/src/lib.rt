@@ -25,11 +25,13 @@ mod table;
 mod texts;
 mod tree;
 
+pub use breaks::{ElementRule, first_break, refusal};
+pub use eds_base::{flag_value, whole_number};
 pub use link::{Link, is_passed_over};
 pub use read::read_tree;
 pub use row::{Attribute, Child, Form, Mark, Row, Shape};
 pub use rows::Rows;
+pub use shape::is_among;
 pub use shape_rules::shape_check;
 pub use table::{ELEMENTS, element_rows};
-pub use texts::{flag_value, whole_number};
 pub use tree::{Node, Tree, Trees};

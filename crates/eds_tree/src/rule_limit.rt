@@ -5,7 +5,7 @@ ghost use Rattle.std.specs.List.{flat_map};
 ghost use Rattle.std.specs.Option.{option_copied};
 ghost use Rattle.eds_base.specs.Refusals.{least};
 ghost use Rattle.eds_tree.specs.Trees.{links_of, children_named, children_at as children_in, children_of};
-ghost use Rattle.eds_tree.specs.Limits.{stands_under as stands_below, count_links, places_from, limit_at, breaks_count, limit_in, machines_of, surplus_machine as surplus_machine_of, breaks_limit};
+ghost use Rattle.eds_tree.specs.Limits.{stands_under as stands_below, count_links, places_from, limit_at, breaks_count, limit_in, machines_of, surplus_machine as surplus_machine_of, breaks_counts, breaks_limit};
 
 use crate::breaks::{ElementRule, least_of};
 use crate::groups::is_member;
@@ -192,9 +192,10 @@ impl ElementRule for Machines {
     fn least_at(
         alloc: Global,
         file: u16,
-        nodes: &[Node],
+        tree: &Tree,
         link: Link,
     ) -> Result<Option<Refusal>, Memory> {
+        let nodes = tree.as_slice();
         let machine = surplus_machine(alloc, nodes, link.node)?;
         refusal_in(alloc, file, "machines", machine)
     }
@@ -211,9 +212,10 @@ impl ElementRule for Children {
     fn least_at(
         alloc: Global,
         file: u16,
-        nodes: &[Node],
+        tree: &Tree,
         link: Link,
     ) -> Result<Option<Refusal>, Memory> {
+        let nodes = tree.as_slice();
         refusal_in(
             alloc,
             file,
@@ -223,15 +225,15 @@ impl ElementRule for Children {
     }
 }
 
-/// The first limit that is passed.
-pub(crate) fn least_limit(
+// The first limit on the elements of all files that is passed.
+fn least_surplus(
     alloc: Global,
     trees: &[Tree],
     walks: &Items<Items<Link>>,
 ) -> Result<Option<Refusal>, Memory>
     requires few { length trees.now ≤ 64 }
     requires walked { walks.now ≡ map links_of trees.now }
-    ensures { IfOk result (λ r. r ≡ least (breaks_limit trees.now)) }
+    ensures { IfOk result (λ r. r ≡ least (breaks_counts trees.now)) }
 {
     let types = least_count(
         alloc,
@@ -260,10 +262,23 @@ pub(crate) fn least_limit(
         "Component",
         64,
     )?;
+    let found = Refusal::first(types, interfaces);
+    Ok(Refusal::first(found, components))
+}
+
+/// The first limit that is passed.
+pub(crate) fn least_limit(
+    alloc: Global,
+    trees: &[Tree],
+    walks: &Items<Items<Link>>,
+) -> Result<Option<Refusal>, Memory>
+    requires few { length trees.now ≤ 64 }
+    requires walked { walks.now ≡ map links_of trees.now }
+    ensures { IfOk result (λ r. r ≡ least (breaks_limit trees.now)) }
+{
+    let surplus = least_surplus(alloc, trees, walks)?;
     let machines = least_of::<Machines>(alloc, trees, walks)?;
     let children = least_of::<Children>(alloc, trees, walks)?;
-    let found = Refusal::first(types, interfaces);
-    let found = Refusal::first(found, components);
-    let found = Refusal::first(found, machines);
+    let found = Refusal::first(surplus, machines);
     Ok(Refusal::first(found, children))
 }

@@ -14,7 +14,7 @@ use crate::link::{Link, attributes_at, children_at, is_passed_over, name_at, tex
 use crate::order::first_of;
 use crate::row::{Child, Mark, Shape};
 use crate::shape::{is_among, shape_at};
-use crate::tree::Node;
+use crate::tree::{Node, Tree};
 use eds_base::{Memory, Refusal, Rule, Text};
 use std::alloc::Global;
 
@@ -176,9 +176,10 @@ impl ElementRule for MissingAttribute {
     fn least_at(
         alloc: Global,
         file: u16,
-        nodes: &[Node],
+        tree: &Tree,
         link: Link,
     ) -> Result<Option<Refusal>, Memory> {
+        let nodes = tree.as_slice();
         let word = missing(nodes, link, shape_at(nodes, link));
         refusal(alloc, Rule::MissingAttribute, file, link.node, word)
     }

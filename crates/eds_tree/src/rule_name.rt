@@ -9,7 +9,7 @@ use crate::breaks::{ElementRule, refusal};
 use crate::link::{Link, attributes_at, text_among};
 use crate::row::Shape;
 use crate::shape::shape_at;
-use crate::tree::Node;
+use crate::tree::{Node, Tree};
 use eds_base::{Memory, Refusal, Rule, Text};
 use std::alloc::Global;
 
@@ -36,9 +36,10 @@ impl ElementRule for BadName {
     fn least_at(
         alloc: Global,
         file: u16,
-        nodes: &[Node],
+        tree: &Tree,
         link: Link,
     ) -> Result<Option<Refusal>, Memory> {
+        let nodes = tree.as_slice();
         let word = bad_name(shape_at(nodes, link), attributes_at(nodes, link.node));
         refusal(alloc, Rule::BadName, file, link.node, word)
     }

@@ -14,7 +14,7 @@ use crate::link::{Link, children_at, is_passed_over, name_at};
 use crate::row::{Child, Mark, Shape};
 use crate::rule_unsupported::is_unsupported;
 use crate::shape::{is_among, shape_at};
-use crate::tree::Node;
+use crate::tree::{Node, Tree};
 use eds_base::{Memory, Refusal, Rule};
 use std::alloc::Global;
 
@@ -218,9 +218,10 @@ impl ElementRule for UnknownElement {
     fn least_at(
         alloc: Global,
         file: u16,
-        nodes: &[Node],
+        tree: &Tree,
         link: Link,
     ) -> Result<Option<Refusal>, Memory> {
+        let nodes = tree.as_slice();
         let root = refusal(
             alloc,
             Rule::UnknownElement,

@@ -2,16 +2,15 @@
 
 ghost use Rattle.std.specs.Prelude.{◌≡◌, option_map, map};
 ghost use Rattle.eds_tree.specs.ByteOrder.{first_from, first_in_order};
-ghost use Rattle.eds_tree.specs.Unsupported.{is_named_unsupported as is_named, is_zero_or_one as zero_or_one, is_other_exponent as other_exponent, is_fractional as fractional, is_other_word as other_word, has_unsupported_text as unsupported_text, spells_flag as flag_spelled, has_failed as waits_for_failure, has_open_size as open_size, has_fixed_value as fixed_value, has_transaction as transaction, is_element_unsupported as element_unsupported, word_if, unsupported_words, unsupported_word as unsupported_word_of, is_unsupported as is_unsupported_at};
+ghost use Rattle.eds_tree.specs.Unsupported.{is_named_unsupported as is_named, is_zero_or_one as zero_or_one, is_other_exponent as other_exponent, is_fractional as fractional, is_other_word as other_word, has_unsupported_text as unsupported_text, spells_flag as flag_spelled, has_failed as waits_for_failure, has_fixed_value as fixed_value, has_transaction as transaction, is_element_unsupported as element_unsupported, word_if, unsupported_words, unsupported_word as unsupported_word_of, is_unsupported as is_unsupported_at};
 
 use crate::attributes::has_attribute;
 use crate::breaks::{ElementRule, refusal};
 use crate::link::{Link, attributes_at, name_at, text_among};
 use crate::order::first_of;
 use crate::shape::is_among;
-use crate::texts::{flag_value, is_decimal_fraction, whole_number};
-use crate::tree::Node;
-use eds_base::{Memory, Refusal, Rule, Text};
+use crate::tree::{Node, Tree};
+use eds_base::{Memory, Refusal, Rule, Text, flag_value, is_decimal_fraction, whole_number};
 use std::alloc::Global;
 
 fn is_named_unsupported(parent: &str, name: &str) -> bool
@@ -117,12 +116,6 @@ fn has_failed(name: &str, attributes: &[(Text, Text)]) -> bool
     ) && spells_flag(true, text_among(attributes, "failed"))
 }
 
-fn has_open_size(attributes: &[(Text, Text)]) -> bool
-    ensures { result ≡ open_size attributes.now }
-{
-    spells_flag(false, text_among(attributes, "fixedSize"))
-}
-
 fn has_fixed_value(name: &str, attributes: &[(Text, Text)]) -> bool
     ensures { result ≡ fixed_value name.now attributes.now }
 {
@@ -156,7 +149,6 @@ fn first_unsupported<'a>(
 {
     let found = first_if(None, is_element_unsupported(parent, name, attributes), name);
     let found = first_if(found, has_failed(name, attributes), "failed");
-    let found = first_if(found, has_open_size(attributes), "fixedSize");
     let found = first_if(found, has_fixed_value(name, attributes), "fixedValue");
     first_if(found, has_transaction(attributes), "transaction")
 }
@@ -193,9 +185,10 @@ impl ElementRule for Unsupported {
     fn least_at(
         alloc: Global,
         file: u16,
-        nodes: &[Node],
+        tree: &Tree,
         link: Link,
     ) -> Result<Option<Refusal>, Memory> {
+        let nodes = tree.as_slice();
         refusal(
             alloc,
             Rule::Unsupported,

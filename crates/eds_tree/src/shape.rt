@@ -11,7 +11,7 @@ use crate::table::element_rows;
 use crate::tree::Node;
 
 /// Whether a name is one of some names.
-pub(crate) fn is_among(names: &'static [&'static str], name: &str) -> bool
+pub fn is_among(names: &'static [&'static str], name: &str) -> bool
     ensures { result ≡ names_in (map (λ p. p.now) names.now) name.now }
 {
     let mut rest = names;

@@ -12,7 +12,7 @@ use Rattle.eds_types.proofs.CanonicalPatterns.{unsigned_zeros, zeros_false}
 use Rattle.eds_types.proofs.PackedSizes.{filled_true, filled_from}
 
 -- as many octets as the bits fill
-filled_length : (m : ℕ) (o : List ℕ) → IsFilled m o → length o ≡ octets_for m
+pub filled_length : (m : ℕ) (o : List ℕ) → IsFilled m o → length o ≡ octets_for m
 filled_length m o h = sym (ap length h.2) ∙ length-octets_of h.0 ∙ ap octets_for h.1
 
 pub not_filled : (m : ℕ) (o : List ℕ) → (length o ≡ octets_for m → ⊥) → false ≡ is_filled m o

@@ -14,7 +14,7 @@ use Rattle.eds_types.specs.declared.row.Kind.{Kind}
 use Rattle.eds_types.specs.declared.row.Kind.TheVariants as kind
 use Rattle.eds_types.specs.declared.row.Part.{Part}
 use Rattle.eds_types.specs.declared.row.Part.TheVariants as part
-use Rattle.eds_types.specs.Fields.{value_at, values_of, listed, Holds, IsCandidate, constraints_along}
+use Rattle.eds_types.specs.Fields.{value_at, values_of, listed, Holds, IsCandidate, constraints_along, field_of}
 use Rattle.eds_types.specs.Plain.{Plain, num, items, list_of}
 use Rattle.eds_types.specs.Rows.{Table, Placed, sequence}
 use Rattle.eds_types.specs.Rules.{IsInt, IsIntBy, HoldsCheck, KindKeeps}
@@ -84,10 +84,10 @@ module _ (t : Table) (n : ℕ) (g : (id : ℕ) (v : Plain) (b : Bits) → Spells
     octets : u.octets ≡ w.octets
 
   part_canon : (s z : Progress) (p : Placed) (q : Part) (u : Progress) (b : Bits) → CheckFits t q → s.fields ≡ z.fields → s.octets ≡ z.octets → PartPasses any t A s p q u b → Beside z p q u
-  part_canon s z p (part.Plain name id) u b f e o h = let x = g id.0 h.0 b h.1 in record { w = with_value z p h.0 x.0; c = x.0; passes = (h.0, x.1, refl); fields = ap (λ (y : Progress). y.fields) h.2 ∙ ap (λ l. l ++ (p.container, p.place, h.0) ∷ []) e; octets = ap (λ (y : Progress). y.octets) h.2 ∙ o }
+  part_canon s z p (part.Plain name id) u b f e o h = let x = g id.0 h.0 b h.1 in record { w = with_value z p h.0 x.0; c = x.0; passes = (h.0, x.1, refl); fields = ap (λ (y : Progress). y.fields) h.2 ∙ ap (λ l. l ++ (field_of p h.0) ∷ []) e; octets = ap (λ (y : Progress). y.octets) h.2 ∙ o }
   part_canon s z p (part.Fixed name id v) u b f e o h = let x = g id.0 _ b h.0 in record { w = with_bits z x.0; c = x.0; passes = (x.1, refl); fields = ap (λ (y : Progress). y.fields) h.1 ∙ e; octets = ap (λ (y : Progress). y.octets) h.1 ∙ o }
   part_canon s z p (part.Pad m) u b f e o h = record { w = with_bits z (replicate m false); c = replicate m false; passes = (length-zeros m, zeros_zero (replicate m false) (zeros_false m), refl); fields = ap (λ (y : Progress). y.fields) h.2 ∙ e; octets = ap (λ (y : Progress). y.octets) h.2 ∙ o }
-  part_canon s z p (part.List name id y i) u b f e o h = let x = items_canon (A id.0) (C id.0) (g id.0) (list_of h.0) b h.2 in record { w = with_value z p (items h.0) x.0; c = x.0; passes = (h.0, h.1 ∙ ap (λ l. count_in (value_at l y.0 i)) e, x.1, refl); fields = ap (λ (y : Progress). y.fields) h.3 ∙ ap (λ l. l ++ (p.container, p.place, items h.0) ∷ []) e; octets = ap (λ (y : Progress). y.octets) h.3 ∙ o }
+  part_canon s z p (part.List name id y i) u b f e o h = let x = items_canon (A id.0) (C id.0) (g id.0) (list_of h.0) b h.2 in record { w = with_value z p (items h.0) x.0; c = x.0; passes = (h.0, h.1 ∙ ap (λ l. count_in (value_at l y.0 i)) e, x.1, refl); fields = ap (λ (y : Progress). y.fields) h.3 ∙ ap (λ l. l ++ (field_of p (items h.0)) ∷ []) e; octets = ap (λ (y : Progress). y.octets) h.3 ∙ o }
   part_canon s z p (part.Length name id c0 c1) u b f e o h = let x = g id.0 _ b h.1 in record { w = with_octets z (c0 +ℤ (c1 *ℤ h.0)) x.0; c = x.0; passes = (h.0, x.1, refl); fields = ap (λ (y : Progress). y.fields) h.2 ∙ e; octets = ap (λ (y : Progress). y.octets) h.2 }
   part_canon s z p (part.Check name id k) u b f e o h = let x = check_spelt t n id.0 k z.before (some_level t n any id.0 (num (pos (check_of k s.before))) b h.0) f in record { w = with_bits z x.0; c = x.0; passes = (x.1, refl); fields = ap (λ (y : Progress). y.fields) h.1 ∙ e; octets = ap (λ (y : Progress). y.octets) h.1 ∙ o }
 

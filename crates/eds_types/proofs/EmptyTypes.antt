@@ -48,15 +48,15 @@ text_some n false h = omega arith
 
 module _ (t : Table) (E : ℕ → Plain → Bits → Type 0) where
   -- a scalar, a text and a binary that isn't open have bits
-  scalar_bits : (id : ℕ) (k : Kind) (v : Plain) → KindKeeps k → IsValueOf k v → KindSpells any t E id k v [] → ⊥
-  scalar_bits id (kind.Int form spans) v keeps i h = let e = ((h.3).is).size in let w = (form.valid).some in omega arith
-  scalar_bits id (kind.Enum form listing) v keeps i h = let e = ((h.4).is).size in let w = (form.valid).some in omega arith
-  scalar_bits id (kind.Bool form) v keeps i h = let e = (h.2).size in let w = form.some in omega arith
-  scalar_bits id (kind.Str form) v keeps i h = omega (arith, text_bound form.length form.fixed form.ascii form.stop (size_of form) h.0 [] h.2, text_some form.length form.fixed form.some)
-  scalar_bits id (kind.Bin n true) v keeps i h = let e = i.1 in absurd cc
-  scalar_bits id (kind.Bin n false) v keeps i h = let e = h.0 in let w = keeps.0 in omega arith
-  scalar_bits id (kind.Arr item n) v keeps i h = i
-  scalar_bits id (kind.Con c) v keeps i h = i
+  scalar_bits : (id : ℕ) (k : Kind) (v : Plain) → KindKeeps k → IsValueOf k v → open_by k ≡ None → KindSpells any t E id k v [] → ⊥
+  scalar_bits id (kind.Int form spans) v keeps i o h = let e = ((h.3).is).size in let w = (form.valid).some in omega arith
+  scalar_bits id (kind.Enum form listing) v keeps i o h = let e = ((h.4).is).size in let w = (form.valid).some in omega arith
+  scalar_bits id (kind.Bool form) v keeps i o h = let e = (h.2).size in let w = form.some in omega arith
+  scalar_bits id (kind.Str form) v keeps i o h = omega (arith, text_bound form.length form.fixed form.ascii form.stop (size_of form) h.0 [] h.2, text_some form.length form.fixed form.some)
+  scalar_bits id (kind.Bin n true) v keeps i o h = absurd cc
+  scalar_bits id (kind.Bin n false) v keeps i o h = let e = h.0 in let w = keeps.0 in omega arith
+  scalar_bits id (kind.Arr item n) v keeps i o h = i
+  scalar_bits id (kind.Con c) v keeps i o h = i
 
   int_bits : (id : ℕ) (k : Kind) (v : Plain) → IsIntKind k → KindSpells any t E id k v [] → ⊥
   int_bits id (kind.Int form spans) v i h = let e = ((h.3).is).size in let w = (form.valid).some in omega arith
@@ -114,10 +114,10 @@ module _ (t : Table) (keeps : KeepsRules t) where
   int_within zero x v i h = h
   int_within (suc n) x v i h = int_bits t (SpellsWithin n any t) x (h.0).kind v (subst IsIntRow h.1 i) h.2
 
-  value_within : (n x : ℕ) (v : Plain) → HasKind t x (λ k. IsValueOf k v) → SpellsWithin n any t x v [] → ⊥
+  value_within : (n x : ℕ) (v : Plain) → HasKind t x (λ k. IsValueOf k v) → open_of t x ≡ None → SpellsWithin n any t x v [] → ⊥
   unfolding SpellsWithin
-  value_within zero x v i h = h
-  value_within (suc n) x v i h = scalar_bits t (SpellsWithin n any t) x (h.0).kind v (keeps.kinds x h.0 h.1) (subst (λ (r : TypeRow). IsValueOf r.kind v) (same_row t x i.0 h.0 i.1 h.1) i.2) h.2
+  value_within zero x v i o h = h
+  value_within (suc n) x v i o h = scalar_bits t (SpellsWithin n any t) x (h.0).kind v (keeps.kinds x h.0 h.1) (subst (λ (r : TypeRow). IsValueOf r.kind v) (same_row t x i.0 h.0 i.1 h.1) i.2) (sym (ap open_in h.1) ∙ o) h.2
 
   module _ (n : ℕ) (ih : (x : ℕ) (v : Plain) → SpellsWithin n any t x v [] → IsHollow t x ⊎ IsSome (open_of t x)) where
     abbrev E : ℕ → Plain → Bits → Type 0
@@ -126,8 +126,8 @@ module _ (t : Table) (keeps : KeepsRules t) where
     no_int : (x : ℕ) (v : Plain) → IsIntRow (slice_get t x) → E x v [] → ⊥
     no_int x v i h = int_within n x v i h
 
-    no_value : (x : ℕ) (v : Plain) → HasKind t x (λ k. IsValueOf k v) → E x v [] → ⊥
-    no_value x v i h = value_within n x v i h
+    no_value : (x : ℕ) (v : Plain) → HasKind t x (λ k. IsValueOf k v) → open_of t x ≡ None → E x v [] → ⊥
+    no_value x v i o h = value_within n x v i o h
 
     none_none : (o : Option ℕ) → o ≡ None → IsSome o → ⊥
     none_none o e h = let q : false ≡ true = subst IsSome e h in cc
@@ -148,7 +148,7 @@ module _ (t : Table) (keeps : KeepsRules t) where
         no_tail : (o : Option ℕ) → IsSome o → IfSome o (λ n. HasOne Tells [] × (ps ≡ trailers_along t p.container) × AllByRecursion (IsSized t) ps) → ⊥
         no_tail None i f = cc
         no_tail (Some m) i f = f.0
-    first_part p (part.Fixed name id v) ps s u e keep k is_seq h = no_value id.0 (plain v) (subst (PartKeeps t p) e keep.0) h.0
+    first_part p (part.Fixed name id v) ps s u e keep k is_seq h = (let fixed = subst (PartKeeps t p) e keep.0 in no_value id.0 (plain v) fixed.0 fixed.1 h.0)
     first_part p (part.Pad m) ps s u e keep k is_seq h = let few = (subst (PartKeeps t p) e keep.0).0 in let size = h.0 in omega arith
     first_part p (part.List name id y i) ps s u e keep k is_seq h = subst (ListFits t []) e (subst (ListsFit t []) is_seq (can.lists k)).0
     first_part p (part.Length name id c0 c1) ps s u e keep k is_seq h = no_int id.0 _ (subst (IsNumbered t) e (subst (AllByRecursion (λ (p : Placed). IsNumbered t p.part)) is_seq (can.numbered k)).0) h.1
@@ -179,7 +179,7 @@ module _ (t : Table) (keeps : KeepsRules t) where
     some_items id item (v ∷ vs) m some e h = ih item.0 v (subst (E item.0 v) (no_front h.0 h.1 h.2) h.3)
 
     kind_empty : (id : ℕ) (row : TypeRow) → slice_get t id ≡ Some row → (k : Kind) → row.kind ≡ k → (v : Plain) → KindSpells any t E id k v [] → IsHollow t id ⊎ IsSome (open_of t id)
-    kind_empty id row r (kind.Int form spans) e v h = absurd (scalar_bits t E id (kind.Int form spans) v (subst KindKeeps e (keeps.kinds id row r)) (h.0, h.1, h.2) h)
+    kind_empty id row r (kind.Int form spans) e v h = absurd (scalar_bits t E id (kind.Int form spans) v (subst KindKeeps e (keeps.kinds id row r)) (h.0, h.1, h.2) refl h)
     kind_empty id row r (kind.Enum form listing) e v h = absurd (let q = ((h.4).is).size in let w = (form.valid).some in omega arith)
     kind_empty id row r (kind.Bool form) e v h = absurd (let q = (h.2).size in let w = form.some in omega arith)
     kind_empty id row r (kind.Str form) e v h = absurd (omega (arith, text_bound form.length form.fixed form.ascii form.stop (size_of form) h.0 [] h.2, text_some form.length form.fixed form.some))

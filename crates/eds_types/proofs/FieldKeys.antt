@@ -17,22 +17,22 @@ use Rattle.eds_types.proofs.AllOf.{All-weaker, All-both}
 
 -- the field is of another part
 unfoldable pub IsOther : ℕ → ℕ → Field → Type 0
-IsOther y i f = (f.0 ≡ y) × (f.1 ≡ i) → ⊥
+IsOther y i f = (f.container ≡ y) × (f.place ≡ i) → ⊥
 
 at_by : Field → List Field → ℕ → ℕ → Bool → Option Plain
-at_by f fs y i b = cond b (Some f.2) (value_at fs y i)
+at_by f fs y i b = cond b (Some f.value) (value_at fs y i)
 
 pub value_past : (fs : List Field) (y i : ℕ) → AllByRecursion (IsOther y i) fs → value_at fs y i ≡ None
 unfolding IsOther at_by
 value_past [] y i h = refl
 value_past (f ∷ fs) y i h =
-    let off : (f.0 == y && f.1 == i) ≡ false = false_from_ne_true (f.0 == y && f.1 == i) (λ e. let p = and_parts (f.0 == y) (f.1 == i) e in h.0 (eqb-true f.0 y p.0, eqb-true f.1 i p.1)) in
+    let off : (f.container == y && f.place == i) ≡ false = false_from_ne_true (f.container == y && f.place == i) (λ e. let p = and_parts (f.container == y) (f.place == i) e in h.0 (eqb-true f.container y p.0, eqb-true f.place i p.1)) in
     ap (at_by f fs y i) off ∙ value_past fs y i h.1
 
 pub value_before : (fs gs : List Field) (y i : ℕ) → AllByRecursion (IsOther y i) gs → value_at (fs ++ gs) y i ≡ value_at fs y i
 unfolding at_by
 value_before [] gs y i h = value_past gs y i h
-value_before (f ∷ fs) gs y i h = go (f.0 == y && f.1 == i) (value_before fs gs y i h)
+value_before (f ∷ fs) gs y i h = go (f.container == y && f.place == i) (value_before fs gs y i h)
   where
     go : (b : Bool) → value_at (fs ++ gs) y i ≡ value_at fs y i → at_by f (fs ++ gs) y i b ≡ at_by f fs y i b
     go true e = refl
@@ -41,7 +41,7 @@ value_before (f ∷ fs) gs y i h = go (f.0 == y && f.1 == i) (value_before fs gs
 pub value_stays : (fs gs : List Field) (y i : ℕ) (v : Plain) → value_at fs y i ≡ Some v → value_at (fs ++ gs) y i ≡ Some v
 unfolding at_by
 value_stays [] gs y i v e = absurd cc
-value_stays (f ∷ fs) gs y i v e = go (f.0 == y && f.1 == i) e (value_stays fs gs y i v)
+value_stays (f ∷ fs) gs y i v e = go (f.container == y && f.place == i) e (value_stays fs gs y i v)
   where
     go : (b : Bool) → at_by f fs y i b ≡ Some v → (value_at fs y i ≡ Some v → value_at (fs ++ gs) y i ≡ Some v) → at_by f (fs ++ gs) y i b ≡ Some v
     go true e ih = e
@@ -79,7 +79,7 @@ module _ (t : Table) where
   NotAbove x y i = Has (chain t x) y → i < length (entries_of t y) → ⊥
 
   abbrev pub FieldNotAbove : ℕ → Field → Type 0
-  FieldNotAbove x f = NotAbove x f.0 f.1
+  FieldNotAbove x f = NotAbove x f.container f.place
 
   abbrev pub PartNotAbove : ℕ → Placed → Type 0
   PartNotAbove x p = NotAbove x p.container p.place

@@ -17,7 +17,7 @@ use Rattle.eds_bits.specs.Lists.{HasOne}
 use Rattle.eds_bits.specs.Style.{any}
 use Rattle.eds_types.proofs.FieldKeys.{on_nothing, no_value}
 use Rattle.eds_types.specs.Domains.{InDomainOf, InDomainOfRow, InDomainOfType, InDomain}
-use Rattle.eds_types.specs.Fields.{Field, value_at, values_of, has_value, paired, fields_in, value_on, type_by, type_on, listed, labelled_by, row_at, number_by, number_on}
+use Rattle.eds_types.specs.Fields.{Field, value_at, values_of, has_value, paired, fields_in, value_on, type_by, type_on, listed, labelled_by, row_at, number_by, number_on, field_of}
 use Rattle.eds_types.specs.Plain.{Plain, items, Plains}
 use Rattle.eds_types.specs.Rows.{Table, chain, entries_of, trailers_of, Placed, placed_from, placed_entries, placed_trailers, sequence}
 use Rattle.eds_types.specs.Spelling.{Progress, started, PartPasses, PartsPass, KindSpells, SpellsWithin}
@@ -41,17 +41,17 @@ module _ (t : Table) where
 
   pub record FieldFits (n : ℕ) (f : Field) : Type 0 where
     pub part : Part
-    pub stands : Stands f.0 f.1 part
-    pub fits : ValueFits n part f.2
+    pub stands : Stands f.container f.place part
+    pub fits : ValueFits n part f.value
 
   abbrev pub Fits : ℕ → Progress → Type 0
   Fits n s = AllByRecursion (FieldFits n) s.fields
 
   pub part_keeps : (n : ℕ) (s : Progress) (p : Placed) (q : Part) (u : Progress) (b : Bits) → Stands p.container p.place q → Fits n s → PartPasses any t (SpellsWithin n any t) s p q u b → Fits n u
-  part_keeps n s p (part.Plain name id) u b e h k = subst (Fits n) (sym k.2) (All-both (FieldFits n) s.fields ((p.container, p.place, k.0) ∷ []) h (record { part = part.Plain name id; stands = e; fits = (b, k.1) }, tt))
+  part_keeps n s p (part.Plain name id) u b e h k = subst (Fits n) (sym k.2) (All-both (FieldFits n) s.fields ((field_of p k.0) ∷ []) h (record { part = part.Plain name id; stands = e; fits = (b, k.1) }, tt))
   part_keeps n s p (part.Fixed name id v) u b e h k = subst (Fits n) (sym k.1) h
   part_keeps n s p (part.Pad m) u b e h k = subst (Fits n) (sym k.2) h
-  part_keeps n s p (part.List name id y i) u b e h k = subst (Fits n) (sym k.3) (All-both (FieldFits n) s.fields ((p.container, p.place, items k.0) ∷ []) h (record { part = part.List name id y i; stands = e; fits = (k.0, refl) }, tt))
+  part_keeps n s p (part.List name id y i) u b e h k = subst (Fits n) (sym k.3) (All-both (FieldFits n) s.fields ((field_of p (items k.0)) ∷ []) h (record { part = part.List name id y i; stands = e; fits = (k.0, refl) }, tt))
   part_keeps n s p (part.Length name id c0 c1) u b e h k = subst (Fits n) (sym k.2) h
   part_keeps n s p (part.Check name id c) u b e h k = subst (Fits n) (sym k.1) h
 
@@ -62,22 +62,22 @@ module _ (t : Table) where
     pairs : (gs : List Field) → paired ps (values_of gs) ≡ gs → paired (p ∷ ps) (values_of (new ++ gs)) ≡ new ++ gs
 
   by_value : Placed → List Placed → Plain → List Plain → Bool → List Field
-  by_value p ps v vs b = cond b ((p.container, p.place, v) ∷ paired ps vs) (paired ps (v ∷ vs))
+  by_value p ps v vs b = cond b ((field_of p v) ∷ paired ps vs) (paired ps (v ∷ vs))
 
   skipped : (p : Placed) (ps : List Placed) → has_value p.part ≡ false → (gs : List Field) → paired ps (values_of gs) ≡ gs → paired (p ∷ ps) (values_of gs) ≡ gs
   unfolding by_value
   skipped p ps e [] h = refl
-  skipped p ps e (g ∷ gs) h = ap (by_value p ps g.2 (values_of gs)) e ∙ h
+  skipped p ps e (g ∷ gs) h = ap (by_value p ps g.value (values_of gs)) e ∙ h
 
-  kept : (p : Placed) (ps : List Placed) (v : Plain) → has_value p.part ≡ true → (gs : List Field) → paired ps (values_of gs) ≡ gs → paired (p ∷ ps) (v ∷ values_of gs) ≡ (p.container, p.place, v) ∷ gs
+  kept : (p : Placed) (ps : List Placed) (v : Plain) → has_value p.part ≡ true → (gs : List Field) → paired ps (values_of gs) ≡ gs → paired (p ∷ ps) (v ∷ values_of gs) ≡ (field_of p v) ∷ gs
   unfolding by_value
-  kept p ps v e gs h = ap (by_value p ps v (values_of gs)) e ∙ ap (λ z. (p.container, p.place, v) ∷ z) h
+  kept p ps v e gs h = ap (by_value p ps v (values_of gs)) e ∙ ap (λ z. (field_of p v) ∷ z) h
 
   part_pairs : (n : ℕ) (p : Placed) (ps : List Placed) (s u : Progress) (b : Bits) (q : Part) → p.part ≡ q → PartPasses any t (SpellsWithin n any t) s p q u b → Pairs p ps s u
-  part_pairs n p ps s u b (part.Plain name id) e k = record { new = (p.container, p.place, k.0) ∷ []; is = ap (λ (z : Progress). z.fields) k.2; pairs = λ gs h. kept p ps k.0 (ap has_value e) gs h }
+  part_pairs n p ps s u b (part.Plain name id) e k = record { new = (field_of p k.0) ∷ []; is = ap (λ (z : Progress). z.fields) k.2; pairs = λ gs h. kept p ps k.0 (ap has_value e) gs h }
   part_pairs n p ps s u b (part.Fixed name id v) e k = record { new = []; is = ap (λ (z : Progress). z.fields) k.1 ∙ sym (append-nil s.fields); pairs = λ gs h. skipped p ps (ap has_value e) gs h }
   part_pairs n p ps s u b (part.Pad m) e k = record { new = []; is = ap (λ (z : Progress). z.fields) k.2 ∙ sym (append-nil s.fields); pairs = λ gs h. skipped p ps (ap has_value e) gs h }
-  part_pairs n p ps s u b (part.List name id y i) e k = record { new = (p.container, p.place, items k.0) ∷ []; is = ap (λ (z : Progress). z.fields) k.3; pairs = λ gs h. kept p ps (items k.0) (ap has_value e) gs h }
+  part_pairs n p ps s u b (part.List name id y i) e k = record { new = (field_of p (items k.0)) ∷ []; is = ap (λ (z : Progress). z.fields) k.3; pairs = λ gs h. kept p ps (items k.0) (ap has_value e) gs h }
   part_pairs n p ps s u b (part.Length name id c0 c1) e k = record { new = []; is = ap (λ (z : Progress). z.fields) k.2 ∙ sym (append-nil s.fields); pairs = λ gs h. skipped p ps (ap has_value e) gs h }
   part_pairs n p ps s u b (part.Check name id c) e k = record { new = []; is = ap (λ (z : Progress). z.fields) k.1 ∙ sym (append-nil s.fields); pairs = λ gs h. skipped p ps (ap has_value e) gs h }
 
@@ -163,15 +163,15 @@ module _ (t : Table) where
 
   pub found_by : (n : ℕ) (fs : List Field) (y i : ℕ) (v : Plain) → AllByRecursion (FieldFits n) fs → value_at fs y i ≡ Some v → Found n y i v
   found_by n [] y i v a e = absurd cc
-  found_by n (f ∷ fs) y i v a e = go (f.0 == y && f.1 == i) refl e (found_by n fs y i v a.1)
+  found_by n (f ∷ fs) y i v a e = go (f.container == y && f.place == i) refl e (found_by n fs y i v a.1)
     where
-      here : (f.0 == y && f.1 == i) ≡ true → f.2 ≡ v → Found n y i v
+      here : (f.container == y && f.place == i) ≡ true → f.value ≡ v → Found n y i v
       here h q =
-          let p = and_parts (f.0 == y) (f.1 == i) h in
-          record { part = (a.0).part; stands = subst (λ z. Stands z i (a.0).part) (eqb-true f.0 y p.0) (subst (λ z. Stands f.0 z (a.0).part) (eqb-true f.1 i p.1) (a.0).stands); fits = subst (ValueFits n (a.0).part) q (a.0).fits }
+          let p = and_parts (f.container == y) (f.place == i) h in
+          record { part = (a.0).part; stands = subst (λ z. Stands z i (a.0).part) (eqb-true f.container y p.0) (subst (λ z. Stands f.container z (a.0).part) (eqb-true f.place i p.1) (a.0).stands); fits = subst (ValueFits n (a.0).part) q (a.0).fits }
 
-      go : (b : Bool) → (f.0 == y && f.1 == i) ≡ b → cond b (Some f.2) (value_at fs y i) ≡ Some v → (value_at fs y i ≡ Some v → Found n y i v) → Found n y i v
-      go true h e ih = here h (let z : ◌≡◌ {A = Option Plain} (Some f.2) (Some v) = e in cc)
+      go : (b : Bool) → (f.container == y && f.place == i) ≡ b → cond b (Some f.value) (value_at fs y i) ≡ Some v → (value_at fs y i ≡ Some v → Found n y i v) → Found n y i v
+      go true h e ih = here h (let z : ◌≡◌ {A = Option Plain} (Some f.value) (Some v) = e in cc)
       go false h e ih = ih e
 
   abbrev Inside : Plain → Type 0

@@ -19,8 +19,8 @@ use Rattle.eds_types.specs.declared.row.Kind.TheVariants as kind
 use Rattle.eds_types.specs.declared.row.Part.{Part}
 use Rattle.eds_types.specs.declared.row.Part.TheVariants as part
 use Rattle.eds_types.specs.Domains.{int_domain_in}
-use Rattle.eds_types.specs.Fields.{Field, value_at, has_value, row_at, type_by, part_at}
-use Rattle.eds_types.specs.LeastSize.{least_of, least_number, least_number_in, least_count, size_by, least_part, least_sequence, least_family, least_row, least_within}
+use Rattle.eds_types.specs.Fields.{Field, value_at, has_value, row_at, type_by, part_at, field_at}
+use Rattle.eds_types.specs.LeastSize.{no_size, least_of, least_in, least_number, least_number_in, least_count, size_by, least_part, least_sequence, least_family, least_row, least_within}
 use Rattle.eds_types.specs.Plain.{Plain, items, list_of}
 use Rattle.eds_types.specs.Rows.{Table, chain, list_has, container_in, concrete_in, is_concrete, Placed, sequence}
 use Rattle.eds_types.specs.Spelling.{BinHas, Progress, started, count_in, ItemsSpell, PartPasses, PartsPass, KindSpells, SpellsWithin}
@@ -30,7 +30,7 @@ use Rattle.eds_types.proofs.Grown.{part_grown}
 use Rattle.eds_types.proofs.ListCounts.{IsKnown, found_there, known_more, known_count, count_stands, told_by}
 use Rattle.eds_types.proofs.ScalarReading.{IsTextSize, size_of, text_form}
 use Rattle.eds_types.proofs.TableFacts.{Facts, ListFits, ListsFit}
-use Rattle.eds_types.proofs.ReadingTests.{has_in}
+use Rattle.eds_types.proofs.ReadingTests.{has_in, is_at_most}
 
 -- ---- items and numbers
 
@@ -49,6 +49,7 @@ number_least (s ∷ rest) m g (inl h) =
     let small : pos i.0 ≤ℤ pos m = subst (λ z. z ≤ℤ pos m) i.1 low in
     let a = ap nat_abs i.1 in
     let le : i.0 ≤ m = omega (arith, ints) in
+    let e : least_in s ≡ nat_abs s.low = ap (λ b. cond b (nat_abs s.low) no_size) (is_at_most s.low s.high room) in
     omega arith
 number_least (s ∷ rest) m g (inr h) = let l = number_least rest m (λ n w. g n (inr w)) h in omega arith
 
@@ -83,12 +84,12 @@ member_least f p q (suc n) a k l m ep eq = go (cases_eq k a) (member_least f p q
 
 -- ---- parts
 
-ends_known : (l : List Field) (y i : ℕ) (v : Plain) → (w : Plain) × (value_at (l ++ (y, i, v) ∷ []) y i ≡ Some w)
+ends_known : (l : List Field) (y i : ℕ) (v : Plain) → (w : Plain) × (value_at (l ++ (field_at y i v) ∷ []) y i ≡ Some w)
 ends_known [] y i v = (v, found_there [] y i v [] tt)
-ends_known (f ∷ l) y i v = go (f.0 == y && f.1 == i) (ends_known l y i v)
+ends_known (f ∷ l) y i v = go (f.container == y && f.place == i) (ends_known l y i v)
   where
-    go : (b : Bool) → ((w : Plain) × (value_at (l ++ (y, i, v) ∷ []) y i ≡ Some w)) → (w : Plain) × (cond b (Some f.2) (value_at (l ++ (y, i, v) ∷ []) y i) ≡ Some w)
-    go true ih = (f.2, refl)
+    go : (b : Bool) → ((w : Plain) × (value_at (l ++ (field_at y i v) ∷ []) y i ≡ Some w)) → (w : Plain) × (cond b (Some f.value) (value_at (l ++ (field_at y i v) ∷ []) y i) ≡ Some w)
+    go true ih = (f.value, refl)
     go false ih = ih
 
 module _ (t : Table) (n : ℕ) (least : ℕ → ℕ) (g : (id : ℕ) (v : Plain) (b : Bits) → SpellsWithin n any t id v b → least id ≤ length b) where

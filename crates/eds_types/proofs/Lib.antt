@@ -41,3 +41,4 @@ pub mod Binaries
 pub mod SameLists
 pub mod TypeLaws
 pub mod EmptyTypes
+pub mod TextValues

@@ -15,7 +15,7 @@ use Rattle.eds_types.specs.declared.row.Kind.TheVariants as kind
 use Rattle.eds_types.specs.declared.row.Part.{Part}
 use Rattle.eds_types.specs.declared.row.Part.TheVariants as part
 use Rattle.eds_types.specs.Domains.{int_domain_in, int_domain_by}
-use Rattle.eds_types.specs.Fields.{Field, value_at, has_value, row_at, type_by}
+use Rattle.eds_types.specs.Fields.{Field, value_at, has_value, row_at, type_by, field_at}
 use Rattle.eds_types.specs.Plain.{Plain, num}
 use Rattle.eds_types.specs.Rows.{Table, Placed}
 use Rattle.eds_types.specs.Rules.{IsIntBy, IsInt}
@@ -29,14 +29,14 @@ use Rattle.eds_types.proofs.TableFacts.{IsCount}
 -- ---- the field of a part
 
 at_by : Field → List Field → ℕ → ℕ → Bool → Option Plain
-at_by f fs y i b = cond b (Some f.2) (value_at fs y i)
+at_by f fs y i b = cond b (Some f.value) (value_at fs y i)
 
-pub found_there : (l : List Field) (y i : ℕ) (v : Plain) (more : List Field) → AllByRecursion (IsOther y i) l → value_at (l ++ (y, i, v) ∷ more) y i ≡ Some v
+pub found_there : (l : List Field) (y i : ℕ) (v : Plain) (more : List Field) → AllByRecursion (IsOther y i) l → value_at (l ++ (field_at y i v) ∷ more) y i ≡ Some v
 unfolding IsOther at_by
-found_there [] y i v more h = ap (at_by (y, i, v) more y i) (and_from (y == y) (i == i) (eq-eqb y y refl) (eq-eqb i i refl))
+found_there [] y i v more h = ap (at_by (field_at y i v) more y i) (and_from (y == y) (i == i) (eq-eqb y y refl) (eq-eqb i i refl))
 found_there (f ∷ l) y i v more h =
-    let off : (f.0 == y && f.1 == i) ≡ false = false_from_ne_true (f.0 == y && f.1 == i) (λ e. let p = and_parts (f.0 == y) (f.1 == i) e in h.0 (eqb-true f.0 y p.0, eqb-true f.1 i p.1)) in
-    ap (at_by f (l ++ (y, i, v) ∷ more) y i) off ∙ found_there l y i v more h.1
+    let off : (f.container == y && f.place == i) ≡ false = false_from_ne_true (f.container == y && f.place == i) (λ e. let p = and_parts (f.container == y) (f.place == i) e in h.0 (eqb-true f.container y p.0, eqb-true f.place i p.1)) in
+    ap (at_by f (l ++ (field_at y i v) ∷ more) y i) off ∙ found_there l y i v more h.1
 
 -- the part's value is among the fields
 abbrev pub IsKnown : List Field → Placed → Type 0

@@ -13,7 +13,7 @@ use Rattle.eds_types.specs.declared.row.Kind.{Kind}
 use Rattle.eds_types.specs.declared.row.Kind.TheVariants as kind
 use Rattle.eds_types.specs.declared.row.Part.{Part}
 use Rattle.eds_types.specs.declared.row.Part.TheVariants as part
-use Rattle.eds_types.specs.Fields.{Field, paired, listed}
+use Rattle.eds_types.specs.Fields.{Field, paired, listed, field_of}
 use Rattle.eds_types.specs.Plain.{Plain, num, text, label, truth, bits, items, fields, list_of}
 use Rattle.eds_types.specs.Rows.{Table, Placed, sequence}
 use Rattle.eds_types.specs.Spelling.{Progress, started, ItemsSpell, PartPasses, PartsPass, ContainerSpells, KindSpells, SpellsWithin}
@@ -47,10 +47,10 @@ module _ (t : Table) (n : ℕ) (g : (id : ℕ) (v : Plain) (b c : Bits) → Spel
   part_unique : (s z : Progress) (p : Placed) (q : Part) (u w : Progress) (b c : Bits) (more rest : List Field) → IsScaled q → (NoLength q ⊎ (u.octets ≡ w.octets)) → s.fields ≡ z.fields → s.before ≡ z.before → u.fields ++ more ≡ w.fields ++ rest → PartPasses canonical t C s p q u b → PartPasses canonical t C z p q w c → Same b c u w
   part_unique s z p (part.Plain name id) u w b c more rest sc o e f l h k =
       let uf = ap (λ (x : Progress). x.fields) h.2 in let wf = ap (λ (x : Progress). x.fields) k.2 in
-      let a = added_same s.fields z.fields (p.container, p.place, h.0) (p.container, p.place, k.0) more rest e (ap (λ l. l ++ more) (sym uf) ∙ l ∙ ap (λ l. l ++ rest) wf) in
-      let v : h.0 ≡ k.0 = ap (λ (x : Field). x.2) a in
+      let a = added_same s.fields z.fields (field_of p h.0) (field_of p k.0) more rest e (ap (λ l. l ++ more) (sym uf) ∙ l ∙ ap (λ l. l ++ rest) wf) in
+      let v : h.0 ≡ k.0 = ap (λ (x : Field). x.value) a in
       let bc = g id.0 k.0 b c (subst (λ x. C id.0 x b) v h.1) k.1 in
-      record { bits = bc; fields = uf ∙ ap (λ l. l ++ (p.container, p.place, h.0) ∷ []) e ∙ ap (λ x. z.fields ++ x ∷ []) a ∙ sym wf; before = ap (λ (x : Progress). x.before) h.2 ∙ ap (λ l. l ++ b) f ∙ ap (λ l. z.before ++ l) bc ∙ sym (ap (λ (x : Progress). x.before) k.2) }
+      record { bits = bc; fields = uf ∙ ap (λ l. l ++ (field_of p h.0) ∷ []) e ∙ ap (λ x. z.fields ++ x ∷ []) a ∙ sym wf; before = ap (λ (x : Progress). x.before) h.2 ∙ ap (λ l. l ++ b) f ∙ ap (λ l. z.before ++ l) bc ∙ sym (ap (λ (x : Progress). x.before) k.2) }
   part_unique s z p (part.Fixed name id v) u w b c more rest sc o e f l h k =
       let bc = g id.0 _ b c h.0 k.0 in
       record { bits = bc; fields = ap (λ (x : Progress). x.fields) h.1 ∙ e ∙ sym (ap (λ (x : Progress). x.fields) k.1); before = ap (λ (x : Progress). x.before) h.1 ∙ ap (λ l. l ++ b) f ∙ ap (λ l. z.before ++ l) bc ∙ sym (ap (λ (x : Progress). x.before) k.1) }
@@ -59,11 +59,11 @@ module _ (t : Table) (n : ℕ) (g : (id : ℕ) (v : Plain) (b c : Bits) → Spel
       record { bits = bc; fields = ap (λ (x : Progress). x.fields) h.2 ∙ e ∙ sym (ap (λ (x : Progress). x.fields) k.2); before = ap (λ (x : Progress). x.before) h.2 ∙ ap (λ l. l ++ b) f ∙ ap (λ l. z.before ++ l) bc ∙ sym (ap (λ (x : Progress). x.before) k.2) }
   part_unique s z p (part.List name id y i) u w b c more rest sc o e f l h k =
       let uf = ap (λ (x : Progress). x.fields) h.3 in let wf = ap (λ (x : Progress). x.fields) k.3 in
-      let a = added_same s.fields z.fields (p.container, p.place, items h.0) (p.container, p.place, items k.0) more rest e (ap (λ l. l ++ more) (sym uf) ∙ l ∙ ap (λ l. l ++ rest) wf) in
-      let v : items h.0 ≡ items k.0 = ap (λ (x : Field). x.2) a in
+      let a = added_same s.fields z.fields (field_of p (items h.0)) (field_of p (items k.0)) more rest e (ap (λ l. l ++ more) (sym uf) ∙ l ∙ ap (λ l. l ++ rest) wf) in
+      let v : items h.0 ≡ items k.0 = ap (λ (x : Field). x.value) a in
       let vs : h.0 ≡ k.0 = cc in
       let bc = items_unique (C id.0) (g id.0) (list_of k.0) b c (subst (λ x. ItemsSpell (C id.0) (list_of x) b) vs h.2) k.2 in
-      record { bits = bc; fields = uf ∙ ap (λ l. l ++ (p.container, p.place, items h.0) ∷ []) e ∙ ap (λ x. z.fields ++ x ∷ []) a ∙ sym wf; before = ap (λ (x : Progress). x.before) h.3 ∙ ap (λ l. l ++ b) f ∙ ap (λ l. z.before ++ l) bc ∙ sym (ap (λ (x : Progress). x.before) k.3) }
+      record { bits = bc; fields = uf ∙ ap (λ l. l ++ (field_of p (items h.0)) ∷ []) e ∙ ap (λ x. z.fields ++ x ∷ []) a ∙ sym wf; before = ap (λ (x : Progress). x.before) h.3 ∙ ap (λ l. l ++ b) f ∙ ap (λ l. z.before ++ l) bc ∙ sym (ap (λ (x : Progress). x.before) k.3) }
   part_unique s z p (part.Length name id c0 c1) u w b c more rest sc (inl no_length) e f l h k = absurd no_length
   part_unique s z p (part.Length name id c0 c1) u w b c more rest sc (inr o) e f l h k =
       let q : c0 +ℤ (c1 *ℤ h.0) ≡ c0 +ℤ (c1 *ℤ k.0) = some_is (c0 +ℤ (c1 *ℤ h.0)) (c0 +ℤ (c1 *ℤ k.0)) (sym (ap (λ (x : Progress). x.octets) h.2) ∙ o ∙ ap (λ (x : Progress). x.octets) k.2) in

@@ -16,10 +16,10 @@ use Rattle.eds_types.specs.declared.row.Kind.TheVariants as kind
 use Rattle.eds_types.specs.declared.row.Constraint.{Constraint as Condition}
 use Rattle.eds_types.specs.declared.row.Part.{Part}
 use Rattle.eds_types.specs.declared.row.Part.TheVariants as part
-use Rattle.eds_types.specs.Failing.{Station, condition, entry, choice, end, own, course, length_path, part_step, path_steps}
-use Rattle.eds_types.specs.Fields.{Field, value_at, paired, type_by, IsAtOrUnder, constraints_along}
-use Rattle.eds_types.specs.Packing.{Where, behind, here, ItemFails, PackFailsWithin, StationFails, PartFails, ListFails, FirstFails, HasFields, NoSizeFits, ContainerPackFails, valued}
-use Rattle.eds_types.specs.PackedSizes.{Size, inside, after, items_size, tells, told_by, row_bits, form_bits, length_fits, entry_size, list_size, part_size, choice_size, station_size, stations_size, own_size, concrete_size, derived_size, fields_size}
+use Rattle.eds_types.specs.Failing.{Station, condition, entry, choice, end, own_stations, course, length_path, part_step, path_steps}
+use Rattle.eds_types.specs.Fields.{Field, value_at, paired, type_by, IsAtOrUnder, constraints_along, field_of}
+use Rattle.eds_types.specs.Packing.{PackFault, pack_fault_behind, pack_fault_here, ItemPackFails, PackFailsWithin, StationPackFails, PartPackFails, ListPackFails, FirstPackFails, HasFields, NoSizeFits, ContainerPackFails, valued, pack_fault_at}
+use Rattle.eds_types.specs.PackedSizes.{Size, size_inside, after, items_size, tells, told_by, row_bits, form_bits, length_fits, entry_size, list_size, packed_part_size, choice_size, station_size, stations_size, own_size, concrete_size, derived_size, fields_size}
 use Rattle.eds_types.specs.Plain.{Plain, num, label, truth, text, bits, items, fields, list_of, plain}
 use Rattle.eds_types.specs.Reading.{candidate_under, holds}
 use Rattle.eds_types.specs.Rows.{Table, id_of, chain, constraints_of, container_of, list_has, Placed, placed_entries, placed_trailers, sequence}
@@ -85,7 +85,7 @@ module _ (t : Table) (is : IsTable t) (can : Facts t) (n : ℕ) (size : ℕ → 
   abbrev C : ℕ → Plain → Bits → Type 0
   C = SpellsWithin n canonical t
 
-  abbrev F : ℕ → Plain → Where → Type 0
+  abbrev F : ℕ → Plain → PackFault → Type 0
   F = PackFailsWithin n t
 
   -- sizes of values of a part's type are those that the pass gives
@@ -109,13 +109,13 @@ module _ (t : Table) (is : IsTable t) (can : Facts t) (n : ℕ) (size : ℕ → 
 
   module _ (fs : List Field) where
     abbrev PartSize : Placed → Part → Size
-    PartSize p q = part_size t size fs p q
+    PartSize p q = packed_part_size t size fs p q
 
     -- ---- the sizes of a run
 
-    value_there : (s u : Progress) (p : Placed) (v : Plain) (rest : List Field) → AllByRecursion (IsOther p.container p.place) s.fields → u.fields ≡ s.fields ++ (p.container, p.place, v) ∷ [] → fs ≡ u.fields ++ rest → value_at fs p.container p.place ≡ Some v
+    value_there : (s u : Progress) (p : Placed) (v : Plain) (rest : List Field) → AllByRecursion (IsOther p.container p.place) s.fields → u.fields ≡ s.fields ++ (field_of p v) ∷ [] → fs ≡ u.fields ++ rest → value_at fs p.container p.place ≡ Some v
     value_there s u p v rest h e w =
-        ap (λ l. value_at l p.container p.place) (w ∙ ap (λ l. l ++ rest) e ∙ append_assoc s.fields ((p.container, p.place, v) ∷ []) rest)
+        ap (λ l. value_at l p.container p.place) (w ∙ ap (λ l. l ++ rest) e ∙ append_assoc s.fields ((field_of p v) ∷ []) rest)
         ∙ found_there s.fields p.container p.place v rest h
 
     part_sized : (s u : Progress) (p : Placed) (b : Bits) (rest : List Field) (q : Part) → TypesTied q → TypesDecided t n fs q → IsNumbered t q → IsFine t n fs p q → AllByRecursion (IsOther p.container p.place) s.fields → fs ≡ u.fields ++ rest → PartPasses canonical t C s p q u b → PartSize p q ≡ Ok (length b)
@@ -125,7 +125,7 @@ module _ (t : Table) (is : IsTable t) (can : Facts t) (n : ℕ) (size : ℕ → 
     part_sized s u p b rest (part.Pad m) ti d nu fine fresh w h = ap (λ z. Ok z) (sym h.0)
     part_sized s u p b rest (part.List name id y i) ti d nu fine fresh w h =
         ap (list_size t size fs id.0 (value_at fs y.0 i)) there
-        ∙ ap (λ c. cond c (items_size (size id.0) 0 0 (list_of h.0)) (Err (here reason.CountWrong))) (tells_true (value_at fs y.0 i) (length (list_of h.0)) count)
+        ∙ ap (λ c. cond c (items_size (size id.0) 0 0 (list_of h.0)) (Err (pack_fault_here reason.CountWrong))) (tells_true (value_at fs y.0 i) (length (list_of h.0)) count)
         ∙ items_whole (size id.0) (C id.0) (F id.0) (ti id.0 refl) (d id.0 refl) (list_of h.0) b h.2
       where
         there : value_at fs p.container p.place ≡ Some (items h.0)
@@ -134,7 +134,7 @@ module _ (t : Table) (is : IsTable t) (can : Facts t) (n : ℕ) (size : ℕ → 
         count : value_at fs y.0 i ≡ Some (num (pos (length (list_of h.0))))
         count = elim (tree_decides (value_at fs y.0 i) (num (pos (length (list_of h.0))))) [
           | inl e ↦ e
-          | inr ne ↦ absurd (fine (here reason.CountWrong) (subst (λ o. ListFails t F fs id.0 y.0 i o (here reason.CountWrong)) (sym there) (inl (ne, refl))))
+          | inr ne ↦ absurd (fine (pack_fault_here reason.CountWrong) (subst (λ o. ListPackFails t F fs id.0 y.0 i o (pack_fault_here reason.CountWrong)) (sym there) (inl (ne, refl))))
         ]
     part_sized s u p b rest (part.Length name id c0 c1) ti d nu fine fresh w h = ap (λ z. Ok z) (sym (number_bits n id.0 h.0 b nu h.1))
     part_sized s u p b rest (part.Check name id k) ti d nu fine fresh w h = ap (λ z. Ok z) (sym (number_bits n id.0 _ b nu h.0))
@@ -148,10 +148,10 @@ module _ (t : Table) (is : IsTable t) (can : Facts t) (n : ℕ) (size : ℕ → 
     run_sized [] done s u f b at ti d nu li pl pls fit w h = ap length h.1
     run_sized (p ∷ ps) done s u f b at ti d nu li pl pls fit w h =
         let more = only_grown canonical t C ps h.0 u h.2 h.5 in
-        let here = sym w ∙ more.1 in
-        let one = part_passed t n fs done p ps s h.0 f h.1 more.0 p.part refl at d.0 li.0 pl fit here h.4 in
+        let pack_fault_here = sym w ∙ more.1 in
+        let one = part_passed t n fs done p ps s h.0 f h.1 more.0 p.part refl at d.0 li.0 pl fit pack_fault_here h.4 in
         let fits = part_keeps t n s p p.part h.0 h.1 pls.0 fit (part_any t C (SpellsWithin n any t) (canon_spells t n) s p p.part h.0 h.1 h.4) in
-        let first = bits_ok (PartSize p p.part) (length h.1) (part_sized s h.0 p h.1 more.0 p.part ti.0 d.0 nu.0 one.fine (at.fresh).0 here h.4) in
+        let first = bits_ok (PartSize p p.part) (length h.1) (part_sized s h.0 p h.1 more.0 p.part ti.0 d.0 nu.0 one.fine (at.fresh).0 pack_fault_here h.4) in
         let rest = run_sized ps (done ++ p ∷ []) h.0 u one.rest h.2 one.at ti.1 d.1 nu.1 li.1 (All-both (IsPlaced t) done (p ∷ []) pl (pls.0, tt)) pls.1 fits w h.5 in
         omega (arith, first, rest, ap length h.3, length-append h.1 h.2)
 
@@ -164,11 +164,11 @@ module _ (t : Table) (is : IsTable t) (can : Facts t) (n : ℕ) (size : ℕ → 
     abbrev NoSize : Type 0
     NoSize = NoSizeFits t C F k fs
 
-    abbrev Stops : Station → Where → Type 0
-    Stops s g = StationFails t F fs NoSize k s g
+    abbrev Stops : Station → PackFault → Type 0
+    Stops s g = StationPackFails t F fs NoSize k s g
 
     abbrev Sound : Station → Type 0
-    Sound s = (g : Where) → Stops s g → ⊥
+    Sound s = (g : PackFault) → Stops s g → ⊥
 
     abbrev At0 : ℕ → Station → Size
     At0 before s = station_size t size fs k before s
@@ -180,7 +180,7 @@ module _ (t : Table) (is : IsTable t) (can : Facts t) (n : ℕ) (size : ℕ → 
     IsKnown (choice y) = Unit {0}
     IsKnown end = ⊥
 
-    list_fails : (x y i : ℕ) → ((v : Plain) → Ties (size x v) (C x v) (F x v)) → ((v : Plain) → Decided (C x v) (F x v)) → (o : Option Plain) (w : Where) → ListFails t F fs x y i o w → list_size t size fs x (value_at fs y i) o ≡ Err w
+    list_fails : (x y i : ℕ) → ((v : Plain) → Ties (size x v) (C x v) (F x v)) → ((v : Plain) → Decided (C x v) (F x v)) → (o : Option Plain) (w : PackFault) → ListPackFails t F fs x y i o w → list_size t size fs x (value_at fs y i) o ≡ Err w
     list_fails x y i ti d None w h = absurd h
     list_fails x y i ti d (Some (num v)) w h = ap (λ z. Err z) (sym h)
     list_fails x y i ti d (Some (label v)) w h = ap (λ z. Err z) (sym h)
@@ -189,13 +189,13 @@ module _ (t : Table) (is : IsTable t) (can : Facts t) (n : ℕ) (size : ℕ → 
     list_fails x y i ti d (Some (bits m v)) w h = ap (λ z. Err z) (sym h)
     list_fails x y i ti d (Some (fields l v)) w h = ap (λ z. Err z) (sym h)
     list_fails x y i ti d (Some (items vs)) w (inl h) =
-        ap (λ c. cond c (items_size (size x) 0 0 (list_of vs)) (Err (here reason.CountWrong))) (false_from_ne_true (tells (value_at fs y i) (length (list_of vs))) (λ e. h.0 (tells_from (value_at fs y i) (length (list_of vs)) e)))
+        ap (λ c. cond c (items_size (size x) 0 0 (list_of vs)) (Err (pack_fault_here reason.CountWrong))) (false_from_ne_true (tells (value_at fs y i) (length (list_of vs))) (λ e. h.0 (tells_from (value_at fs y i) (length (list_of vs)) e)))
         ∙ ap (λ z. Err z) (sym h.1)
     list_fails x y i ti d (Some (items vs)) w (inr h) =
-        ap (λ c. cond c (items_size (size x) 0 0 (list_of vs)) (Err (here reason.CountWrong))) (tells_true (value_at fs y i) (length (list_of vs)) h.0)
+        ap (λ c. cond c (items_size (size x) 0 0 (list_of vs)) (Err (pack_fault_here reason.CountWrong))) (tells_true (value_at fs y i) (length (list_of vs)) h.0)
         ∙ items_fail (size x) (C x) (F x) ti d (list_of vs) 0 0 w h.1
 
-    part_fails : (p : Placed) (q : Part) (w : Where) → TypesTied q → TypesDecided t n fs q → PartFails t F fs p q w → PartSize fs p q ≡ Err w
+    part_fails : (p : Placed) (q : Part) (w : PackFault) → TypesTied q → TypesDecided t n fs q → PartPackFails t F fs p q w → PartSize fs p q ≡ Err w
     part_fails p (part.Plain name x) w ti d h = ap (entry_size t size fs x.0) h.1 ∙ (ti x.0 refl h.0).fails w h.2
     part_fails p (part.Fixed name x v) w ti d h = absurd h
     part_fails p (part.Pad m) w ti d h = absurd h
@@ -203,9 +203,9 @@ module _ (t : Table) (is : IsTable t) (can : Facts t) (n : ℕ) (size : ℕ → 
     part_fails p (part.Length name x c0 c1) w ti d h = absurd h
     part_fails p (part.Check name x c) w ti d h = absurd h
 
-    station_fails : (s : Station) (before : ℕ) (g : Where) → IsKnown s → Stops s g → At0 before s ≡ Err g
-    station_fails (condition y c) before g i h = ap (λ b. cond b (Ok 0) (Err (reason.Constraint, path_steps c.path))) (false_from_ne_true (holds t fs c) (λ e. h.0 (holds_from t fs c e))) ∙ ap (λ z. Err z) (sym h.1)
-    station_fails (entry p) before g i h = ap (inside (part_step p)) (part_fails p p.part h.0 i.0 i.1 h.1) ∙ ap (λ z. Err z) (sym h.2)
+    station_fails : (s : Station) (before : ℕ) (g : PackFault) → IsKnown s → Stops s g → At0 before s ≡ Err g
+    station_fails (condition y c) before g i h = ap (λ b. cond b (Ok 0) (Err (pack_fault_at reason.Constraint (path_steps c.path)))) (false_from_ne_true (holds t fs c) (λ e. h.0 (holds_from t fs c e))) ∙ ap (λ z. Err z) (sym h.1)
+    station_fails (entry p) before g i h = ap (size_inside (part_step p)) (part_fails p p.part h.0 i.0 i.1 h.1) ∙ ap (λ z. Err z) (sym h.2)
     station_fails (choice y) before g i h = go (candidate_under t k fs) refl
       where
         go : (o : Option ℕ) → candidate_under t k fs ≡ o → choice_size t size fs k o ≡ Err g
@@ -215,29 +215,29 @@ module _ (t : Table) (is : IsTable t) (can : Facts t) (n : ℕ) (size : ℕ → 
 
     -- ---- stations that let the fields pass
 
-    tied_fine : (x : ℕ) (v : Plain) → Ties (size x v) (C x v) (F x v) → Decided (C x v) (F x v) → ((g : Where) → F x v g → ⊥) → size x v ≡ Ok (bits_in (size x v))
+    tied_fine : (x : ℕ) (v : Plain) → Ties (size x v) (C x v) (F x v) → Decided (C x v) (F x v) → ((g : PackFault) → F x v g → ⊥) → size x v ≡ Ok (bits_in (size x v))
     tied_fine x v ti d none = elim (spelled_by (size x v) (C x v) (F x v) ti d) [ inl h ↦ ok_bits (size x v) h.0 h.3 | inr h ↦ absurd (none h.0 h.1) ]
 
-    list_fine : (x y i : ℕ) → ((v : Plain) → Ties (size x v) (C x v) (F x v)) → ((v : Plain) → Decided (C x v) (F x v)) → (o : Option Plain) → ((w : Where) → ListFails t F fs x y i o w → ⊥) → (m : ℕ) × (list_size t size fs x (value_at fs y i) o ≡ Ok m)
+    list_fine : (x y i : ℕ) → ((v : Plain) → Ties (size x v) (C x v) (F x v)) → ((v : Plain) → Decided (C x v) (F x v)) → (o : Option Plain) → ((w : PackFault) → ListPackFails t F fs x y i o w → ⊥) → (m : ℕ) × (list_size t size fs x (value_at fs y i) o ≡ Ok m)
     list_fine x y i ti d None none = (0, refl)
-    list_fine x y i ti d (Some (num v)) none = absurd (none (here reason.WrongKind) refl)
-    list_fine x y i ti d (Some (label v)) none = absurd (none (here reason.WrongKind) refl)
-    list_fine x y i ti d (Some (truth v)) none = absurd (none (here reason.WrongKind) refl)
-    list_fine x y i ti d (Some (text v)) none = absurd (none (here reason.WrongKind) refl)
-    list_fine x y i ti d (Some (bits m v)) none = absurd (none (here reason.WrongKind) refl)
-    list_fine x y i ti d (Some (fields l v)) none = absurd (none (here reason.WrongKind) refl)
+    list_fine x y i ti d (Some (num v)) none = absurd (none (pack_fault_here reason.WrongKind) refl)
+    list_fine x y i ti d (Some (label v)) none = absurd (none (pack_fault_here reason.WrongKind) refl)
+    list_fine x y i ti d (Some (truth v)) none = absurd (none (pack_fault_here reason.WrongKind) refl)
+    list_fine x y i ti d (Some (text v)) none = absurd (none (pack_fault_here reason.WrongKind) refl)
+    list_fine x y i ti d (Some (bits m v)) none = absurd (none (pack_fault_here reason.WrongKind) refl)
+    list_fine x y i ti d (Some (fields l v)) none = absurd (none (pack_fault_here reason.WrongKind) refl)
     list_fine x y i ti d (Some (items vs)) none = go (tree_decides (value_at fs y i) (num (pos (length (list_of vs))))) (items_decided (C x) (F x) d (list_of vs) 0).either
       where
-        go : (value_at fs y i ≡ Some (num (pos (length (list_of vs))))) ⊎ (value_at fs y i ≡ Some (num (pos (length (list_of vs)))) → ⊥) → ((b : Bits) × ItemsSpell (C x) (list_of vs) b) ⊎ ((g : Where) × ItemFails (F x) 0 (list_of vs) g) → (m : ℕ) × (list_size t size fs x (value_at fs y i) (Some (items vs)) ≡ Ok m)
-        go (inr ne) r = absurd (none (here reason.CountWrong) (inl (ne, refl)))
+        go : (value_at fs y i ≡ Some (num (pos (length (list_of vs))))) ⊎ (value_at fs y i ≡ Some (num (pos (length (list_of vs)))) → ⊥) → ((b : Bits) × ItemsSpell (C x) (list_of vs) b) ⊎ ((g : PackFault) × ItemPackFails (F x) 0 (list_of vs) g) → (m : ℕ) × (list_size t size fs x (value_at fs y i) (Some (items vs)) ≡ Ok m)
+        go (inr ne) r = absurd (none (pack_fault_here reason.CountWrong) (inl (ne, refl)))
         go (inl e) (inr r) = absurd (none r.0 (inr (e, r.1)))
         go (inl e) (inl r) = (
           0 + length r.0,
-          ap (λ c. cond c (items_size (size x) 0 0 (list_of vs)) (Err (here reason.CountWrong))) (tells_true (value_at fs y i) (length (list_of vs)) e)
+          ap (λ c. cond c (items_size (size x) 0 0 (list_of vs)) (Err (pack_fault_here reason.CountWrong))) (tells_true (value_at fs y i) (length (list_of vs)) e)
               ∙ items_spelled (size x) (C x) (F x) ti d (list_of vs) 0 0 r.0 r.1,
         )
 
-    entry_fine : (p : Placed) (x : ℕ) (o : Option Plain) → ((v : Plain) → Ties (size x v) (C x v) (F x v)) → ((v : Plain) → Decided (C x v) (F x v)) → ((w : Where) → ((v : Plain) × (o ≡ Some v) × F x v w) → ⊥) → (m : ℕ) × (entry_size t size fs x o ≡ Ok m)
+    entry_fine : (p : Placed) (x : ℕ) (o : Option Plain) → ((v : Plain) → Ties (size x v) (C x v) (F x v)) → ((v : Plain) → Decided (C x v) (F x v)) → ((w : PackFault) → ((v : Plain) × (o ≡ Some v) × F x v w) → ⊥) → (m : ℕ) × (entry_size t size fs x o ≡ Ok m)
     entry_fine p x None ti d none = (0, refl)
     entry_fine p x (Some v) ti d none = (bits_in (size x v), tied_fine x v (ti v) (d v) (λ g h. none g (v, refl, h)))
 
@@ -262,17 +262,17 @@ module _ (t : Table) (is : IsTable t) (can : Facts t) (n : ℕ) (size : ℕ → 
 
     station_fine : (s : Station) (before : ℕ) → IsKnown s → Sound s → At0 before s ≡ Ok (station_bits s)
     station_fine (condition y c) before i h = elim (cases_Bool (holds t fs c)) [
-      | inl e ↦ ap (λ b. cond b (Ok 0) (Err (reason.Constraint, path_steps c.path))) e
-      | inr e ↦ absurd (h (reason.Constraint, path_steps c.path) ((λ q. both_ways (holds t fs c) e (holds_in t fs c q)), refl))
+      | inl e ↦ ap (λ b. cond b (Ok 0) (Err (pack_fault_at reason.Constraint (path_steps c.path)))) e
+      | inr e ↦ absurd (h (pack_fault_at reason.Constraint (path_steps c.path)) ((λ q. both_ways (holds t fs c) e (holds_in t fs c q)), refl))
     ]
     station_fine (entry p) before i h =
-        let m = part_fine p p.part i.0 i.1 i.2 (λ w x. h (behind (part_step p) w) (w, x, refl)) in
-        ap (inside (part_step p)) (ok_bits (PartSize fs p p.part) m.0 m.1)
+        let m = part_fine p p.part i.0 i.1 i.2 (λ w x. h (pack_fault_behind (part_step p) w) (w, x, refl)) in
+        ap (size_inside (part_step p)) (ok_bits (PartSize fs p p.part) m.0 m.1)
     station_fine (choice y) before i h = go (candidate_under t k fs) refl
       where
         go : (o : Option ℕ) → candidate_under t k fs ≡ o → choice_size t size fs k o ≡ Ok 0
         go None e = refl
-        go (Some l) e = let c = found_is t k fs l e in absurd (h (reason.NotMostDerived, step.Choice (id_of k) ∷ []) (l, c.0, (c.1).under, c.1, refl))
+        go (Some l) e = let c = found_is t k fs l e in absurd (h (pack_fault_at reason.NotMostDerived (step.Choice (id_of k) ∷ [])) (l, c.0, (c.1).under, c.1, refl))
     station_fine end before i h = absurd i
 
     abbrev Goes : ℕ → List Station → Size
@@ -285,7 +285,7 @@ module _ (t : Table) (is : IsTable t) (can : Facts t) (n : ℕ) (size : ℕ → 
         ∙ all_fine ss rest (before + station_bits s) i.1 h.1
         ∙ ap (λ m. Goes m rest) (omega arith)
 
-    first_fails : (ss rest : List Station) (before : ℕ) (g : Where) → AllByRecursion IsKnown ss → FirstFails t F fs NoSize k ss g → Goes before (ss ++ rest) ≡ Err g
+    first_fails : (ss rest : List Station) (before : ℕ) (g : PackFault) → AllByRecursion IsKnown ss → FirstPackFails t F fs NoSize k ss g → Goes before (ss ++ rest) ≡ Err g
     first_fails [] rest before g i h = absurd h
     first_fails (s ∷ ss) rest before g i (inl h) = ap (λ r. after r (λ m. Goes (before + m) (ss ++ rest))) (station_fails s before g i.0 h)
     first_fails (s ∷ ss) rest before g i (inr h) = ap (λ r. after r (λ m. Goes (before + m) (ss ++ rest))) (station_fine s before i.0 h.0) ∙ first_fails ss rest (before + station_bits s) g i.1 h.1
@@ -313,11 +313,11 @@ module _ (t : Table) (is : IsTable t) (can : Facts t) (n : ℕ) (size : ℕ → 
     condition_bits y [] = refl
     condition_bits y (c ∷ cs) = let h = condition_bits y cs in omega arith
 
-    own_bits : (ys : List ℕ) → all_bits (flat_map (own t) ys) ≡ sum_of fs (flat_map (placed_entries t) ys)
+    own_bits : (ys : List ℕ) → all_bits (flat_map (own_stations t) ys) ≡ sum_of fs (flat_map (placed_entries t) ys)
     own_bits [] = refl
     own_bits (y ∷ ys) =
         let h = own_bits ys in
-        let a = more_bits (own t y) (flat_map (own t) ys) in
+        let a = more_bits (own_stations t y) (flat_map (own_stations t) ys) in
         let b = more_bits (map (condition y) (constraints_of t y)) (map entry (placed_entries t y)) in
         let c = condition_bits y (constraints_of t y) in
         let d = entry_bits (placed_entries t y) in
@@ -327,7 +327,7 @@ module _ (t : Table) (is : IsTable t) (can : Facts t) (n : ℕ) (size : ℕ → 
     front_bits : all_bits (front t k) ≡ sum_of fs (sequence t k)
     front_bits =
         let ts = flat_map (placed_trailers t) (reverse (chain t k)) in
-        let a = more_bits (flat_map (own t) (chain t k)) (choice k ∷ map entry ts) in
+        let a = more_bits (flat_map (own_stations t) (chain t k)) (choice k ∷ map entry ts) in
         let b = own_bits (chain t k) in
         let c = entry_bits ts in
         let d = more_parts (flat_map (placed_entries t) (chain t k)) ts in
@@ -408,7 +408,7 @@ module _ (t : Table) (is : IsTable t) (can : Facts t) (n : ℕ) (size : ℕ → 
     total = all_bits (front t k)
 
     abbrev ends : Bool → Size
-    ends b = after (cond b (Ok 0) (Err (reason.LengthField, length_path t k))) (λ m. Goes (total + m) [])
+    ends b = after (cond b (Ok 0) (Err (pack_fault_at reason.LengthField (length_path t k)))) (λ m. Goes (total + m) [])
 
     goes_on : AllByRecursion Sound (front t k) → own_size t size k f ≡ ends (list_all (Fit (octets_for total)) (sequence t k))
     goes_on h = ap (Goes 0) (course_is t k) ∙ all_fine (front t k) (end ∷ []) 0 front_known h ∙ ap (λ m. Goes m (end ∷ [])) (omega arith)
@@ -423,10 +423,10 @@ module _ (t : Table) (is : IsTable t) (can : Facts t) (n : ℕ) (size : ℕ → 
         ∙ ap ends (all_fit (octets_for total) (sequence t k) None ties (can.scaled k) (can.once k) c.0 told)
         ∙ ap (λ m. Ok m) (omega (arith, long))
 
-    pub own_fails : HasFields t k f → (g : Where) → FirstFails t F fs NoSize k (course t k k) g → own_size t size k f ≡ Err g
-    own_fails h g x = go (first_split (front t k) (subst (λ ss. FirstFails t F fs NoSize k ss g) (course_is t k) x))
+    pub own_fails : HasFields t k f → (g : PackFault) → FirstPackFails t F fs NoSize k (course t k k) g → own_size t size k f ≡ Err g
+    own_fails h g x = go (first_split (front t k) (subst (λ ss. FirstPackFails t F fs NoSize k ss g) (course_is t k) x))
       where
-        first_split : (ss : List Station) → FirstFails t F fs NoSize k (ss ++ end ∷ []) g → FirstFails t F fs NoSize k ss g ⊎ (AllByRecursion Sound ss × Stops end g)
+        first_split : (ss : List Station) → FirstPackFails t F fs NoSize k (ss ++ end ∷ []) g → FirstPackFails t F fs NoSize k ss g ⊎ (AllByRecursion Sound ss × Stops end g)
         first_split [] (inl h) = inr (tt, h)
         first_split [] (inr h) = absurd h.1
         first_split (s ∷ ss) (inl h) = inl (inl h)
@@ -438,7 +438,7 @@ module _ (t : Table) (is : IsTable t) (can : Facts t) (n : ℕ) (size : ℕ → 
             let w = built t is can n id k f known h s c.0 in
             none w.u w.b w.passes w.fields (told_fits t is can n w.u.octets (tell_all C (sequence t k) c.0 None) (length w.u.before) total w.octets (long_before w.u w.b w.passes ∙ run_bits h w.u w.b w.fields w.passes) c.1)
 
-        go : (FirstFails t F fs NoSize k (front t k) g ⊎ (AllByRecursion Sound (front t k) × Stops end g)) → own_size t size k f ≡ Err g
+        go : (FirstPackFails t F fs NoSize k (front t k) g ⊎ (AllByRecursion Sound (front t k) × Stops end g)) → own_size t size k f ≡ Err g
         go (inl q) = ap (Goes 0) (course_is t k) ∙ first_fails (front t k) (end ∷ []) 0 g front_known q
         go (inr q) = goes_on q.0 ∙ ap ends (false_from_ne_true (list_all (Fit (octets_for total)) (sequence t k)) (at_end q.0 (q.1).0)) ∙ ap (λ z. Err z) (sym (q.1).1)
 
@@ -455,13 +455,13 @@ module _ (t : Table) (is : IsTable t) (can : Facts t) (n : ℕ) (size : ℕ → 
     one_from e = let p = and_parts (is_some (container_of t k)) (length f == valued (sequence t k)) e in record { container = p.0; count = eqb-true (length f) (valued (sequence t k)) p.1 }
 
     abbrev first_by : Bool → Size
-    first_by b = cond b (derived_size t size id k f) (Err (here reason.WrongKind))
+    first_by b = cond b (derived_size t size id k f) (Err (pack_fault_here reason.WrongKind))
 
     abbrev second_by : Bool → Size
-    second_by b = cond b (concrete_size t size k f) (Err (reason.NotDerived, step.Choice (id_of k) ∷ []))
+    second_by b = cond b (concrete_size t size k f) (Err (pack_fault_at reason.NotDerived (step.Choice (id_of k) ∷ [])))
 
     abbrev third_by : Bool → Size
-    third_by b = cond b (own_size t size k f) (Err (reason.Abstract, step.Choice (id_of k) ∷ []))
+    third_by b = cond b (own_size t size k f) (Err (pack_fault_at reason.Abstract (step.Choice (id_of k) ∷ [])))
 
     has_under : IsAtOrUnder t id k → list_has (chain t k) id ≡ true
     has_under u = has_in (chain t k) id u.before u.after u.is
@@ -471,7 +471,7 @@ module _ (t : Table) (is : IsTable t) (can : Facts t) (n : ℕ) (size : ℕ → 
         let h = fields_of t is can n id k f (known_of k) b sp in
         ap first_by (one_true h) ∙ ap second_by (has_under sp.under) ∙ ap third_by sp.concrete ∙ own_spelled id k f (known_of k sp.under) (ties_of k sp.under) h b sp
 
-    pub fields_fail : (g : Where) → ContainerPackFails t C F id k f g → fields_size t size id k f ≡ Err g
+    pub fields_fail : (g : PackFault) → ContainerPackFails t C F id k f g → fields_size t size id k f ≡ Err g
     fields_fail g (inl h) = ap first_by (false_from_ne_true is_one (λ e. h.0 (one_from e))) ∙ ap (λ z. Err z) (sym h.1)
     fields_fail g (inr (inl h)) = ap first_by (one_true h.0) ∙ ap second_by (false_from_ne_true (list_has (chain t k) id) (λ e. h.1 (has_from (chain t k) id e))) ∙ ap (λ z. Err z) (sym h.2)
     fields_fail g (inr (inr (inl h))) = ap first_by (one_true h.0) ∙ ap second_by (has_under h.1) ∙ ap third_by h.2 ∙ ap (λ z. Err z) (sym h.3)

@@ -10,8 +10,8 @@ use Rattle.eds_types.specs.declared.row.Container.{Container}
 use Rattle.eds_types.specs.declared.row.Kind.{Kind}
 use Rattle.eds_types.specs.declared.row.Kind.TheVariants as kind
 use Rattle.eds_types.specs.Fields.{IsAtOrUnder}
-use Rattle.eds_types.specs.Packing.{Where, here, shape, KindPackFails, PackFailsWithin, PackFailsAt, most_bits}
-use Rattle.eds_types.specs.PackedSizes.{Size, container_size, kind_size, row_size, size_within, not_long, packed_size, packs, Packs, IsExact, SizesAreExact}
+use Rattle.eds_types.specs.Packing.{PackFault, pack_fault_here, IsOfKind, KindPackFails, PackFailsWithin, PackFailsAt, most_bits}
+use Rattle.eds_types.specs.PackedSizes.{Size, container_size, packed_kind_size, packed_row_size, packed_size_within, not_long, packed_size, packs, Packs, IsExact, SizesAreExact}
 use Rattle.eds_types.specs.Plain.{Plain, fields, list_of}
 use Rattle.eds_types.specs.Rows.{Table, Placed, sequence}
 use Rattle.eds_types.specs.Rules.{KeepsRules}
@@ -29,17 +29,17 @@ use Rattle.eds_types.proofs.TableFacts.{Facts}
 
 module _ (t : Table) (is : IsTable t) (can : Facts t) where
   abbrev TiedWithin : ℕ → ℕ → Type 0
-  TiedWithin n x = (v : Plain) → Ties (size_within n t x v) (SpellsWithin n canonical t x v) (PackFailsWithin n t x v)
+  TiedWithin n x = (v : Plain) → Ties (packed_size_within n t x v) (SpellsWithin n canonical t x v) (PackFailsWithin n t x v)
 
   module _ (n : ℕ) (ih : (x : ℕ) → is.rank x < n → x < length t → TiedWithin n x) (id : ℕ) (low : is.rank id < suc n) where
     abbrev C : ℕ → Plain → Bits → Type 0
     C = SpellsWithin n canonical t
 
-    abbrev F : ℕ → Plain → Where → Type 0
+    abbrev F : ℕ → Plain → PackFault → Type 0
     F = PackFailsWithin n t
 
     abbrev S : ℕ → Plain → Size
-    S = size_within n t
+    S = packed_size_within n t
 
     ties_of : (k : ℕ) → IsAtOrUnder t id k → AllByRecursion (λ (p : Placed). TypesTied t is can n S p.part) (sequence t k)
     ties_of k u = All-weaker (λ (p : Placed). IsPartType t is.rank id p.part) (λ (p : Placed). TypesTied t is can n S p.part) (λ p l x e. let h = l.lower x e in let r = h.0 in ih x (omega arith) h.1) (sequence t k) (sequence_lower t is id k u)
@@ -56,11 +56,11 @@ module _ (t : Table) (is : IsTable t) (can : Facts t) where
       ];
     }
       where
-        other : (v : Plain) → (shape v ≡ 6 → ⊥) → container_size t S id v ≡ Err (here reason.WrongKind)
-        other (fields k f) h = absurd (h refl)
+        other : (v : Plain) → (IsOfKind (kind.Con c) v → ⊥) → container_size t S id v ≡ Err (pack_fault_here reason.WrongKind)
+        other (fields k f) h = absurd (h tt)
         other v h = refl
 
-    kind_ties : (k : Kind) → IsItemType t is.rank id k → (v : Plain) → Ties (kind_size t S id k v) (KindSpells canonical t C id k v) (KindPackFails t C F id k v)
+    kind_ties : (k : Kind) → IsItemType t is.rank id k → (v : Plain) → Ties (packed_kind_size t S id k v) (KindSpells canonical t C id k v) (KindPackFails t C F id k v)
     kind_ties (kind.Int form spans) i v = int_ties t C F id form spans v
     kind_ties (kind.Enum form listing) i v = enum_ties t C F id form listing v
     kind_ties (kind.Bool form) i v = bool_ties t C F id form v
@@ -70,48 +70,48 @@ module _ (t : Table) (is : IsTable t) (can : Facts t) where
     kind_ties (kind.Con c) i v = con_ties c v
 
   ties_within : (n id : ℕ) → is.rank id < n → TiedWithin n id
-  unfolding size_within SpellsWithin PackFailsWithin
+  unfolding packed_size_within SpellsWithin PackFailsWithin
   ties_within zero id h v = absurd (omega arith)
   ties_within (suc n) id h v = record {
-    spelled = λ b p. ap (λ o. row_size t (size_within n t) id o v) p.1 ∙ (kind_ties n (λ x r l. ties_within n x r) id h (p.0).kind (is.items id p.0 p.1) v).spelled b p.2;
-    fails = λ g f. ap (λ o. row_size t (size_within n t) id o v) f.1 ∙ (kind_ties n (λ x r l. ties_within n x r) id h (f.0).kind (is.items id f.0 f.1) v).fails g f.2;
+    spelled = λ b p. ap (λ o. packed_row_size t (packed_size_within n t) id o v) p.1 ∙ (kind_ties n (λ x r l. ties_within n x r) id h (p.0).kind (is.items id p.0 p.1) v).spelled b p.2;
+    fails = λ g f. ap (λ o. packed_row_size t (packed_size_within n t) id o v) f.1 ∙ (kind_ties n (λ x r l. ties_within n x r) id h (f.0).kind (is.items id f.0 f.1) v).fails g f.2;
   }
 
 ok_is : (m n : ℕ) → ◌≡◌ {A = Size} (Ok m) (Ok n) → m ≡ n
 ok_is m n e = cc
 
-err_is : (g h : Where) → ◌≡◌ {A = Size} (Err g) (Err h) → g ≡ h
+err_is : (g h : PackFault) → ◌≡◌ {A = Size} (Err g) (Err h) → g ≡ h
 err_is g h e = cc
 
-not_both : {P : Type 0} (r : Size) (n : ℕ) (g : Where) → r ≡ Ok n → r ≡ Err g → P
+not_both : {P : Type 0} (r : Size) (n : ℕ) (g : PackFault) → r ≡ Ok n → r ≡ Err g → P
 not_both r n g e h = absurd (let z : ◌≡◌ {A = Size} (Ok n) (Err g) = sym e ∙ h in cc)
 
 module _ (t : Table) (id : ℕ) (rules : KeepsRules t) (there : id < length t) (v : Plain) where
-  ties : Ties (size_within 32 t id v) (SpellsWithin 32 canonical t id v) (PackFailsWithin 32 t id v)
+  ties : Ties (packed_size_within 32 t id v) (SpellsWithin 32 canonical t id v) (PackFailsWithin 32 t id v)
   ties = let is = table_of t rules in ties_within t is (facts_of t rules) 32 id (is.nested id) v
 
   d : Decided (SpellsWithin 32 canonical t id v) (PackFailsWithin 32 t id v)
   d = let is = table_of t rules in packs_within t is (facts_of t rules) 32 id (is.nested id) there v
 
   size_there : (n : ℕ) → Packs t id v n → packed_size t id v ≡ Ok n
-  size_there n p = ap not_long (ties.spelled p.0 p.1 ∙ ap (λ m. Ok m) p.2) ∙ ap (λ b. cond b (Ok n) (Err (here reason.TooLong))) (le-leb n most_bits p.3)
+  size_there n p = ap not_long (ties.spelled p.0 p.1 ∙ ap (λ m. Ok m) p.2) ∙ ap (λ b. cond b (Ok n) (Err (pack_fault_here reason.TooLong))) (le-leb n most_bits p.3)
 
-  fault_there : (g : Where) → PackFailsAt t id v g → packed_size t id v ≡ Err g
+  fault_there : (g : PackFault) → PackFailsAt t id v g → packed_size t id v ≡ Err g
   fault_there g (inl f) = ap not_long (ties.fails g f)
   fault_there g (inr f) =
       let l = f.0 in
       let long = l.long in
       ap not_long (ties.spelled l.spelling l.is)
-      ∙ ap (λ b. cond b (Ok (length l.spelling)) (Err (here reason.TooLong))) (false_from_ne_true (nat_le (length l.spelling) most_bits) (λ e. let k = leb-true (length l.spelling) most_bits e in omega arith))
+      ∙ ap (λ b. cond b (Ok (length l.spelling)) (Err (pack_fault_here reason.TooLong))) (false_from_ne_true (nat_le (length l.spelling) most_bits) (λ e. let k = leb-true (length l.spelling) most_bits e in omega arith))
       ∙ ap (λ z. Err z) (sym f.1)
 
-  outcome : ((n : ℕ) × Packs t id v n) ⊎ ((g : Where) × PackFailsAt t id v g)
+  outcome : ((n : ℕ) × Packs t id v n) ⊎ ((g : PackFault) × PackFailsAt t id v g)
   outcome = go d.either
     where
-      go : ((b : Bits) × Canon t id v b) ⊎ ((g : Where) × PackFailsWithin 32 t id v g) → ((n : ℕ) × Packs t id v n) ⊎ ((g : Where) × PackFailsAt t id v g)
+      go : ((b : Bits) × Canon t id v b) ⊎ ((g : PackFault) × PackFailsWithin 32 t id v g) → ((n : ℕ) × Packs t id v n) ⊎ ((g : PackFault) × PackFailsAt t id v g)
       go (inr f) = inr (f.0, inl f.1)
       go (inl s) = elim (cases_lt most_bits (length s.0)) [
-        | inl long ↦ inr (here reason.TooLong, inr (record { nothing_else = λ w f. d.apart s.0 w s.1 f; spelling = s.0; is = s.1; long = long }, refl))
+        | inl long ↦ inr (pack_fault_here reason.TooLong, inr (record { nothing_else = λ w f. d.apart s.0 w s.1 f; spelling = s.0; is = s.1; long = long }, refl))
         | inr short ↦ inl (length s.0, (s.0, s.1, refl, short))
       ]
 
@@ -121,7 +121,7 @@ module _ (t : Table) (id : ℕ) (rules : KeepsRules t) (there : id < length t) (
     | inr f ↦ not_both (packed_size t id v) n f.0 e (fault_there f.0 f.1)
   ]
 
-  packs_fault : (g : Where) → packed_size t id v ≡ Err g → PackFailsAt t id v g
+  packs_fault : (g : PackFault) → packed_size t id v ≡ Err g → PackFailsAt t id v g
   packs_fault g e = elim outcome [
     | inl p ↦ not_both (packed_size t id v) p.0 g (size_there p.0 p.1) e
     | inr f ↦ subst (PackFailsAt t id v) (err_is f.0 g (sym (fault_there f.0 f.1) ∙ e)) f.1

@@ -25,7 +25,7 @@ use Rattle.eds_types.proofs.ScalarReading.{size_of}
 use Rattle.eds_types.specs.Rules.{KindKeeps, IsValueOf, HasKind}
 use Rattle.eds_types.proofs.SpellingSizes.{same_row}
 use Rattle.eds_types.specs.Fields.{Field, listed, type_by, IsAtOrUnder}
-use Rattle.eds_types.specs.Packing.{Where, here, ItemFails, shape, ContainerPackFails, OfKindFails, KindPackFails, PackFailsWithin}
+use Rattle.eds_types.specs.Packing.{PackFault, pack_fault_here, ItemPackFails, IsOfKind, ContainerPackFails, OfKindFails, KindPackFails, PackFailsWithin}
 use Rattle.eds_types.specs.Plain.{Plain, num, bits, items, fields, Plains, list_of, plain}
 use Rattle.eds_types.specs.Rows.{Table, Placed, sequence}
 use Rattle.eds_types.specs.Spelling.{BinHas, ContainerSpells, ItemsSpell, KindSpells, SpellsWithin}
@@ -44,7 +44,7 @@ module _ (t : Table) (is : IsTable t) (can : Facts t) where
       go (Some n) e s = let c = has_canonical form n (listed_number form listing x.0 n h.of_form e) in (c.0, (x.0, n, x.1, e, c.1))
   fixed_kind E id (kind.Bool form) v h x = let c = bool_exists form x.0 in (c.0, (x.0, x.1, c.1))
   fixed_kind E id (kind.Str form) v h x = let c = text_exists form.length form.fixed form.ascii form.stop (size_of form) x.0 x.2 x.3 in (c.0, (x.0, x.1, c.1))
-  fixed_kind E id (kind.Bin m free) v h x = let f = x.3 in (f.0, (subst (λ q. BinHas m q (length f.0)) (sym x.1) f.1, x.2 ∙ ap (λ k. bits k x.0) (sym f.1) ∙ ap (bits (length f.0)) (sym f.2)))
+  fixed_kind E id (kind.Bin n free) v h x = let f = x.4 in (f.0, (subst (BinHas n free) (sym f.1) x.3, x.2 ∙ ap (λ k. bits k x.1) (sym f.1) ∙ ap (bits (length f.0)) (sym f.2)))
   fixed_kind E id (kind.Arr item m) v h x = absurd x
   fixed_kind E id (kind.Con c) v h x = absurd x
 
@@ -127,45 +127,45 @@ module _ (t : Table) (is : IsTable t) (can : Facts t) where
     abbrev CN : ℕ → Plain → Bits → Type 0
     CN = SpellsWithin n canonical t
 
-    abbrev FN : ℕ → Plain → Where → Type 0
+    abbrev FN : ℕ → Plain → PackFault → Type 0
     FN = PackFailsWithin n t
 
     items_is : (vs ws : Plains) → items vs ≡ items ws → vs ≡ ws
     items_is vs ws e = cc
 
     array_decided : (item : TypeId) (m : ℕ) → DecidedWithin n item.0 → (v : Plain) → Decided (KindSpells canonical t CN id (kind.Arr item m) v) (KindPackFails t CN FN id (kind.Arr item m) v)
-    array_decided item m d (items vs) = of_kind t CN FN id (kind.Arr item m) (items vs) (KindSpells canonical t CN id (kind.Arr item m) (items vs)) (λ b p. ap shape p.1) (λ g f. ap shape f.1) (go (cases_eq (length (list_of vs)) m))
+    array_decided item m d (items vs) = of_kind t CN FN id (kind.Arr item m) (items vs) (KindSpells canonical t CN id (kind.Arr item m) (items vs)) (λ b p. subst (IsOfKind (kind.Arr item m)) (sym p.1) tt) (λ g f. subst (IsOfKind (kind.Arr item m)) (sym f.1) tt) (go (cases_eq (length (list_of vs)) m))
       where
         Spelt : Bits → Type 0
         Spelt b = KindSpells canonical t CN id (kind.Arr item m) (items vs) b
 
         go : ((length (list_of vs) ≡ m) ⊎ (length (list_of vs) ≡ m → ⊥)) → Decided (KindSpells canonical t CN id (kind.Arr item m) (items vs)) (OfKindFails t CN FN id (kind.Arr item m) (items vs))
-        go (inr ne) = refused (KindSpells canonical t CN id (kind.Arr item m) (items vs)) (OfKindFails t CN FN id (kind.Arr item m) (items vs)) (here reason.WrongSize) (vs, refl, inl (ne, refl)) (λ b p. ne (ap (λ w. length (list_of w)) (items_is vs p.0 p.1) ∙ p.2)) only_size
+        go (inr ne) = refused (KindSpells canonical t CN id (kind.Arr item m) (items vs)) (OfKindFails t CN FN id (kind.Arr item m) (items vs)) (pack_fault_here reason.WrongSize) (vs, refl, inl (ne, refl)) (λ b p. ne (ap (λ w. length (list_of w)) (items_is vs p.0 p.1) ∙ p.2)) only_size
           where
-            only_size : (g : Where) → OfKindFails t CN FN id (kind.Arr item m) (items vs) g → g ≡ here reason.WrongSize
+            only_size : (g : PackFault) → OfKindFails t CN FN id (kind.Arr item m) (items vs) g → g ≡ pack_fault_here reason.WrongSize
             only_size g f = elim (f.2) [ inl k ↦ k.1 | inr k ↦ absurd (ne (ap (λ w. length (list_of w)) (items_is vs f.0 f.1) ∙ k.0)) ]
-        go (inl l) = decided_as (ItemsSpell (CN item.0) (list_of vs)) (KindSpells canonical t CN id (kind.Arr item m) (items vs)) (ItemFails (FN item.0) 0 (list_of vs)) (OfKindFails t CN FN id (kind.Arr item m) (items vs)) (items_decided (CN item.0) (FN item.0) d (list_of vs) 0)
+        go (inl l) = decided_as (ItemsSpell (CN item.0) (list_of vs)) (KindSpells canonical t CN id (kind.Arr item m) (items vs)) (ItemPackFails (FN item.0) 0 (list_of vs)) (OfKindFails t CN FN id (kind.Arr item m) (items vs)) (items_decided (CN item.0) (FN item.0) d (list_of vs) 0)
             (λ b s. (vs, refl, l, s)) (λ b p. subst (λ w. ItemsSpell (CN item.0) (list_of w) b) (sym (items_is vs p.0 p.1)) p.3)
             (λ g f. (vs, refl, inr (l, f))) only_items
           where
-            only_items : (g : Where) → OfKindFails t CN FN id (kind.Arr item m) (items vs) g → ItemFails (FN item.0) 0 (list_of vs) g
-            only_items g f = let e = items_is vs f.0 f.1 in elim (f.2) [ inl k ↦ absurd (k.0 (ap (λ w. length (list_of w)) (sym e) ∙ l)) | inr k ↦ subst (λ w. ItemFails (FN item.0) 0 (list_of w) g) (sym e) k.1 ]
-    array_decided item m d v = of_other_kind t CN FN id (kind.Arr item m) v (KindSpells canonical t CN id (kind.Arr item m) v) (λ b p. ap shape p.1) (λ g f. ap shape f.1) (λ e. omega arith)
+            only_items : (g : PackFault) → OfKindFails t CN FN id (kind.Arr item m) (items vs) g → ItemPackFails (FN item.0) 0 (list_of vs) g
+            only_items g f = let e = items_is vs f.0 f.1 in elim (f.2) [ inl k ↦ absurd (k.0 (ap (λ w. length (list_of w)) (sym e) ∙ l)) | inr k ↦ subst (λ w. ItemPackFails (FN item.0) 0 (list_of w) g) (sym e) k.1 ]
+    array_decided item m d v = of_other_kind t CN FN id (kind.Arr item m) v (KindSpells canonical t CN id (kind.Arr item m) v) (λ b p. subst (IsOfKind (kind.Arr item m)) (sym p.1) tt) (λ g f. subst (IsOfKind (kind.Arr item m)) (sym f.1) tt) (λ e. e)
 
     fields_is : (k l : ℕ) (f h : Plains) → fields k f ≡ fields l h → (k ≡ l) × (f ≡ h)
     fields_is k l f h e = (cc, cc)
 
     con_decided : (c : Container) (v : Plain) → Decided (KindSpells canonical t CN id (kind.Con c) v) (KindPackFails t CN FN id (kind.Con c) v)
-    con_decided c (fields k f) = of_kind t CN FN id (kind.Con c) (fields k f) (KindSpells canonical t CN id (kind.Con c) (fields k f)) (λ b p. ap shape p.2) (λ g q. ap shape q.2)
+    con_decided c (fields k f) = of_kind t CN FN id (kind.Con c) (fields k f) (KindSpells canonical t CN id (kind.Con c) (fields k f)) (λ b p. subst (IsOfKind (kind.Con c)) (sym p.2) tt) (λ g q. subst (IsOfKind (kind.Con c)) (sym q.2) tt)
         (decided_as (ContainerSpells canonical t CN id k (list_of f)) (KindSpells canonical t CN id (kind.Con c) (fields k f)) (ContainerPackFails t CN FN id k (list_of f)) (OfKindFails t CN FN id (kind.Con c) (fields k f)) (container_decided t is can n id k (list_of f) (known_of k))
         (λ b sp. (k, f, refl, sp)) back (λ g q. (k, f, refl, q)) fault)
       where
         back : (b : Bits) → KindSpells canonical t CN id (kind.Con c) (fields k f) b → ContainerSpells canonical t CN id k (list_of f) b
         back b p = let e = fields_is k p.0 f p.1 p.2 in subst (λ x. ContainerSpells canonical t CN id x (list_of f) b) (sym e.0) (subst (λ y. ContainerSpells canonical t CN id p.0 (list_of y) b) (sym e.1) p.3)
 
-        fault : (g : Where) → OfKindFails t CN FN id (kind.Con c) (fields k f) g → ContainerPackFails t CN FN id k (list_of f) g
+        fault : (g : PackFault) → OfKindFails t CN FN id (kind.Con c) (fields k f) g → ContainerPackFails t CN FN id k (list_of f) g
         fault g p = let e = fields_is k p.0 f p.1 p.2 in subst (λ x. ContainerPackFails t CN FN id x (list_of f) g) (sym e.0) (subst (λ y. ContainerPackFails t CN FN id p.0 (list_of y) g) (sym e.1) p.3)
-    con_decided c v = of_other_kind t CN FN id (kind.Con c) v (KindSpells canonical t CN id (kind.Con c) v) (λ b p. ap shape p.2) (λ g q. ap shape q.2) (λ e. omega arith)
+    con_decided c v = of_other_kind t CN FN id (kind.Con c) v (KindSpells canonical t CN id (kind.Con c) v) (λ b p. subst (IsOfKind (kind.Con c)) (sym p.2) tt) (λ g q. subst (IsOfKind (kind.Con c)) (sym q.2) tt) (λ e. e)
 
     kind_decided : (k : Kind) → IsItemType t is.rank id k → KindKeeps k → (v : Plain) → Decided (KindSpells canonical t CN id k v) (KindPackFails t CN FN id k v)
     kind_decided (kind.Int form spans) i h v = int_decided t CN FN id form spans h v

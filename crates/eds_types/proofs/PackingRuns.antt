@@ -19,8 +19,8 @@ use Rattle.eds_types.proofs.TableFacts.{ListFits, ListsFit}
 use Rattle.eds_types.proofs.SameValues.{same-is, is-same}
 use Rattle.eds_types.proofs.SpellingSizes.{canon_spells, part_any, added_same}
 use Rattle.eds_types.proofs.CanonicalPatterns.{zeros_false, length-zeros, zeros_zero}
-use Rattle.eds_types.specs.Fields.{Field, value_at, has_value, paired, type_by}
-use Rattle.eds_types.specs.Packing.{Where, here, ItemFails, ListFails, PartFails, valued, PackFailsWithin}
+use Rattle.eds_types.specs.Fields.{Field, value_at, has_value, paired, type_by, field_of}
+use Rattle.eds_types.specs.Packing.{PackFault, pack_fault_here, ItemPackFails, ListPackFails, PartPackFails, valued, PackFailsWithin}
 use Rattle.eds_types.specs.Plain.{Plain, num, label, truth, text, bits, items, fields, Plains, list_of, plain}
 use Rattle.eds_types.specs.Reading.{same}
 use Rattle.eds_types.specs.Rows.{Table, Placed}
@@ -30,9 +30,9 @@ use Rattle.eds_types.proofs.AllOf.{All-weaker, All-both, All-pair}
 -- ---- values with their parts
 
 pair_by : Placed → List Placed → Plain → List Plain → Bool → List Field
-pair_by p ps v vs b = cond b ((p.container, p.place, v) ∷ paired ps vs) (paired ps (v ∷ vs))
+pair_by p ps v vs b = cond b ((field_of p v) ∷ paired ps vs) (paired ps (v ∷ vs))
 
-pub paired_on : (p : Placed) (ps : List Placed) (v : Plain) (vs : List Plain) → has_value p.part ≡ true → paired (p ∷ ps) (v ∷ vs) ≡ (p.container, p.place, v) ∷ paired ps vs
+pub paired_on : (p : Placed) (ps : List Placed) (v : Plain) (vs : List Plain) → has_value p.part ≡ true → paired (p ∷ ps) (v ∷ vs) ≡ (field_of p v) ∷ paired ps vs
 unfolding pair_by
 paired_on p ps v vs e = ap (pair_by p ps v vs) e
 
@@ -61,30 +61,30 @@ module _ (fs : List Field) where
     v : Plain
     rest : List Plain
     there : value_at fs p.container p.place ≡ Some v
-    at : At (done ++ p ∷ []) ps (l ++ (p.container, p.place, v) ∷ []) rest
+    at : At (done ++ p ∷ []) ps (l ++ (field_of p v) ∷ []) rest
 
-  fresh_next : (p : Placed) (ps : List Placed) (l : List Field) (v : Plain) → AllByRecursion (λ (q : Placed). AllByRecursion (IsOther q.container q.place) l) ps → AllByRecursion (Apart p) ps → AllByRecursion (λ (q : Placed). AllByRecursion (IsOther q.container q.place) (l ++ (p.container, p.place, v) ∷ [])) ps
+  fresh_next : (p : Placed) (ps : List Placed) (l : List Field) (v : Plain) → AllByRecursion (λ (q : Placed). AllByRecursion (IsOther q.container q.place) l) ps → AllByRecursion (Apart p) ps → AllByRecursion (λ (q : Placed). AllByRecursion (IsOther q.container q.place) (l ++ (field_of p v) ∷ [])) ps
   unfolding IsOther
   fresh_next p ps l v h k =
-      All-weaker (λ (q : Placed). AllByRecursion (IsOther q.container q.place) l × Apart p q) (λ (q : Placed). AllByRecursion (IsOther q.container q.place) (l ++ (p.container, p.place, v) ∷ []))
-      (λ q g. All-both (IsOther q.container q.place) l ((p.container, p.place, v) ∷ []) g.0 (g.1, tt)) ps
+      All-weaker (λ (q : Placed). AllByRecursion (IsOther q.container q.place) l × Apart p q) (λ (q : Placed). AllByRecursion (IsOther q.container q.place) (l ++ (field_of p v) ∷ []))
+      (λ q g. All-both (IsOther q.container q.place) l ((field_of p v) ∷ []) g.0 (g.1, tt)) ps
       (All-pair (λ (q : Placed). AllByRecursion (IsOther q.container q.place) l) (Apart p) ps h k)
 
   next_valued : (done : List Placed) (p : Placed) (ps : List Placed) (l : List Field) (f : List Plain) → At done (p ∷ ps) l f → has_value p.part ≡ true → Next done p ps l
   next_valued done p ps l [] a e = absurd (let c = a.count in let d = count_by p ps true e in omega arith)
   next_valued done p ps l (v ∷ f) a e =
-      let whole : fs ≡ l ++ (p.container, p.place, v) ∷ paired ps f = a.whole ∙ ap (λ x. l ++ x) (paired_on p ps v f e) in
+      let whole : fs ≡ l ++ (field_of p v) ∷ paired ps f = a.whole ∙ ap (λ x. l ++ x) (paired_on p ps v f e) in
       let h = a.fresh in
       record {
         v = v;
         rest = f;
         there = ap (λ x. value_at x p.container p.place) whole ∙ found_there l p.container p.place v (paired ps f) h.0;
         at = record {
-          whole = whole ∙ sym (append_assoc l ((p.container, p.place, v) ∷ []) (paired ps f));
+          whole = whole ∙ sym (append_assoc l ((field_of p v) ∷ []) (paired ps f));
           count = let c = a.count in let d = count_by p ps true e in omega arith;
           fresh = fresh_next p ps l v h.1 (a.once).0;
           once = (a.once).1;
-          known = All-both (IsKnown (l ++ (p.container, p.place, v) ∷ [])) done (p ∷ []) (known_more done l ((p.container, p.place, v) ∷ []) a.known) ((λ _. (v, found_there l p.container p.place v [] h.0)), tt);
+          known = All-both (IsKnown (l ++ (field_of p v) ∷ [])) done (p ∷ []) (known_more done l ((field_of p v) ∷ []) a.known) ((λ _. (v, found_there l p.container p.place v [] h.0)), tt);
         };
       }
 
@@ -113,7 +113,7 @@ module _ (t : Table) (n : ℕ) (fs : List Field) where
   abbrev C : ℕ → Plain → Bits → Type 0
   C = SpellsWithin n canonical t
 
-  abbrev F : ℕ → Plain → Where → Type 0
+  abbrev F : ℕ → Plain → PackFault → Type 0
   F = PackFailsWithin n t
 
   -- the type of the part is decided
@@ -129,35 +129,35 @@ module _ (t : Table) (n : ℕ) (fs : List Field) where
   Supplies (part.Length name id c0 c1) = Unit {0}
   Supplies (part.Check name id k) = (before : Bits) → (b : Bits) × C id.0 (num (pos (check_of k before))) b
 
-  abbrev pub FailsAt : Placed → Part → Where → Type 0
-  FailsAt p q g = PartFails t F fs p q g
+  abbrev pub FailsAt : Placed → Part → PackFault → Type 0
+  FailsAt p q g = PartPackFails t F fs p q g
 
   abbrev pub IsFine : Placed → Part → Type 0
-  IsFine p q = (g : Where) → FailsAt p q g → ⊥
+  IsFine p q = (g : PackFault) → FailsAt p q g → ⊥
 
   -- ---- what a part is decided to be
 
-  list_decides : (id y i : ℕ) → ((v : Plain) → Decided (C id v) (F id v)) → (o : Option Plain) → ((g : Where) × ListFails t F fs id y i o g) ⊎ ((g : Where) → ListFails t F fs id y i o g → ⊥)
+  list_decides : (id y i : ℕ) → ((v : Plain) → Decided (C id v) (F id v)) → (o : Option Plain) → ((g : PackFault) × ListPackFails t F fs id y i o g) ⊎ ((g : PackFault) → ListPackFails t F fs id y i o g → ⊥)
   list_decides id y i d None = inr (λ g f. f)
-  list_decides id y i d (Some (num x)) = inl (here reason.WrongKind, refl)
-  list_decides id y i d (Some (label x)) = inl (here reason.WrongKind, refl)
-  list_decides id y i d (Some (truth x)) = inl (here reason.WrongKind, refl)
-  list_decides id y i d (Some (text x)) = inl (here reason.WrongKind, refl)
-  list_decides id y i d (Some (bits m o)) = inl (here reason.WrongKind, refl)
-  list_decides id y i d (Some (fields k vs)) = inl (here reason.WrongKind, refl)
+  list_decides id y i d (Some (num x)) = inl (pack_fault_here reason.WrongKind, refl)
+  list_decides id y i d (Some (label x)) = inl (pack_fault_here reason.WrongKind, refl)
+  list_decides id y i d (Some (truth x)) = inl (pack_fault_here reason.WrongKind, refl)
+  list_decides id y i d (Some (text x)) = inl (pack_fault_here reason.WrongKind, refl)
+  list_decides id y i d (Some (bits m o)) = inl (pack_fault_here reason.WrongKind, refl)
+  list_decides id y i d (Some (fields k vs)) = inl (pack_fault_here reason.WrongKind, refl)
   list_decides id y i d (Some (items vs)) = go (tree_decides (value_at fs y i) (num (pos (length (list_of vs))))) (items_decided (C id) (F id) d (list_of vs) 0)
     where
       Counts : Type 0
       Counts = value_at fs y i ≡ Some (num (pos (length (list_of vs))))
 
-      go : (value_at fs y i ≡ Some (num (pos (length (list_of vs))))) ⊎ (value_at fs y i ≡ Some (num (pos (length (list_of vs)))) → ⊥) → Decided (ItemsSpell (C id) (list_of vs)) (ItemFails (F id) 0 (list_of vs)) → ((g : Where) × ListFails t F fs id y i (Some (items vs)) g) ⊎ ((g : Where) → ListFails t F fs id y i (Some (items vs)) g → ⊥)
-      go (inr ne) r = inl (here reason.CountWrong, inl (ne, refl))
+      go : (value_at fs y i ≡ Some (num (pos (length (list_of vs))))) ⊎ (value_at fs y i ≡ Some (num (pos (length (list_of vs)))) → ⊥) → Decided (ItemsSpell (C id) (list_of vs)) (ItemPackFails (F id) 0 (list_of vs)) → ((g : PackFault) × ListPackFails t F fs id y i (Some (items vs)) g) ⊎ ((g : PackFault) → ListPackFails t F fs id y i (Some (items vs)) g → ⊥)
+      go (inr ne) r = inl (pack_fault_here reason.CountWrong, inl (ne, refl))
       go (inl e) r = elim (r.either) [
         | inr f ↦ inl (f.0, inr (e, f.1))
         | inl s ↦ inr (λ g f. elim f [ inl k ↦ k.0 e | inr k ↦ r.apart s.0 g s.1 k.1 ])
       ]
 
-  list_one : (id y i : ℕ) → ((v : Plain) → Decided (C id v) (F id v)) → (o : Option Plain) (g k : Where) → ListFails t F fs id y i o g → ListFails t F fs id y i o k → g ≡ k
+  list_one : (id y i : ℕ) → ((v : Plain) → Decided (C id v) (F id v)) → (o : Option Plain) (g k : PackFault) → ListPackFails t F fs id y i o g → ListPackFails t F fs id y i o k → g ≡ k
   list_one id y i d None g k f h = absurd f
   list_one id y i d (Some (num x)) g k f h = f ∙ sym h
   list_one id y i d (Some (label x)) g k f h = f ∙ sym h
@@ -170,11 +170,11 @@ module _ (t : Table) (n : ℕ) (fs : List Field) where
   list_one id y i d (Some (items vs)) g k (inr f) (inl h) = absurd (h.0 f.0)
   list_one id y i d (Some (items vs)) g k (inr f) (inr h) = (items_decided (C id) (F id) d (list_of vs) 0).one g k f.1 h.1
 
-  plain_decides : (id : ℕ) → ((v : Plain) → Decided (C id v) (F id v)) → (o : Option Plain) → ((g : Where) × ((v : Plain) × (o ≡ Some v) × F id v g)) ⊎ ((g : Where) → ((v : Plain) × (o ≡ Some v) × F id v g) → ⊥)
+  plain_decides : (id : ℕ) → ((v : Plain) → Decided (C id v) (F id v)) → (o : Option Plain) → ((g : PackFault) × ((v : Plain) × (o ≡ Some v) × F id v g)) ⊎ ((g : PackFault) → ((v : Plain) × (o ≡ Some v) × F id v g) → ⊥)
   plain_decides id d None = inr (λ g f. let e = f.1 in cc)
   plain_decides id d (Some v) = elim ((d v).either) [ inr f ↦ inl (f.0, (v, refl, f.1)) | inl s ↦ inr (λ g f. (d v).apart s.0 g s.1 (subst (λ w. F id w g) (some_tree (Some v) f.0 v f.1 refl) f.2)) ]
 
-  pub part_decides : (p : Placed) (q : Part) → TypesDecided q → ((g : Where) × FailsAt p q g) ⊎ IsFine p q
+  pub part_decides : (p : Placed) (q : Part) → TypesDecided q → ((g : PackFault) × FailsAt p q g) ⊎ IsFine p q
   part_decides p (part.Plain name id) d = plain_decides id.0 (d id.0 refl) (value_at fs p.container p.place)
   part_decides p (part.Fixed name id v) d = inr (λ g f. f)
   part_decides p (part.Pad m) d = inr (λ g f. f)
@@ -182,7 +182,7 @@ module _ (t : Table) (n : ℕ) (fs : List Field) where
   part_decides p (part.Length name id c0 c1) d = inr (λ g f. f)
   part_decides p (part.Check name id k) d = inr (λ g f. f)
 
-  pub part_one : (p : Placed) (q : Part) → TypesDecided q → (g k : Where) → FailsAt p q g → FailsAt p q k → g ≡ k
+  pub part_one : (p : Placed) (q : Part) → TypesDecided q → (g k : PackFault) → FailsAt p q g → FailsAt p q k → g ≡ k
   part_one p (part.Plain name id) d g k f h = (d id.0 refl h.0).one g k (subst (λ w. F id.0 w g) (some_tree (value_at fs p.container p.place) f.0 h.0 f.1 h.1) f.2) h.2
   part_one p (part.Fixed name id v) d g k f h = absurd f
   part_one p (part.Pad m) d g k f h = absurd f
@@ -206,14 +206,14 @@ module _ (t : Table) (n : ℕ) (fs : List Field) where
     at : At fs (done ++ p ∷ []) ps u.fields rest
     octets : u.octets ≡ o
 
-  items_of : (p : Placed) (id y i : ℕ) (v : Plain) → value_at fs p.container p.place ≡ Some v → ((g : Where) → ListFails t F fs id y i (value_at fs p.container p.place) g → ⊥) → (vs : Plains) × (v ≡ items vs)
-  items_of p id y i (num x) e fine = absurd (fine (here reason.WrongKind) (subst (λ o. ListFails t F fs id y i o (here reason.WrongKind)) (sym e) refl))
-  items_of p id y i (label x) e fine = absurd (fine (here reason.WrongKind) (subst (λ o. ListFails t F fs id y i o (here reason.WrongKind)) (sym e) refl))
-  items_of p id y i (truth x) e fine = absurd (fine (here reason.WrongKind) (subst (λ o. ListFails t F fs id y i o (here reason.WrongKind)) (sym e) refl))
-  items_of p id y i (text x) e fine = absurd (fine (here reason.WrongKind) (subst (λ o. ListFails t F fs id y i o (here reason.WrongKind)) (sym e) refl))
-  items_of p id y i (bits m x) e fine = absurd (fine (here reason.WrongKind) (subst (λ o. ListFails t F fs id y i o (here reason.WrongKind)) (sym e) refl))
+  items_of : (p : Placed) (id y i : ℕ) (v : Plain) → value_at fs p.container p.place ≡ Some v → ((g : PackFault) → ListPackFails t F fs id y i (value_at fs p.container p.place) g → ⊥) → (vs : Plains) × (v ≡ items vs)
+  items_of p id y i (num x) e fine = absurd (fine (pack_fault_here reason.WrongKind) (subst (λ o. ListPackFails t F fs id y i o (pack_fault_here reason.WrongKind)) (sym e) refl))
+  items_of p id y i (label x) e fine = absurd (fine (pack_fault_here reason.WrongKind) (subst (λ o. ListPackFails t F fs id y i o (pack_fault_here reason.WrongKind)) (sym e) refl))
+  items_of p id y i (truth x) e fine = absurd (fine (pack_fault_here reason.WrongKind) (subst (λ o. ListPackFails t F fs id y i o (pack_fault_here reason.WrongKind)) (sym e) refl))
+  items_of p id y i (text x) e fine = absurd (fine (pack_fault_here reason.WrongKind) (subst (λ o. ListPackFails t F fs id y i o (pack_fault_here reason.WrongKind)) (sym e) refl))
+  items_of p id y i (bits m x) e fine = absurd (fine (pack_fault_here reason.WrongKind) (subst (λ o. ListPackFails t F fs id y i o (pack_fault_here reason.WrongKind)) (sym e) refl))
   items_of p id y i (items vs) e fine = (vs, refl)
-  items_of p id y i (fields k x) e fine = absurd (fine (here reason.WrongKind) (subst (λ o. ListFails t F fs id y i o (here reason.WrongKind)) (sym e) refl))
+  items_of p id y i (fields k x) e fine = absurd (fine (pack_fault_here reason.WrongKind) (subst (λ o. ListPackFails t F fs id y i o (pack_fault_here reason.WrongKind)) (sym e) refl))
 
   part_built : (done : List Placed) (p : Placed) (ps : List Placed) (s : Progress) (f : List Plain) (q : Part) → p.part ≡ q → At fs done (p ∷ ps) s.fields f → TypesDecided q → Supplies q → ListFits t done q → (c : Choice C q) → IsFine p q → Step done p ps s q (tell C q c s.octets)
   part_built done p ps s f (part.Plain name id) e at d sup li c fine = go (d id.0 refl next.v).either
@@ -221,7 +221,7 @@ module _ (t : Table) (n : ℕ) (fs : List Field) where
       next : Next fs done p ps s.fields
       next = next_valued fs done p ps s.fields f at (ap has_value e)
 
-      go : ((b : Bits) × C id.0 next.v b) ⊎ ((g : Where) × F id.0 next.v g) → Step done p ps s (part.Plain name id) s.octets
+      go : ((b : Bits) × C id.0 next.v b) ⊎ ((g : PackFault) × F id.0 next.v g) → Step done p ps s (part.Plain name id) s.octets
       go (inl h) = record { u = with_value s p next.v h.0; b = h.0; passes = (next.v, h.1, refl); rest = next.rest; at = next.at; octets = refl }
       go (inr h) = absurd (fine h.0 (next.v, next.there, h.1))
   part_built done p ps s f (part.Fixed name id v) e at d sup li c fine = record { u = with_bits s sup.0; b = sup.0; passes = (sup.1, refl); rest = f; at = next_other fs done p ps s.fields f at (ap has_value e); octets = refl }
@@ -240,14 +240,14 @@ module _ (t : Table) (n : ℕ) (fs : List Field) where
       there : value_at fs p.container p.place ≡ Some (items vs)
       there = next.there ∙ ap Some is_items.1
 
-      fine_items : (g : Where) → ListFails t F fs id.0 y.0 i (Some (items vs)) g → ⊥
-      fine_items g h = fine g (subst (λ o. ListFails t F fs id.0 y.0 i o g) (sym there) h)
+      fine_items : (g : PackFault) → ListPackFails t F fs id.0 y.0 i (Some (items vs)) g → ⊥
+      fine_items g h = fine g (subst (λ o. ListPackFails t F fs id.0 y.0 i o g) (sym there) h)
 
       known : (w : Plain) × (value_at s.fields y.0 i ≡ Some w)
       known = known_count t y.0 i s.fields done li at.known
 
-      go : (value_at fs y.0 i ≡ Some (num (pos (length (list_of vs))))) ⊎ (value_at fs y.0 i ≡ Some (num (pos (length (list_of vs)))) → ⊥) → Decided (ItemsSpell (C id.0) (list_of vs)) (ItemFails (F id.0) 0 (list_of vs)) → Step done p ps s (part.List name id y i) s.octets
-      go (inr ne) r = absurd (fine_items (here reason.CountWrong) (inl (ne, refl)))
+      go : (value_at fs y.0 i ≡ Some (num (pos (length (list_of vs))))) ⊎ (value_at fs y.0 i ≡ Some (num (pos (length (list_of vs)))) → ⊥) → Decided (ItemsSpell (C id.0) (list_of vs)) (ItemPackFails (F id.0) 0 (list_of vs)) → Step done p ps s (part.List name id y i) s.octets
+      go (inr ne) r = absurd (fine_items (pack_fault_here reason.CountWrong) (inl (ne, refl)))
       go (inl k) r = elim (r.either) [
         | inr h ↦ absurd (fine_items h.0 (inr (k, h.1)))
         | inl h ↦ record {
@@ -255,7 +255,7 @@ module _ (t : Table) (n : ℕ) (fs : List Field) where
           b = h.0;
           passes = (vs, sym (ap count_in (known.1 ∙ ap Some (some_tree (value_at fs y.0 i) known.0 (num (pos (length (list_of vs)))) (known_whole done (p ∷ ps) s.fields f y.0 i known.0 at known.1) k))), h.1, refl);
           rest = next.rest;
-          at = subst (λ w. At fs (done ++ p ∷ []) ps (s.fields ++ (p.container, p.place, w) ∷ []) next.rest) is_items.1 next.at;
+          at = subst (λ w. At fs (done ++ p ∷ []) ps (s.fields ++ (field_of p w) ∷ []) next.rest) is_items.1 next.at;
           octets = refl;
         }
       ]
@@ -287,9 +287,9 @@ module _ (t : Table) (n : ℕ) (fs : List Field) where
     pub at : At fs (done ++ p ∷ []) ps u.fields rest
 
   -- the value that was taken is the one that stands there
-  same_value : (done : List Placed) (p : Placed) (ps : List Placed) (s u : Progress) (v : Plain) (gs : List Field) (next : Next fs done p ps s.fields) → u.fields ≡ s.fields ++ (p.container, p.place, v) ∷ [] → fs ≡ u.fields ++ gs → next.v ≡ v
+  same_value : (done : List Placed) (p : Placed) (ps : List Placed) (s u : Progress) (v : Plain) (gs : List Field) (next : Next fs done p ps s.fields) → u.fields ≡ s.fields ++ (field_of p v) ∷ [] → fs ≡ u.fields ++ gs → next.v ≡ v
   same_value done p ps s u v gs next e w =
-      ap (λ (x : Field). x.2) (added_same s.fields s.fields (p.container, p.place, next.v) (p.container, p.place, v) (paired ps next.rest) gs refl (sym (next.at).whole ∙ w ∙ ap (λ x. x ++ gs) e))
+      ap (λ (x : Field). x.value) (added_same s.fields s.fields (field_of p next.v) (field_of p v) (paired ps next.rest) gs refl (sym (next.at).whole ∙ w ∙ ap (λ x. x ++ gs) e))
 
   pub part_passed : (done : List Placed) (p : Placed) (ps : List Placed) (s u : Progress) (f : List Plain) (b : Bits) (gs : List Field) (q : Part) → p.part ≡ q → At fs done (p ∷ ps) s.fields f → TypesDecided q → ListFits t done q → AllByRecursion (IsPlaced t) done → Fits t n s → fs ≡ u.fields ++ gs → PartPasses canonical t C s p q u b → Passed done p ps q u
   part_passed done p ps s u f b gs (part.Plain name id) e at d li pl fit w h =
@@ -299,20 +299,20 @@ module _ (t : Table) (n : ℕ) (fs : List Field) where
       record {
         fine = λ g k. (d id.0 refl h.0).apart b g h.1 (subst (λ x. F id.0 x g) (some_tree (value_at fs p.container p.place) k.0 h.0 k.1 (next.there ∙ ap Some v)) k.2);
         rest = next.rest;
-        at = at_as fs (done ++ p ∷ []) ps (s.fields ++ (p.container, p.place, next.v) ∷ []) u.fields next.rest (uf ∙ ap (λ x. s.fields ++ (p.container, p.place, x) ∷ []) (sym v)) next.at;
+        at = at_as fs (done ++ p ∷ []) ps (s.fields ++ (field_of p next.v) ∷ []) u.fields next.rest (uf ∙ ap (λ x. s.fields ++ (field_of p x) ∷ []) (sym v)) next.at;
       }
   part_passed done p ps s u f b gs (part.Fixed name id v) e at d li pl fit w h = record { fine = λ g k. k; rest = f; at = at_as fs (done ++ p ∷ []) ps s.fields u.fields f (ap (λ (x : Progress). x.fields) h.1) (next_other fs done p ps s.fields f at (ap has_value e)) }
   part_passed done p ps s u f b gs (part.Pad m) e at d li pl fit w h = record { fine = λ g k. k; rest = f; at = at_as fs (done ++ p ∷ []) ps s.fields u.fields f (ap (λ (x : Progress). x.fields) h.2) (next_other fs done p ps s.fields f at (ap has_value e)) }
   part_passed done p ps s u f b gs (part.List name id y i) e at d li pl fit w h = record {
-    fine = λ g k. none g (subst (λ o. ListFails t F fs id.0 y.0 i o g) (next.there ∙ ap Some v) k);
+    fine = λ g k. none g (subst (λ o. ListPackFails t F fs id.0 y.0 i o g) (next.there ∙ ap Some v) k);
     rest = next.rest;
-    at = at_as fs (done ++ p ∷ []) ps (s.fields ++ (p.container, p.place, next.v) ∷ []) u.fields next.rest (uf ∙ ap (λ x. s.fields ++ (p.container, p.place, x) ∷ []) (sym v)) next.at;
+    at = at_as fs (done ++ p ∷ []) ps (s.fields ++ (field_of p next.v) ∷ []) u.fields next.rest (uf ∙ ap (λ x. s.fields ++ (field_of p x) ∷ []) (sym v)) next.at;
   }
     where
       next : Next fs done p ps s.fields
       next = next_valued fs done p ps s.fields f at (ap has_value e)
 
-      uf : u.fields ≡ s.fields ++ (p.container, p.place, items h.0) ∷ []
+      uf : u.fields ≡ s.fields ++ (field_of p (items h.0)) ∷ []
       uf = ap (λ (x : Progress). x.fields) h.3
 
       v : next.v ≡ items h.0
@@ -333,7 +333,7 @@ module _ (t : Table) (n : ℕ) (fs : List Field) where
       count_is : value_at fs y.0 i ≡ Some (num (pos (length (list_of h.0))))
       count_is = known_whole done (p ∷ ps) s.fields f y.0 i known.0 at known.1 ∙ ap Some (counted.1 ∙ ap (λ m. num (pos m)) (sym (h.1 ∙ ap count_in (known.1 ∙ ap Some counted.1))))
 
-      none : (g : Where) → ListFails t F fs id.0 y.0 i (Some (items h.0)) g → ⊥
+      none : (g : PackFault) → ListPackFails t F fs id.0 y.0 i (Some (items h.0)) g → ⊥
       none g (inl k) = k.0 count_is
       none g (inr k) = (items_decided (C id.0) (F id.0) (d id.0 refl) (list_of h.0) 0).apart b g h.2 k.1
   part_passed done p ps s u f b gs (part.Length name id c0 c1) e at d li pl fit w h = record { fine = λ g k. k; rest = f; at = at_as fs (done ++ p ∷ []) ps s.fields u.fields f (ap (λ (x : Progress). x.fields) h.2) (next_other fs done p ps s.fields f at (ap has_value e)) }

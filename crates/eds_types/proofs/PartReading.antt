@@ -1,4 +1,5 @@
 -- Each kind of part is read exactly.
+use Rattle.eds_base.specs.declared.fault.Fault.{Fault}
 use Rattle.std.proofs.Common.{◌≡◌, ℕ, ◌+◌, ◌-◌, ◌*◌, ◌<◌, ◌≤◌, ℤ, pos, negsuc, arith, unwrap_or, Bool, true, false, cond, length, Option, Some, None, Result, Ok, Err, refl, sym, ap, subst, ◌∙◌, ◌⊎◌, inl, inr}
 use Rattle.std.specs.Prelude.{slice_get, nat_lt, IfSome}
 use Rattle.std.proofs.lemmas.Bool.{false_from_ne_true, ltb-false, le-ltb}
@@ -11,7 +12,7 @@ use Rattle.eds_bits.specs.Scalars.{check_of}
 use Rattle.eds_bits.specs.Style.{any}
 use Rattle.eds_types.proofs.ExactReading.{Is, Exact, exact_as, inside_exact, done, failed, err_is, IsBits, IsShort, bits_exact, Judged, JudgeFails, judge_exact, Moved, advance_exact, Items, items_exact}
 use Rattle.eds_types.proofs.SameValues.{same-is, is-same, list_of-plains_of, plains_of-list_of}
-use Rattle.eds_types.specs.Failing.{Where, behind, here, part_step, ItemFails, PartFails, Differs, TailFits, TailFails, EntryPasses, EntryFailsBy, EntryFails}
+use Rattle.eds_types.specs.Failing.{fault_behind, fault_here, part_step, ItemFails, PartFails, Differs, TailFits, TailFails, EntryPasses, EntryFailsBy, EntryFails}
 use Rattle.eds_types.specs.Fields.{type_by}
 use Rattle.eds_types.specs.Plain.{Plain, num, label, truth, text, bits, items, fields, list_of, plains_of, plain}
 use Rattle.eds_types.specs.Reading.{Read, same, expected, number_in, after_number, read_bits, read_items, read_part, octets_left, tail_octets, tail_room, read_tail, read_entry_by, read_entry, judge, advance}
@@ -20,8 +21,8 @@ use Rattle.eds_types.specs.Spelling.{BinHas, Progress, with_bits, with_value, co
 use Rattle.eds_types.specs.Sizes.{tail_of, trailers_size}
 use Rattle.eds_types.specs.Tables.{LengthIsInt, IsIntRow}
 
-by_same : Plain → Reason → Plain → Bool → Result (Unit {0}) Where
-by_same v r w b = cond b (Ok tt) (Err (here r))
+by_same : Plain → Reason → Plain → Bool → Result (Unit {0}) Fault
+by_same v r w b = cond b (Ok tt) (Err (fault_here r))
 
 expected_ok : (v : Plain) (r : Reason) (w : Plain) → expected v r w ≡ Ok tt → w ≡ v
 unfolding by_same
@@ -35,18 +36,18 @@ ok_expected : (v : Plain) (r : Reason) → expected v r v ≡ Ok tt
 unfolding by_same
 ok_expected v r = ap (by_same v r v) (is-same v)
 
-expected_err : (v : Plain) (r : Reason) (w : Plain) (g : Where) → expected v r w ≡ Err g → (w ≡ v → ⊥) × (g ≡ here r)
+expected_err : (v : Plain) (r : Reason) (w : Plain) (g : Fault) → expected v r w ≡ Err g → (w ≡ v → ⊥) × (g ≡ fault_here r)
 unfolding by_same
 expected_err v r w g e = go (same w v) refl e
   where
     ok_err : (u : Unit {0}) → done u ≡ failed (Unit {0}) g → ⊥
     ok_err u e = cc
 
-    go : (b : Bool) → same w v ≡ b → by_same v r w b ≡ Err g → (w ≡ v → ⊥) × (g ≡ here r)
+    go : (b : Bool) → same w v ≡ b → by_same v r w b ≡ Err g → (w ≡ v → ⊥) × (g ≡ fault_here r)
     go true h e = absurd (ok_err tt e)
-    go false h e = ((λ q. let k : true ≡ false = sym (is-same v) ∙ ap (λ z. same z v) (sym q) ∙ h in absurd cc), sym (err_is (Unit {0}) (here r) g e))
+    go false h e = ((λ q. let k : true ≡ false = sym (is-same v) ∙ ap (λ z. same z v) (sym q) ∙ h in absurd cc), sym (err_is (Unit {0}) (fault_here r) g e))
 
-err_expected : (v : Plain) (r : Reason) (w : Plain) → (w ≡ v → ⊥) → expected v r w ≡ Err (here r)
+err_expected : (v : Plain) (r : Reason) (w : Plain) → (w ≡ v → ⊥) → expected v r w ≡ Err (fault_here r)
 unfolding by_same
 err_expected v r w n = ap (by_same v r w) (false_from_ne_true (same w v) (λ e. n (same-is w v e)))
 
@@ -59,7 +60,7 @@ number_ok (bits n o) r e = absurd cc
 number_ok (items vs) r e = absurd cc
 number_ok (fields k vs) r e = absurd cc
 
-module _ (t : Table) (read : ℕ → Bits → Read Plain) (SpellsInner : ℕ → Plain → Bits → Type 0) (FailsInner : ℕ → Bits → Where → Type 0) where
+module _ (t : Table) (read : ℕ → Bits → Read Plain) (SpellsInner : ℕ → Plain → Bits → Type 0) (FailsInner : ℕ → Bits → Fault → Type 0) where
   abbrev pub OnlyNumbers : ℕ → Type 0
   OnlyNumbers x = (v : Plain) (c : Bits) → SpellsInner x v c → (r : ℤ) × (v ≡ num r)
 
@@ -80,18 +81,18 @@ module _ (t : Table) (read : ℕ → Bits → Read Plain) (SpellsInner : ℕ →
 
   -- a value that is to stand there
   expect_exact : (s : Progress) (x : ℕ) (v : Plain) (r : Reason) → Exact (read x) (SpellsInner x) (FailsInner x)
-      → Exact (λ b. advance (λ u c. with_bits s c) b (judge (expected v r) (read x b))) (λ u b. SpellsInner x v b × (u ≡ with_bits s b)) (λ b g. FailsInner x b g ⊎ (Differs t SpellsInner FailsInner x v b × (g ≡ here r)))
+      → Exact (λ b. advance (λ u c. with_bits s c) b (judge (expected v r) (read x b))) (λ u b. SpellsInner x v b × (u ≡ with_bits s b)) (λ b g. FailsInner x b g ⊎ (Differs t SpellsInner FailsInner x v b × (g ≡ fault_here r)))
   expect_exact s x v r e = exact_as _ (Moved (Judged (SpellsInner x) (expected v r)) (λ u c. with_bits s c)) _ (JudgeFails (SpellsInner x) (expected v r) (FailsInner x)) _
       (advance_exact (λ b. judge (expected v r) (read x b)) (Judged (SpellsInner x) (expected v r)) (JudgeFails (SpellsInner x) (expected v r) (FailsInner x)) (λ u c. with_bits s c) (judge_exact (read x) (SpellsInner x) (FailsInner x) (expected v r) e))
       (λ u c h. (subst (λ w. SpellsInner x w c) (expected_ok v r h.read.x h.read.is) h.read.read, h.is))
       (λ u c h. record { x = tt; read = record { x = v; read = h.0; is = ok_expected v r }; is = h.1 })
       to_differs from_differs
     where
-      to_differs : (b : Bits) (g : Where) → JudgeFails (SpellsInner x) (expected v r) (FailsInner x) b g → FailsInner x b g ⊎ (Differs t SpellsInner FailsInner x v b × (g ≡ here r))
+      to_differs : (b : Bits) (g : Fault) → JudgeFails (SpellsInner x) (expected v r) (FailsInner x) b g → FailsInner x b g ⊎ (Differs t SpellsInner FailsInner x v b × (g ≡ fault_here r))
       to_differs b g (inl h) = inl h
       to_differs b g (inr h) = let d = expected_err v r h.x g h.is in inr (record { other = h.x; c = h.c; rest = h.rest; bits = h.bits; spelled = h.read; differs = d.0 }, d.1)
 
-      from_differs : (b : Bits) (g : Where) → (FailsInner x b g ⊎ (Differs t SpellsInner FailsInner x v b × (g ≡ here r))) → JudgeFails (SpellsInner x) (expected v r) (FailsInner x) b g
+      from_differs : (b : Bits) (g : Fault) → (FailsInner x b g ⊎ (Differs t SpellsInner FailsInner x v b × (g ≡ fault_here r))) → JudgeFails (SpellsInner x) (expected v r) (FailsInner x) b g
       from_differs b g (inl h) = inl h
       from_differs b g (inr h) = inr (record { x = h.0.other; c = h.0.c; rest = h.0.rest; bits = h.0.bits; read = h.0.spelled; is = err_expected v r h.0.other h.0.differs ∙ ap (failed (Unit {0})) (sym h.1) })
 
@@ -114,10 +115,10 @@ module _ (t : Table) (read : ℕ → Bits → Read Plain) (SpellsInner : ℕ →
       (λ u c h. record { x = h.0; read = record { x = num h.0; read = h.1; is = refl }; is = h.2 })
       only_fails (λ b k h. inl h)
     where
-      ok_err : (r : ℤ) (k : Where) → done r ≡ failed ℤ k → ⊥
+      ok_err : (r : ℤ) (k : Fault) → done r ≡ failed ℤ k → ⊥
       ok_err r k e = cc
 
-      only_fails : (b : Bits) (k : Where) → JudgeFails (SpellsInner id.0) number_in (FailsInner id.0) b k → FailsInner id.0 b k
+      only_fails : (b : Bits) (k : Fault) → JudgeFails (SpellsInner id.0) number_in (FailsInner id.0) b k → FailsInner id.0 b k
       only_fails b k (inl h) = h
       only_fails b k (inr h) = let n = g.numbers g.length_is_int id.0 refl g.length_is_int h.x h.c h.read in absurd (ok_err n.0 k (sym (ap number_in n.1) ∙ h.is))
   part_exact s p (part.Check name id k) g c = expect_exact s id.0 (num (pos (check_of k s.before))) CheckDiffers (g.type c id.0 refl)
@@ -166,7 +167,7 @@ module _ (t : Table) (read : ℕ → Bits → Read Plain) (SpellsInner : ℕ →
       P : Progress → Bits → Type 0
       P u b = ((v : Plain) × SpellsInner x v b × (u ≡ with_value s p v b)) × ((j : ℕ) × (length b ≡ 8 * j) × TailFits t s p j)
 
-      F : Bits → Where → Type 0
+      F : Bits → Fault → Type 0
       F b g = TailFails t SpellsInner FailsInner n s p b g
 
       some_is : (i j : ℕ) → Some i ≡ Some j → i ≡ j
@@ -185,9 +186,9 @@ module _ (t : Table) (read : ℕ → Bits → Read Plain) (SpellsInner : ℕ →
           back b (Ok u) i = let has = (i.has).0 in let z = (o.to has.0 i.front has.1).0 in absurd (none ((i.has).1).0 (omega (arith, ((i.has).1).1, z.0)) ((i.has).1).2)
           back b (Err g) (inl i) = ap (failed (Progress × Bits)) (sym i.1)
           back b (Err g) (inr i) = absurd (none i.0 i.1 i.2)
-      go (Some j) h = exact_as _ (Moved (IsBits (8 * j)) (λ c d. with_value s p (bits (8 * j) (octets_of d)) d)) P (λ b g. (w : Where) × IsShort (8 * j) b w × (g ≡ behind (part_step p) w)) F
+      go (Some j) h = exact_as _ (Moved (IsBits (8 * j)) (λ c d. with_value s p (bits (8 * j) (octets_of d)) d)) P (λ b g. (w : Fault) × IsShort (8 * j) b w × (g ≡ fault_behind (part_step p) w)) F
           (inside_exact (part_step p) _ _ _ (advance_exact (read_bits (8 * j)) (IsBits (8 * j)) (IsShort (8 * j)) (λ c d. with_value s p (bits (8 * j) (octets_of d)) d) (bits_exact (8 * j))))
-          there back (λ b g k. inr (j, fit.0, fit.1, (k.1).0, k.2 ∙ ap (behind (part_step p)) (k.1).1)) fails
+          there back (λ b g k. inr (j, fit.0, fit.1, (k.1).0, k.2 ∙ ap (fault_behind (part_step p)) (k.1).1)) fails
         where
           fit : (8 * j ≤ n) × TailFits t s p j
           fit = room_is n s p j h
@@ -207,9 +208,9 @@ module _ (t : Table) (read : ℕ → Bits → Read Plain) (SpellsInner : ℕ →
               let len : length c ≡ 8 * j = (k.1).1 ∙ ap (λ i. 8 * i) (sym same) in
               record { x = c; read = (refl, len); is = (k.0).2 ∙ ap (λ v. with_value s p v c) (z.1 ∙ ap (λ m. bits m (octets_of c)) len) }
 
-          fails : (b : Bits) (g : Where) → F b g → (w : Where) × IsShort (8 * j) b w × (g ≡ behind (part_step p) w)
+          fails : (b : Bits) (g : Fault) → F b g → (w : Fault) × IsShort (8 * j) b w × (g ≡ fault_behind (part_step p) w)
           fails b g (inl k) = absurd (k.0 j fit.0 fit.1)
-          fails b g (inr k) = (here Short, (subst (λ i. length b < 8 * i) (sym (one k.0 k.1 k.2)) k.3, refl), k.4)
+          fails b g (inr k) = (fault_here Short, (subst (λ i. length b < 8 * i) (sym (one k.0 k.1 k.2)) k.3, refl), k.4)
 
   tail_part : (n : ℕ) (s : Progress) (p : Placed) (q : Part) → PartGood q → tail_of t q ≡ Some n
       → Exact (λ b. read_tail t (tail_room t n s p) s p b) (λ u b. PartPasses any t SpellsInner s p q u b × ((j : ℕ) × (length b ≡ 8 * j) × TailFits t s p j)) (TailFails t SpellsInner FailsInner n s p)

@@ -1,7 +1,7 @@
 -- The tests of reading, as facts.
 use Rattle.eds_base.specs.declared.spans.Span.{Span}
 use Rattle.std.proofs.Common.{◌≡◌, ℕ, zero, suc, ◌+◌, ◌<◌, ◌≤◌, ℤ, Bool, true, false, cond, List, [], ◌∷◌, ◌++◌, length, Option, Some, None, refl, sym, ap, ◌∙◌, arith, ◌⊎◌, inl, inr, int_le, T}
-use Rattle.std.specs.Prelude.{slice_get, nat_lt, not, ◌&&◌, ◌==◌}
+use Rattle.std.specs.Prelude.{◌≤ℤ◌, slice_get, nat_lt, not, ◌&&◌, ◌==◌}
 use Rattle.std.specs.List.{AllByRecursion, list_all}
 use Rattle.std.proofs.lemmas.Bool.{and_parts, and_from, eqb-true, eq-eqb, ne_eqb, ltb-true, lt-ltb, cases_lt, cases_Bool, not-true, both_ways}
 use Rattle.std.proofs.lemmas.Option.{slice_get_past}
@@ -21,6 +21,9 @@ T_from false e = absurd cc
 T_to : (b : Bool) → T b → b ≡ true
 T_to true e = refl
 T_to false e = absurd e
+
+pub is_at_most : (m n : ℤ) → m ≤ℤ n → int_le m n ≡ true
+is_at_most m n h = T_to (int_le m n) h.le
 
 pub within_from : (spans : List Span) (n : ℤ) → is_within spans n ≡ true → IsWithin spans n
 within_from [] n e = absurd cc

@@ -19,7 +19,7 @@ use Rattle.eds_types.specs.Plain.{Plain, plain}
 use Rattle.eds_types.specs.Sizes.{open_by, open_in, open_of, tail_of, trailers_along}
 use Rattle.eds_types.specs.Fields.{type_by, listed, StartsInEntries}
 use Rattle.eds_types.specs.Rows.{Table, chain, entries_of, trailers_of, constraints_of, Placed, placed_from, placed_entries, placed_trailers, own_parts, sequence}
-use Rattle.eds_types.specs.Rules.{AreDistinct, IsBefore, IsIntBy, IsInt, IsNested, ItemsNest, IsScale, IsValueOf, TailKeeps, PartKeeps, KindKeeps, is_length, ConstraintKeeps, KeepsRules}
+use Rattle.eds_types.specs.Rules.{AreDistinct, IsBefore, IsIntBy, IsInt, IsNested, ItemsNest, IsScale, TailKeeps, PartKeeps, KindKeeps, is_length, ConstraintKeeps, KeepsRules}
 use Rattle.eds_types.specs.Tables.{IsTable, IsPartType, IsItemType, IsOneLabel, IsIntRow, IsIntKind, LengthIsInt}
 use Rattle.eds_types.proofs.AllOf.{All-weaker, All-both, All-front, All-back, All-pair, All-at, All-has, All-flat, All-reverse, one_of}
 use Rattle.eds_types.proofs.ChainLaws.{chain_end, under_is}
@@ -127,19 +127,10 @@ module _ (t : Table) where
       by_kind (kind.Arr item n) i = absurd i
       by_kind (kind.Con c) i = absurd i
 
-  value_closed : (v : Plain) (k : Kind) → IsValueOf k v → open_by k ≡ None
-  value_closed v (kind.Int form spans) i = refl
-  value_closed v (kind.Enum form listing) i = refl
-  value_closed v (kind.Bool form) i = refl
-  value_closed v (kind.Str form) i = refl
-  value_closed v (kind.Bin n free) i = ap (λ o. cond o (Some n) None) i.1
-  value_closed v (kind.Arr item n) i = absurd i
-  value_closed v (kind.Con c) i = absurd i
-
   -- only the type of a tail is an open binary
   free_is : (p : Placed) (q : Part) → PartKeeps t p q → (x : ℕ) → type_by (Some q) ≡ Some x → open_of t x ≡ tail_of t q
   free_is p (part.Plain name id) h x e = ap (open_of t) (sym (same_id id.0 x e))
-  free_is p (part.Fixed name id v) h x e = ap (open_of t) (sym (same_id id.0 x e)) ∙ ap open_in h.1 ∙ value_closed (plain v) (h.0).kind h.2
+  free_is p (part.Fixed name id v) h x e = ap (open_of t) (sym (same_id id.0 x e)) ∙ h.1
   free_is p (part.Pad n) h x e = absurd cc
   free_is p (part.List name id y i) h x e = ap (open_of t) (sym (same_id id.0 x e)) ∙ h.1
   free_is p (part.Length name id c0 c1) h x e = ap (open_of t) (sym (same_id id.0 x e)) ∙ int_closed id.0 _ h.0
@@ -171,7 +162,7 @@ module _ (t : Table) where
 
   fixed_fits : (p : Placed) (q : Part) → PartKeeps t p q → FixedFits t q
   fixed_fits p (part.Plain name id) h = tt
-  fixed_fits p (part.Fixed name id v) h = h
+  fixed_fits p (part.Fixed name id v) h = h.0
   fixed_fits p (part.Pad n) h = tt
   fixed_fits p (part.List name id y i) h = tt
   fixed_fits p (part.Length name id c0 c1) h = tt

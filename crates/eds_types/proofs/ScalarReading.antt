@@ -1,5 +1,6 @@
 -- Scalars, binaries, texts of a fixed length and arrays are read exactly.
 use Rattle.eds_base.specs.declared.spans.Span.{Span}
+use Rattle.eds_base.specs.declared.fault.Fault.{Fault}
 use Rattle.std.proofs.Common.{◌≡◌, ℕ, zero, suc, ◌*◌, ◌≤◌, ℤ, Bool, true, false, cond, List, [], ◌∷◌, ◌++◌, length, take, drop, Option, Some, None, Result, Ok, Err, refl, sym, ap, subst, ◌∙◌, arith, ◌⊎◌, inl, inr, IsAscii}
 use Rattle.std.specs.Prelude.{nat_lt}
 use Rattle.std.proofs.lemmas.Bool.{and_parts, and_from, ltb-true, lt-ltb, false_from_ne_true, both_ways}
@@ -22,7 +23,7 @@ use Rattle.eds_bits.specs.Style.{any}
 use Rattle.eds_types.proofs.ExactReading.{ok_err, Exact, exact_as, done, failed, ok_is, err_is, IsBits, IsShort, bits_exact, Judged, JudgeFails, judge_exact, Items, items_exact}
 use Rattle.eds_types.proofs.SameValues.{same_text-is, list_of-plains_of, plains_of-list_of}
 use Rattle.eds_types.proofs.ReadingTests.{within_from, within_in}
-use Rattle.eds_types.specs.Failing.{Where, here, ItemFails, KindFails, IsListed}
+use Rattle.eds_types.specs.Failing.{fault_here, ItemFails, KindFails, IsListed}
 use Rattle.eds_types.specs.Fields.{listed}
 use Rattle.eds_types.specs.Plain.{Plain, num, label, truth, text, bits, items, list_of, plains_of}
 use Rattle.eds_types.specs.Reading.{Read, judge, read_bits, read_items, is_within, ranged, number_is, label_of, label_as, named, truth_of, is_ascii, is_coded, coded, read_text}
@@ -34,25 +35,25 @@ take_front [] rest = refl
 take_front (x ∷ c) rest = ap (λ y. x ∷ y) (take_front c rest)
 
 -- what so many bits say
-abbrev pub Says : ℕ → (Bits → Result Plain Where) → Plain → Bits → Type 0
+abbrev pub Says : ℕ → (Bits → Result Plain Fault) → Plain → Bits → Type 0
 Says n j v c = (length c ≡ n) × (j c ≡ Ok v)
 
-abbrev pub Rejects : ℕ → (Bits → Result Plain Where) → Bits → Where → Type 0
+abbrev pub Rejects : ℕ → (Bits → Result Plain Fault) → Bits → Fault → Type 0
 Rejects n j b g = IsShort n b g ⊎ ((n ≤ length b) × (j (take n b) ≡ Err g))
 
-pub says_exact : (n : ℕ) (j : Bits → Result Plain Where) → Exact (λ b. judge j (read_bits n b)) (Says n j) (Rejects n j)
+pub says_exact : (n : ℕ) (j : Bits → Result Plain Fault) → Exact (λ b. judge j (read_bits n b)) (Says n j) (Rejects n j)
 says_exact n j = exact_as _ (Judged (IsBits n) j) _ (JudgeFails (IsBits n) j (IsShort n)) _ (judge_exact (read_bits n) (IsBits n) (IsShort n) j (bits_exact n))
     (λ v c h. (h.read.1, ap j (sym h.read.0) ∙ h.is))
     (λ v c h. record { x = c; read = (refl, h.0); is = h.1 })
     there back
   where
-    there : (b : Bits) (g : Where) → JudgeFails (IsBits n) j (IsShort n) b g → Rejects n j b g
+    there : (b : Bits) (g : Fault) → JudgeFails (IsBits n) j (IsShort n) b g → Rejects n j b g
     there b g (inl h) = inl h
     there b g (inr h) =
         let e : take n b ≡ h.x = ap (λ m. take m b) (sym h.read.1) ∙ ap (take (length h.c)) h.bits ∙ take_front h.c h.rest ∙ sym h.read.0 in
         inr (omega (arith, ap length h.bits, length-append h.c h.rest, h.read.1), ap j e ∙ h.is)
 
-    back : (b : Bits) (g : Where) → Rejects n j b g → JudgeFails (IsBits n) j (IsShort n) b g
+    back : (b : Bits) (g : Fault) → Rejects n j b g → JudgeFails (IsBits n) j (IsShort n) b g
     back b g (inl h) = inl h
     back b g (inr h) = let enough = h.0 in inr (record { x = take n b; c = take n b; rest = drop n b; bits = sym (take-append-drop n b); read = (refl, omega (arith, length-take n b)); is = h.1 })
 
@@ -74,8 +75,8 @@ pub coded_in : (ascii : Bool) (os : List ℕ) → IsCoded ascii os → is_coded 
 coded_in true os h = ascii_in os h
 coded_in false os h = is_utf8-from_IsUtf8 os h
 
-coded_by : Bool → List ℕ → Result Plain Where
-coded_by b os = cond b (Ok (text os)) (Err (here BadText))
+coded_by : Bool → List ℕ → Result Plain Fault
+coded_by b os = cond b (Ok (text os)) (Err (fault_here BadText))
 
 pub coded_ok : (ascii : Bool) (os : List ℕ) (v : Plain) → coded ascii os ≡ Ok v → IsCoded ascii os × (v ≡ text os)
 unfolding coded_by
@@ -83,21 +84,21 @@ coded_ok ascii os v e = go (is_coded ascii os) refl e
   where
     go : (b : Bool) → is_coded ascii os ≡ b → coded_by b os ≡ Ok v → IsCoded ascii os × (v ≡ text os)
     go true h e = (coded_from ascii os h, sym (ok_is (text os) v e))
-    go false h e = absurd (ok_err (done v) v (here BadText) refl (sym e))
+    go false h e = absurd (ok_err (done v) v (fault_here BadText) refl (sym e))
 
 pub ok_coded : (ascii : Bool) (os : List ℕ) → IsCoded ascii os → coded ascii os ≡ Ok (text os)
 unfolding coded_by
 ok_coded ascii os h = ap (λ b. coded_by b os) (coded_in ascii os h)
 
-pub coded_err : (ascii : Bool) (os : List ℕ) (g : Where) → coded ascii os ≡ Err g → (IsCoded ascii os → ⊥) × (g ≡ here BadText)
+pub coded_err : (ascii : Bool) (os : List ℕ) (g : Fault) → coded ascii os ≡ Err g → (IsCoded ascii os → ⊥) × (g ≡ fault_here BadText)
 unfolding coded_by
 coded_err ascii os g e = go (is_coded ascii os) refl e
   where
-    go : (b : Bool) → is_coded ascii os ≡ b → coded_by b os ≡ Err g → (IsCoded ascii os → ⊥) × (g ≡ here BadText)
+    go : (b : Bool) → is_coded ascii os ≡ b → coded_by b os ≡ Err g → (IsCoded ascii os → ⊥) × (g ≡ fault_here BadText)
     go true h e = absurd (ok_err (done (text os)) (text os) g refl e)
-    go false h e = ((λ k. both_ways (is_coded ascii os) h (coded_in ascii os k)), sym (err_is Plain (here BadText) g e))
+    go false h e = ((λ k. both_ways (is_coded ascii os) h (coded_in ascii os k)), sym (err_is Plain (fault_here BadText) g e))
 
-pub err_coded : (ascii : Bool) (os : List ℕ) → (IsCoded ascii os → ⊥) → coded ascii os ≡ Err (here BadText)
+pub err_coded : (ascii : Bool) (os : List ℕ) → (IsCoded ascii os → ⊥) → coded ascii os ≡ Err (fault_here BadText)
 unfolding coded_by
 err_coded ascii os h = ap (λ b. coded_by b os) (false_from_ne_true (is_coded ascii os) (λ e. h (coded_from ascii os e)))
 
@@ -114,38 +115,38 @@ size_of form = record { some = form.some; few = form.few; plain = form.plain }
 abbrev pub text_form : (n : ℕ) → Bool → Bool → (stop : ℕ) → IsTextSize n stop → TextForm
 text_form n fixed ascii stop size = record { length = n; fixed = fixed; ascii = ascii; stop = stop; some = size.some; few = size.few; plain = size.plain }
 
-module _ (t : Table) (read : ℕ → Bits → Read Plain) (SpellsInner : ℕ → Plain → Bits → Type 0) (FailsInner : ℕ → Bits → Where → Type 0) where
+module _ (t : Table) (read : ℕ → Bits → Read Plain) (SpellsInner : ℕ → Plain → Bits → Type 0) (FailsInner : ℕ → Bits → Fault → Type 0) where
   -- ---- integers
 
-  ranged_by : Bool → ℤ → Result Plain Where
-  ranged_by b n = cond b (Ok (num n)) (Err (here OutOfRange))
+  ranged_by : Bool → ℤ → Result Plain Fault
+  ranged_by b n = cond b (Ok (num n)) (Err (fault_here OutOfRange))
 
   ranged_ok : (spans : List Span) (o : Option ℤ) (v : Plain) → ranged spans o ≡ Ok v → (n : ℤ) × (o ≡ Some n) × (v ≡ num n) × IsWithin spans n
   unfolding ranged_by
-  ranged_ok spans None v e = absurd (ok_err (done v) v (here BadDigit) refl (sym e))
+  ranged_ok spans None v e = absurd (ok_err (done v) v (fault_here BadDigit) refl (sym e))
   ranged_ok spans (Some n) v e = go (is_within spans n) refl e
     where
       go : (b : Bool) → is_within spans n ≡ b → ranged_by b n ≡ Ok v → (m : ℤ) × (Some n ≡ Some m) × (v ≡ num m) × IsWithin spans m
       go true h e = (n, refl, sym (ok_is (num n) v e), within_from spans n h)
-      go false h e = absurd (ok_err (done v) v (here OutOfRange) refl (sym e))
+      go false h e = absurd (ok_err (done v) v (fault_here OutOfRange) refl (sym e))
 
   ok_ranged : (spans : List Span) (n : ℤ) → IsWithin spans n → ranged spans (Some n) ≡ Ok (num n)
   unfolding ranged_by
   ok_ranged spans n h = ap (λ b. ranged_by b n) (within_in spans n h)
 
-  abbrev Why : Option ℤ → (ℤ → Type 0) → Reason → Where → Type 0
-  Why o Good bad g = ((o ≡ None) × (g ≡ here BadDigit)) ⊎ ((n : ℤ) × (o ≡ Some n) × (Good n → ⊥) × (g ≡ here bad))
+  abbrev Why : Option ℤ → (ℤ → Type 0) → Reason → Fault → Type 0
+  Why o Good bad g = ((o ≡ None) × (g ≡ fault_here BadDigit)) ⊎ ((n : ℤ) × (o ≡ Some n) × (Good n → ⊥) × (g ≡ fault_here bad))
 
-  ranged_err : (spans : List Span) (o : Option ℤ) (g : Where) → ranged spans o ≡ Err g → Why o (IsWithin spans) OutOfRange g
+  ranged_err : (spans : List Span) (o : Option ℤ) (g : Fault) → ranged spans o ≡ Err g → Why o (IsWithin spans) OutOfRange g
   unfolding ranged_by
-  ranged_err spans None g e = inl (refl, sym (err_is Plain (here BadDigit) g e))
+  ranged_err spans None g e = inl (refl, sym (err_is Plain (fault_here BadDigit) g e))
   ranged_err spans (Some n) g e = go (is_within spans n) refl e
     where
       go : (b : Bool) → is_within spans n ≡ b → ranged_by b n ≡ Err g → Why (Some n) (IsWithin spans) OutOfRange g
       go true h e = absurd (ok_err (done (num n)) (num n) g refl e)
-      go false h e = inr (n, refl, (λ w. both_ways (is_within spans n) h (within_in spans n w)), sym (err_is Plain (here OutOfRange) g e))
+      go false h e = inr (n, refl, (λ w. both_ways (is_within spans n) h (within_in spans n w)), sym (err_is Plain (fault_here OutOfRange) g e))
 
-  err_ranged : (spans : List Span) (o : Option ℤ) (g : Where) → Why o (IsWithin spans) OutOfRange g → ranged spans o ≡ Err g
+  err_ranged : (spans : List Span) (o : Option ℤ) (g : Fault) → Why o (IsWithin spans) OutOfRange g → ranged spans o ≡ Err g
   unfolding ranged_by
   err_ranged spans o g (inl h) = ap (ranged spans) h.0 ∙ ap (failed Plain) (sym h.1)
   err_ranged spans o g (inr h) = ap (ranged spans) h.1 ∙ ap (λ b. ranged_by b h.0) (false_from_ne_true (is_within spans h.0) (λ e. h.2 (within_from spans h.0 e))) ∙ ap (failed Plain) (sym h.3)
@@ -156,14 +157,14 @@ module _ (t : Table) (read : ℕ → Bits → Read Plain) (SpellsInner : ℕ →
       (λ v c h. ((h.3).is.size, ap (ranged spans) (h.3).is.number ∙ ok_ranged spans h.0 h.2 ∙ ap done (sym h.1)))
       there back
     where
-      j : Bits → Result Plain Where
+      j : Bits → Result Plain Fault
       j c = ranged spans (number_of form c)
 
-      there : (b : Bits) (g : Where) → Rejects form.bits j b g → KindFails t SpellsInner FailsInner id (kind.Int form spans) b g
+      there : (b : Bits) (g : Fault) → Rejects form.bits j b g → KindFails t SpellsInner FailsInner id (kind.Int form spans) b g
       there b g (inl h) = inl h
       there b g (inr h) = inr (record { enough = h.0; why = ranged_err spans (number_of form (take form.bits b)) g h.1 })
 
-      back : (b : Bits) (g : Where) → KindFails t SpellsInner FailsInner id (kind.Int form spans) b g → Rejects form.bits j b g
+      back : (b : Bits) (g : Fault) → KindFails t SpellsInner FailsInner id (kind.Int form spans) b g → Rejects form.bits j b g
       back b g (inl h) = inl h
       back b g (inr h) = inr (h.enough, err_ranged spans (number_of form (take form.bits b)) g h.why)
 
@@ -207,22 +208,22 @@ module _ (t : Table) (read : ℕ → Bits → Read Plain) (SpellsInner : ℕ →
       go (Some m) h = h ∙ ap Some (one m l n (label_found listing listing n m h) e)
 
   named_ok : (listing : List (List ℕ × ℤ)) (o : Option ℤ) (v : Plain) → named listing o ≡ Ok v → (l : List ℕ) × (n : ℤ) × (o ≡ Some n) × (v ≡ label l) × (listed listing l ≡ Some n)
-  named_ok listing None v e = absurd (ok_err (done v) v (here BadDigit) refl (sym e))
+  named_ok listing None v e = absurd (ok_err (done v) v (fault_here BadDigit) refl (sym e))
   named_ok listing (Some n) v e = go (label_of listing listing n) refl e
     where
       go : (o : Option (List ℕ)) → label_of listing listing n ≡ o → label_as o ≡ Ok v → (l : List ℕ) × (m : ℤ) × (Some n ≡ Some m) × (v ≡ label l) × (listed listing l ≡ Some m)
-      go None h e = absurd (ok_err (done v) v (here NoLabel) refl (sym e))
+      go None h e = absurd (ok_err (done v) v (fault_here NoLabel) refl (sym e))
       go (Some l) h e = (l, n, refl, sym (ok_is (label l) v e), label_found listing listing n l h)
 
-  named_err : (listing : List (List ℕ × ℤ)) (o : Option ℤ) (g : Where) → named listing o ≡ Err g → Why o (IsListed listing) NoLabel g
-  named_err listing None g e = inl (refl, sym (err_is Plain (here BadDigit) g e))
+  named_err : (listing : List (List ℕ × ℤ)) (o : Option ℤ) (g : Fault) → named listing o ≡ Err g → Why o (IsListed listing) NoLabel g
+  named_err listing None g e = inl (refl, sym (err_is Plain (fault_here BadDigit) g e))
   named_err listing (Some n) g e = go (label_of listing listing n) refl e
     where
       go : (o : Option (List ℕ)) → label_of listing listing n ≡ o → label_as o ≡ Err g → Why (Some n) (IsListed listing) NoLabel g
-      go None h e = inr (n, refl, (λ w. label_there listing listing n n w.0 w.1 w.1 h), sym (err_is Plain (here NoLabel) g e))
+      go None h e = inr (n, refl, (λ w. label_there listing listing n n w.0 w.1 w.1 h), sym (err_is Plain (fault_here NoLabel) g e))
       go (Some l) h e = absurd (ok_err (done (label l)) (label l) g refl e)
 
-  err_named : (listing : List (List ℕ × ℤ)) (o : Option ℤ) (g : Where) → Why o (IsListed listing) NoLabel g → named listing o ≡ Err g
+  err_named : (listing : List (List ℕ × ℤ)) (o : Option ℤ) (g : Fault) → Why o (IsListed listing) NoLabel g → named listing o ≡ Err g
   err_named listing o g (inl h) = ap (named listing) h.0 ∙ ap (failed Plain) (sym h.1)
   err_named listing o g (inr h) = ap (named listing) h.1 ∙ go (label_of listing listing h.0) refl
     where
@@ -237,20 +238,20 @@ module _ (t : Table) (read : ℕ → Bits → Read Plain) (SpellsInner : ℕ →
       (λ v c h. ((h.4).is.size, ap (named listing) (h.4).is.number ∙ ap label_as (label_some listing h.1 h.0 one h.3) ∙ ap done (sym h.2)))
       there back
     where
-      j : Bits → Result Plain Where
+      j : Bits → Result Plain Fault
       j c = named listing (number_of form c)
 
-      there : (b : Bits) (g : Where) → Rejects form.bits j b g → KindFails t SpellsInner FailsInner id (kind.Enum form listing) b g
+      there : (b : Bits) (g : Fault) → Rejects form.bits j b g → KindFails t SpellsInner FailsInner id (kind.Enum form listing) b g
       there b g (inl h) = inl h
       there b g (inr h) = inr (record { enough = h.0; why = named_err listing (number_of form (take form.bits b)) g h.1 })
 
-      back : (b : Bits) (g : Where) → KindFails t SpellsInner FailsInner id (kind.Enum form listing) b g → Rejects form.bits j b g
+      back : (b : Bits) (g : Fault) → KindFails t SpellsInner FailsInner id (kind.Enum form listing) b g → Rejects form.bits j b g
       back b g (inl h) = inl h
       back b g (inr h) = inr (h.enough, err_named listing (number_of form (take form.bits b)) g h.why)
 
   -- ---- booleans and binaries
 
-  never : (n : ℕ) (f : Bits → Plain) (b : Bits) (g : Where) → Rejects n (λ c. Ok (f c)) b g → IsShort n b g
+  never : (n : ℕ) (f : Bits → Plain) (b : Bits) (g : Fault) → Rejects n (λ c. Ok (f c)) b g → IsShort n b g
   never n f b g (inl h) = h
   never n f b g (inr h) = absurd (ok_err (done (f (take n b))) (f (take n b)) g refl h.1)
 
@@ -275,7 +276,7 @@ module _ (t : Table) (read : ℕ → Bits → Read Plain) (SpellsInner : ℕ →
       (λ v c h. record { x = list_of h.0; read = record { count = h.2; spelled = h.3 }; is = ap (λ vs. done (items vs)) (plains_of-list_of h.0) ∙ ap done (sym h.1) })
       only (λ b g h. inl h)
     where
-      only : (b : Bits) (g : Where) → JudgeFails (Items (SpellsInner item.0) n) (λ vs. Ok (items (plains_of vs))) (ItemFails (SpellsInner item.0) (FailsInner item.0) n) b g → ItemFails (SpellsInner item.0) (FailsInner item.0) n b g
+      only : (b : Bits) (g : Fault) → JudgeFails (Items (SpellsInner item.0) n) (λ vs. Ok (items (plains_of vs))) (ItemFails (SpellsInner item.0) (FailsInner item.0) n) b g → ItemFails (SpellsInner item.0) (FailsInner item.0) n b g
       only b g (inl h) = h
       only b g (inr h) = absurd (ok_err (done (items (plains_of h.x))) (items (plains_of h.x)) g refl h.is)
 
@@ -290,13 +291,13 @@ module _ (t : Table) (read : ℕ → Bits → Read Plain) (SpellsInner : ℕ →
       said : Bits → List ℕ
       said c = before_stop stop (octets_of c)
 
-      j : Bits → Result Plain Where
+      j : Bits → Result Plain Fault
       j c = coded ascii (said c)
 
-      there : (b : Bits) (g : Where) → Rejects (8 * n) j b g → KindFails t SpellsInner FailsInner id (kind.Str (text_form n true ascii stop size)) b g
+      there : (b : Bits) (g : Fault) → Rejects (8 * n) j b g → KindFails t SpellsInner FailsInner id (kind.Str (text_form n true ascii stop size)) b g
       there b g (inl h) = inl h
       there b g (inr h) = let r = coded_err ascii (said (take (8 * n) b)) g h.1 in inr (h.0, r.0, r.1)
 
-      back : (b : Bits) (g : Where) → KindFails t SpellsInner FailsInner id (kind.Str (text_form n true ascii stop size)) b g → Rejects (8 * n) j b g
+      back : (b : Bits) (g : Fault) → KindFails t SpellsInner FailsInner id (kind.Str (text_form n true ascii stop size)) b g → Rejects (8 * n) j b g
       back b g (inl h) = inl h
       back b g (inr h) = inr (h.0, err_coded ascii (said (take (8 * n) b)) h.1 ∙ ap (failed Plain) (sym h.2))

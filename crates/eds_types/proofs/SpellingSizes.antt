@@ -16,7 +16,7 @@ use Rattle.eds_types.proofs.FieldTypes.{parts_fit, sequence_placed}
 use Rattle.eds_types.proofs.Grown.{only_grown}
 use Rattle.eds_types.proofs.TableFacts.{IsNumbered}
 use Rattle.eds_types.proofs.ScalarReading.{IsTextSize, size_of, text_form}
-use Rattle.eds_types.specs.Fields.{Field, values_of, paired}
+use Rattle.eds_types.specs.Fields.{Field, values_of, paired, field_of}
 use Rattle.eds_types.specs.Plain.{Plain, num, text, items, fields, list_of}
 use Rattle.eds_types.specs.Rows.{Table, Placed, sequence}
 use Rattle.eds_types.specs.Spelling.{Progress, started, ItemsSpell, PartPasses, PartsPass, ContainerSpells, KindSpells, SpellsWithin}
@@ -98,17 +98,17 @@ module _ (t : Table) (E : ℕ → Plain → Bits → Type 0) (g : (id : ℕ) (v 
   unfolding NumberSize
   part_size s z p (part.Plain name id) u w b c more rest sz e f h k =
       let uf = ap (λ (x : Progress). x.fields) h.2 in let wf = ap (λ (x : Progress). x.fields) k.2 in
-      let a = added_same s.fields z.fields (p.container, p.place, h.0) (p.container, p.place, k.0) more rest e (ap (λ l. l ++ more) (sym uf) ∙ f ∙ ap (λ l. l ++ rest) wf) in
-      let v : h.0 ≡ k.0 = ap (λ (x : Field). x.2) a in
-      (g id.0 k.0 b c (subst (λ x. E id.0 x b) v h.1) k.1, uf ∙ ap (λ l. l ++ (p.container, p.place, h.0) ∷ []) e ∙ ap (λ x. z.fields ++ x ∷ []) a ∙ sym wf)
+      let a = added_same s.fields z.fields (field_of p h.0) (field_of p k.0) more rest e (ap (λ l. l ++ more) (sym uf) ∙ f ∙ ap (λ l. l ++ rest) wf) in
+      let v : h.0 ≡ k.0 = ap (λ (x : Field). x.value) a in
+      (g id.0 k.0 b c (subst (λ x. E id.0 x b) v h.1) k.1, uf ∙ ap (λ l. l ++ (field_of p h.0) ∷ []) e ∙ ap (λ x. z.fields ++ x ∷ []) a ∙ sym wf)
   part_size s z p (part.Fixed name id v) u w b c more rest sz e f h k = (g id.0 _ b c h.0 k.0, ap (λ (x : Progress). x.fields) h.1 ∙ e ∙ sym (ap (λ (x : Progress). x.fields) k.1))
   part_size s z p (part.Pad n) u w b c more rest sz e f h k = (h.0 ∙ sym k.0, ap (λ (x : Progress). x.fields) h.2 ∙ e ∙ sym (ap (λ (x : Progress). x.fields) k.2))
   part_size s z p (part.List name id y i) u w b c more rest sz e f h k =
       let uf = ap (λ (x : Progress). x.fields) h.3 in let wf = ap (λ (x : Progress). x.fields) k.3 in
-      let a = added_same s.fields z.fields (p.container, p.place, items h.0) (p.container, p.place, items k.0) more rest e (ap (λ l. l ++ more) (sym uf) ∙ f ∙ ap (λ l. l ++ rest) wf) in
-      let v : items h.0 ≡ items k.0 = ap (λ (x : Field). x.2) a in
+      let a = added_same s.fields z.fields (field_of p (items h.0)) (field_of p (items k.0)) more rest e (ap (λ l. l ++ more) (sym uf) ∙ f ∙ ap (λ l. l ++ rest) wf) in
+      let v : items h.0 ≡ items k.0 = ap (λ (x : Field). x.value) a in
       let vs : h.0 ≡ k.0 = cc in
-      (items_size (E id.0) (g id.0) (list_of k.0) b c (subst (λ x. ItemsSpell (E id.0) (list_of x) b) vs h.2) k.2, uf ∙ ap (λ l. l ++ (p.container, p.place, items h.0) ∷ []) e ∙ ap (λ x. z.fields ++ x ∷ []) a ∙ sym wf)
+      (items_size (E id.0) (g id.0) (list_of k.0) b c (subst (λ x. ItemsSpell (E id.0) (list_of x) b) vs h.2) k.2, uf ∙ ap (λ l. l ++ (field_of p (items h.0)) ∷ []) e ∙ ap (λ x. z.fields ++ x ∷ []) a ∙ sym wf)
   part_size s z p (part.Length name id c0 c1) u w b c more rest sz e f h k = (sz h.0 k.0 b c h.1 k.1, ap (λ (x : Progress). x.fields) h.2 ∙ e ∙ sym (ap (λ (x : Progress). x.fields) k.2))
   part_size s z p (part.Check name id kd) u w b c more rest sz e f h k = (sz _ _ b c h.0 k.0, ap (λ (x : Progress). x.fields) h.1 ∙ e ∙ sym (ap (λ (x : Progress). x.fields) k.1))
 

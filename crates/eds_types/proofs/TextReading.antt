@@ -1,4 +1,5 @@
 -- Texts that end with their termination octet are read exactly.
+use Rattle.eds_base.specs.declared.fault.Fault.{Fault}
 use Rattle.std.proofs.Common.{◌≡◌, ℕ, zero, suc, ◌+◌, ◌*◌, ◌/◌, ◌<◌, ◌≤◌, Bool, true, false, cond, List, [], ◌∷◌, ◌++◌, length, map, take, drop, Result, Ok, Err, refl, sym, ap, subst, ◌∙◌, append_assoc, arith, inl, inr, ◌==◌}
 use Rattle.std.specs.Prelude.{nat_lt}
 use Rattle.std.proofs.lemmas.Bool.{ltb-true, ltb-false, lt-ltb, le-ltb, false_from_ne_true, both_ways, eqb-true, eqb-false, eq-eqb, ne_eqb}
@@ -15,7 +16,7 @@ use Rattle.eds_bits.specs.Style.{any}
 use Rattle.eds_types.proofs.ExactReading.{Is, Exact, done, failed}
 use Rattle.eds_types.proofs.ScalarReading.{IsTextSize, text_form, fixed_exact, coded_ok, ok_coded, coded_err, err_coded}
 use Rattle.eds_types.proofs.ReadingTests.{has_from, has_in}
-use Rattle.eds_types.specs.Failing.{Where, here, whole, KindFails}
+use Rattle.eds_types.specs.Failing.{fault_here, whole_octets, KindFails}
 use Rattle.eds_types.specs.Plain.{Plain, text}
 use Rattle.eds_types.specs.Reading.{Read, judged, coded, stopped, unstopped, read_open_text, read_text}
 use Rattle.eds_types.specs.Rows.{Table, list_has}
@@ -63,18 +64,18 @@ unfolding octs
 length_octs zero b = refl
 length_octs (suc k) b = ap suc (length_octs k (drop 8 b))
 
-pub whole_octs : (b : Bits) → whole b ≡ octs (length b / 8) b
+pub whole_octs : (b : Bits) → whole_octets b ≡ octs (length b / 8) b
 whole_octs b =
     let n : length (take (8 * (length b / 8)) b) ≡ 8 * (length b / 8) = omega (arith, length-take (8 * (length b / 8)) b) in
     octets_octs (length b / 8) (take (8 * (length b / 8)) b) n
     ∙ sym (octs_within (length b / 8) (take (8 * (length b / 8)) b) (drop (8 * (length b / 8)) b) (omega arith))
     ∙ ap (octs (length b / 8)) (take-append-drop (8 * (length b / 8)) b)
 
-pub whole_length : (b : Bits) → length (whole b) ≡ length b / 8
+pub whole_length : (b : Bits) → length (whole_octets b) ≡ length b / 8
 whole_length b = ap length (whole_octs b) ∙ length_octs (length b / 8) b
 
 -- the first octets of the whole are those of a front
-front_octets : (b c rest : Bits) (k : ℕ) → b ≡ c ++ rest → length c ≡ 8 * k → take k (whole b) ≡ octets_of c
+front_octets : (b c rest : Bits) (k : ℕ) → b ≡ c ++ rest → length c ≡ 8 * k → take k (whole_octets b) ≡ octets_of c
 front_octets b c rest k e h =
     let n = ap length e ∙ length-append c rest in
     ap (take k) (whole_octs b) ∙ take_octs k (length b / 8) b (omega arith) ∙ ap (octs k) e ∙ octs_within k c rest (omega arith) ∙ sym (octets_octs k c h)
@@ -154,7 +155,7 @@ take_short zero (o ∷ os) h = absurd (omega arith)
 take_short (suc n) [] h = refl
 take_short (suc n) (o ∷ os) h = ap (λ l. o ∷ l) (take_short n os (omega arith))
 
-module _ (t : Table) (read : ℕ → Bits → Read Plain) (SpellsInner : ℕ → Plain → Bits → Type 0) (FailsInner : ℕ → Bits → Where → Type 0) (id n : ℕ) (ascii : Bool) (stop : ℕ) (form_size : IsTextSize n stop) where
+module _ (t : Table) (read : ℕ → Bits → Read Plain) (SpellsInner : ℕ → Plain → Bits → Type 0) (FailsInner : ℕ → Bits → Fault → Type 0) (id n : ℕ) (ascii : Bool) (stop : ℕ) (form_size : IsTextSize n stop) where
   abbrev F : TextForm
   F = text_form n false ascii stop form_size
 
@@ -162,30 +163,30 @@ module _ (t : Table) (read : ℕ → Bits → Read Plain) (SpellsInner : ℕ →
   by_octet b q = cond q (stopped F b) (unstopped F b)
 
   by_room : Bool → Read Plain
-  by_room q = cond q (Err (here Short)) (Err (here Unterminated))
+  by_room q = cond q (Err (fault_here Short)) (Err (fault_here Unterminated))
 
   abbrev P : Plain → Bits → Type 0
   P = KindSpells any t SpellsInner id (kind.Str F)
 
-  abbrev Q : Bits → Where → Type 0
+  abbrev Q : Bits → Fault → Type 0
   Q = KindFails t SpellsInner FailsInner id (kind.Str F)
 
   abbrev said : Bits → List ℕ
-  said b = before_stop stop (whole b)
+  said b = before_stop stop (whole_octets b)
 
-  text_there : (b : Bits) → Has (take (n + 1) (whole b)) stop → (r : Result Plain Where) → coded ascii (said b) ≡ r → Is P Q b (judged (drop (8 * (length (said b) + 1)) b) r)
+  text_there : (b : Bits) → Has (take (n + 1) (whole_octets b)) stop → (r : Result Plain Fault) → coded ascii (said b) ≡ r → Is P Q b (judged (drop (8 * (length (said b) + 1)) b) r)
   text_there b h (Err g) e = let k = coded_err ascii (said b) g e in inr (inr (h, k.0, k.1))
   text_there b h (Ok v) e =
       let k = coded_ok ascii (said b) v e in
-      let c = cut_at stop (whole b) (has_whole (n + 1) stop (whole b) h) in
+      let c = cut_at stop (whole_octets b) (has_whole (n + 1) stop (whole_octets b) h) in
       let m = length (said b) + 1 in
       let lw = ap length c.is ∙ length-append (said b) (stop ∷ c.tail) in
       let enough : 8 * m ≤ length b = omega (arith, whole_length b) in
       let size : length (take (8 * m) b) ≡ 8 * m = omega (arith, length-take (8 * m) b) in
-      let w : whole b ≡ (said b ++ stop ∷ []) ++ c.tail = c.is ∙ sym (append_assoc (said b) (stop ∷ []) c.tail) in
+      let w : whole_octets b ≡ (said b ++ stop ∷ []) ++ c.tail = c.is ∙ sym (append_assoc (said b) (stop ∷ []) c.tail) in
       let lm : m ≡ length (said b ++ stop ∷ []) = sym (length-append (said b) (stop ∷ [])) in
-      let os : octets_of (take (8 * m) b) ≡ said b ++ stop ∷ [] = sym (front_octets b (take (8 * m) b) (drop (8 * m) b) m (sym (take-append-drop (8 * m) b)) size) ∙ ap (λ j. take j (whole b)) lm ∙ ap (take (length (said b ++ stop ∷ []))) w ∙ take_within (length (said b ++ stop ∷ [])) (said b ++ stop ∷ []) c.tail (omega arith) ∙ take_short (length (said b ++ stop ∷ [])) (said b ++ stop ∷ []) (omega arith) in
-      let short = before_short (n + 1) stop (whole b) h in
+      let os : octets_of (take (8 * m) b) ≡ said b ++ stop ∷ [] = sym (front_octets b (take (8 * m) b) (drop (8 * m) b) m (sym (take-append-drop (8 * m) b)) size) ∙ ap (λ j. take j (whole_octets b)) lm ∙ ap (take (length (said b ++ stop ∷ []))) w ∙ take_within (length (said b ++ stop ∷ [])) (said b ++ stop ∷ []) c.tail (omega arith) ∙ take_short (length (said b ++ stop ∷ [])) (said b ++ stop ∷ []) (omega arith) in
+      let short = before_short (n + 1) stop (whole_octets b) h in
       record {
         front = take (8 * m) b;
         is = sym (take-append-drop (8 * m) b);
@@ -194,23 +195,23 @@ module _ (t : Table) (read : ℕ → Bits → Read Plain) (SpellsInner : ℕ →
 
   open_from : (b : Bits) → Is P Q b (read_open_text F b)
   unfolding by_octet by_room
-  open_from b = go (list_has (take (n + 1) (whole b)) stop) refl
+  open_from b = go (list_has (take (n + 1) (whole_octets b)) stop) refl
     where
-      room : (Has (take (n + 1) (whole b)) stop → ⊥) → (q : Bool) → nat_lt (length (whole b)) (n + 1) ≡ q → Is P Q b (by_room q)
-      room out true e = let l = ltb-true (length (whole b)) (n + 1) e in inl ((λ h. out (subst (λ z. Has z stop) (sym (take_short (n + 1) (whole b) (omega arith))) h)), l, refl)
-      room out false e = inr (inl (ltb-false (length (whole b)) (n + 1) e, out, refl))
+      room : (Has (take (n + 1) (whole_octets b)) stop → ⊥) → (q : Bool) → nat_lt (length (whole_octets b)) (n + 1) ≡ q → Is P Q b (by_room q)
+      room out true e = let l = ltb-true (length (whole_octets b)) (n + 1) e in inl ((λ h. out (subst (λ z. Has z stop) (sym (take_short (n + 1) (whole_octets b) (omega arith))) h)), l, refl)
+      room out false e = inr (inl (ltb-false (length (whole_octets b)) (n + 1) e, out, refl))
 
-      go : (q : Bool) → list_has (take (n + 1) (whole b)) stop ≡ q → Is P Q b (by_octet b q)
-      go true e = text_there b (has_from (take (n + 1) (whole b)) stop e) (coded ascii (said b)) refl
-      go false e = room (λ h. both_ways (list_has (take (n + 1) (whole b)) stop) e (has_in (take (n + 1) (whole b)) stop h.before h.after h.is)) (nat_lt (length (whole b)) (n + 1)) refl
+      go : (q : Bool) → list_has (take (n + 1) (whole_octets b)) stop ≡ q → Is P Q b (by_octet b q)
+      go true e = text_there b (has_from (take (n + 1) (whole_octets b)) stop e) (coded ascii (said b)) refl
+      go false e = room (λ h. both_ways (list_has (take (n + 1) (whole_octets b)) stop) e (has_in (take (n + 1) (whole_octets b)) stop h.before h.after h.is)) (nat_lt (length (whole_octets b)) (n + 1)) refl
 
-  found : (b : Bits) → Has (take (n + 1) (whole b)) stop → read_open_text F b ≡ stopped F b
+  found : (b : Bits) → Has (take (n + 1) (whole_octets b)) stop → read_open_text F b ≡ stopped F b
   unfolding by_octet
-  found b h = ap (by_octet b) (has_in (take (n + 1) (whole b)) stop h.before h.after h.is)
+  found b h = ap (by_octet b) (has_in (take (n + 1) (whole_octets b)) stop h.before h.after h.is)
 
-  missing : (b : Bits) → (Has (take (n + 1) (whole b)) stop → ⊥) → read_open_text F b ≡ unstopped F b
+  missing : (b : Bits) → (Has (take (n + 1) (whole_octets b)) stop → ⊥) → read_open_text F b ≡ unstopped F b
   unfolding by_octet
-  missing b h = ap (by_octet b) (false_from_ne_true (list_has (take (n + 1) (whole b)) stop) (λ e. h (has_from (take (n + 1) (whole b)) stop e)))
+  missing b h = ap (by_octet b) (false_from_ne_true (list_has (take (n + 1) (whole_octets b)) stop) (λ e. h (has_from (take (n + 1) (whole_octets b)) stop e)))
 
   open_to : (b : Bits) (r : Read Plain) → Is P Q b r → read_open_text F b ≡ r
   unfolding by_room
@@ -219,22 +220,22 @@ module _ (t : Table) (read : ℕ → Bits → Read Plain) (SpellsInner : ℕ →
       let s = (h.has).0 in
       let k = (h.has).2 in
       let m = length s + 1 in
-      let tail = drop m (whole b) in
-      let top : take m (whole b) ≡ s ++ stop ∷ [] = front_octets b c v.1 m h.is k.size ∙ k.octets in
-      let w : whole b ≡ s ++ stop ∷ tail = sym (take-append-drop m (whole b)) ∙ ap (λ l. l ++ tail) top ∙ append_assoc s (stop ∷ []) tail in
+      let tail = drop m (whole_octets b) in
+      let top : take m (whole_octets b) ≡ s ++ stop ∷ [] = front_octets b c v.1 m h.is k.size ∙ k.octets in
+      let w : whole_octets b ≡ s ++ stop ∷ tail = sym (take-append-drop m (whole_octets b)) ∙ ap (λ l. l ++ tail) top ∙ append_assoc s (stop ∷ []) tail in
       let there = subst (λ l. Has (take (n + 1) l) stop) (sym w) (take_has (n + 1) stop s tail (let sh = k.short in omega arith)) in
       let word : said b ≡ s = ap (before_stop stop) w ∙ before_is stop s tail k.free in
       let rest : drop (8 * m) b ≡ v.1 = ap (λ j. drop j b) (sym k.size) ∙ ap (drop (length c)) h.is ∙ drop-append_seam c v.1 in
       found b there ∙ ap (λ z. judged (drop (8 * (length z + 1)) b) (coded ascii z)) word ∙ ap (judged (drop (8 * m) b)) (ok_coded ascii s k.coded) ∙ ap (λ z. done (text s, z)) rest ∙ ap (λ z. done (z, v.1)) (sym (h.has).1)
   open_to b (Err g) (inl h) =
       let l = h.1 in
-      missing b (λ k. h.0 (subst (λ z. Has z stop) (take_short (n + 1) (whole b) (omega arith)) k)) ∙ ap by_room (lt-ltb (length (whole b)) (n + 1) l) ∙ ap (failed (Plain × Bits)) (sym h.2)
-  open_to b (Err g) (inr (inl h)) = missing b h.1 ∙ ap by_room (le-ltb (length (whole b)) (n + 1) h.0) ∙ ap (failed (Plain × Bits)) (sym h.2)
+      missing b (λ k. h.0 (subst (λ z. Has z stop) (take_short (n + 1) (whole_octets b) (omega arith)) k)) ∙ ap by_room (lt-ltb (length (whole_octets b)) (n + 1) l) ∙ ap (failed (Plain × Bits)) (sym h.2)
+  open_to b (Err g) (inr (inl h)) = missing b h.1 ∙ ap by_room (le-ltb (length (whole_octets b)) (n + 1) h.0) ∙ ap (failed (Plain × Bits)) (sym h.2)
   open_to b (Err g) (inr (inr h)) = found b h.0 ∙ ap (judged (drop (8 * (length (said b) + 1)) b)) (err_coded ascii (said b) h.1) ∙ ap (failed (Plain × Bits)) (sym h.2)
 
   pub open_exact : Exact (read_text F false) P Q
   open_exact = record { from = open_from; to = open_to }
 
-pub text_exact : (t : Table) (read : ℕ → Bits → Read Plain) (SpellsInner : ℕ → Plain → Bits → Type 0) (FailsInner : ℕ → Bits → Where → Type 0) (id n : ℕ) (fixed ascii : Bool) (stop : ℕ) (size : IsTextSize n stop) → Exact (read_text (text_form n fixed ascii stop size) fixed) (KindSpells any t SpellsInner id (kind.Str (text_form n fixed ascii stop size))) (KindFails t SpellsInner FailsInner id (kind.Str (text_form n fixed ascii stop size)))
+pub text_exact : (t : Table) (read : ℕ → Bits → Read Plain) (SpellsInner : ℕ → Plain → Bits → Type 0) (FailsInner : ℕ → Bits → Fault → Type 0) (id n : ℕ) (fixed ascii : Bool) (stop : ℕ) (size : IsTextSize n stop) → Exact (read_text (text_form n fixed ascii stop size) fixed) (KindSpells any t SpellsInner id (kind.Str (text_form n fixed ascii stop size))) (KindFails t SpellsInner FailsInner id (kind.Str (text_form n fixed ascii stop size)))
 text_exact t read SpellsInner FailsInner id n true ascii stop size = fixed_exact t read SpellsInner FailsInner id n ascii stop size
 text_exact t read SpellsInner FailsInner id n false ascii stop size = open_exact t read SpellsInner FailsInner id n ascii stop size

@@ -5,7 +5,7 @@ use Rattle.eds_bits.specs.Bits.{Bits}
 use Rattle.eds_bits.specs.Style.{canonical}
 use Rattle.eds_types.specs.declared.reason.PackReason.TheVariants.{TooLong}
 use Rattle.eds_types.specs.Laws.{OneSize, HasCanonical, OneCanonical, LeastIsLeast, PackingIsDecided}
-use Rattle.eds_types.specs.Packing.{Where, here, most_bits, PackFailsWithin, PackFailsAt}
+use Rattle.eds_types.specs.Packing.{PackFault, pack_fault_here, most_bits, PackFailsWithin, PackFailsAt}
 use Rattle.eds_types.specs.Spelling.{Canon, SpellsWithin}
 use Rattle.eds_types.proofs.CanonicalSpelling.{canon_within}
 use Rattle.eds_types.proofs.DecidedPacking.{Decided}
@@ -33,19 +33,19 @@ packing_is_decided t id h v = record { either = go d.either; one_place = one; no
     d : Decided (SpellsWithin 32 canonical t id v) (PackFailsWithin 32 t id v)
     d = packs_within t (table_of t h.rules) (facts_of t h.rules) 32 id ((table_of t h.rules).nested id) h.there v
 
-    go : (((b : Bits) × Canon t id v b) ⊎ ((g : Where) × PackFailsWithin 32 t id v g)) → ((b : Bits) × Canon t id v b × (length b ≤ most_bits)) ⊎ ((g : Where) × PackFailsAt t id v g)
+    go : (((b : Bits) × Canon t id v b) ⊎ ((g : PackFault) × PackFailsWithin 32 t id v g)) → ((b : Bits) × Canon t id v b × (length b ≤ most_bits)) ⊎ ((g : PackFault) × PackFailsAt t id v g)
     go (inr f) = inr (f.0, inl f.1)
     go (inl s) = elim (cases_lt most_bits (length s.0)) [
-      | inl long ↦ inr (here TooLong, inr (record { nothing_else = λ w f. d.apart s.0 w s.1 f; spelling = s.0; is = s.1; long = long }, refl))
+      | inl long ↦ inr (pack_fault_here TooLong, inr (record { nothing_else = λ w f. d.apart s.0 w s.1 f; spelling = s.0; is = s.1; long = long }, refl))
       | inr short ↦ inl (s.0, s.1, short)
     ]
 
-    one : (g k : Where) → PackFailsAt t id v g → PackFailsAt t id v k → g ≡ k
+    one : (g k : PackFault) → PackFailsAt t id v g → PackFailsAt t id v k → g ≡ k
     one g k (inl f) (inl e) = d.one g k f e
     one g k (inl f) (inr e) = absurd ((e.0).nothing_else g f)
     one g k (inr f) (inl e) = absurd ((f.0).nothing_else k e)
     one g k (inr f) (inr e) = f.1 ∙ sym e.1
 
-    apart : (b : Bits) (g : Where) → Canon t id v b → length b ≤ most_bits → PackFailsAt t id v g → ⊥
+    apart : (b : Bits) (g : PackFault) → Canon t id v b → length b ≤ most_bits → PackFailsAt t id v g → ⊥
     apart b g s l (inl f) = d.apart b g s f
     apart b g s l (inr f) = let e = ap length (one_canonical t id h v b (f.0).spelling s (f.0).is) in let m = (f.0).long in omega arith

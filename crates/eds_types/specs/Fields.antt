@@ -17,17 +17,26 @@ use Rattle.eds_types.specs.Rows.{Table, chain, entries_of, trailers_of, constrai
 -- ---- fields
 
 -- a value, with the container and the place of the part that holds it
-abbrev pub Field : Type 0
-Field = ℕ × ℕ × Plain
+pub record Field : Type 0 where
+  pub container : ℕ
+  pub place : ℕ
+  pub value : Plain
+
+abbrev pub field_at : ℕ → ℕ → Plain → Field
+field_at y i v = record { container = y; place = i; value = v }
+
+-- the field of a part
+abbrev pub field_of : Placed → Plain → Field
+field_of p v = field_at p.container p.place v
 
 -- the value of the part at this place of the container
 abbrev pub value_at : List Field → ℕ → ℕ → Option Plain
 value_at [] y i = None
-value_at (f ∷ fs) y i = if f.0 == y && f.1 == i then Some f.2 else value_at fs y i
+value_at (f ∷ fs) y i = if f.container == y && f.place == i then Some f.value else value_at fs y i
 
 abbrev pub values_of : List Field → List Plain
 values_of [] = []
-values_of (f ∷ fs) = f.2 ∷ values_of fs
+values_of (f ∷ fs) = f.value ∷ values_of fs
 
 -- whether a part has a value in the fields: entries and lists have
 abbrev pub has_value : Part → Bool
@@ -38,11 +47,16 @@ has_value (part.List name id y i) = true
 has_value (part.Length name id c0 c1) = false
 has_value (part.Check name id k) = false
 
+-- the part, which is there, has a value in the fields
+abbrev pub has_value_in : Option Part → Bool
+has_value_in None = false
+has_value_in (Some p) = has_value p
+
 -- the values, each with the part that holds it, in turn
 abbrev pub paired : List Placed → List Plain → List Field
 paired [] vs = []
 paired (p ∷ ps) [] = []
-paired (p ∷ ps) (v ∷ vs) = if has_value p.part then (p.container, p.place, v) ∷ paired ps vs else paired ps (v ∷ vs)
+paired (p ∷ ps) (v ∷ vs) = if has_value p.part then field_of p v ∷ paired ps vs else paired ps (v ∷ vs)
 
 -- ---- what a path leads to
 

@@ -2,7 +2,7 @@
 use Rattle.std.specs.Prelude.{◌≡◌, ◌↔◌, ◌⊎◌, ℕ, ◌<◌, ◌≤◌, [], length, IsSome}
 use Rattle.eds_bits.specs.Bits.{Bits}
 use Rattle.eds_types.specs.LeastSize.{least_size}
-use Rattle.eds_types.specs.Packing.{Where, most_bits, PackFailsAt}
+use Rattle.eds_types.specs.Packing.{PackFault, most_bits, PackFailsAt}
 use Rattle.eds_types.specs.Plain.{Plain}
 use Rattle.eds_types.specs.Rows.{Table}
 use Rattle.eds_types.specs.Rules.{IsHollow, KeepsRules}
@@ -41,9 +41,9 @@ EmptyTypes = (t : Table) (id : ℕ) → IsThere t id → ((v : Plain) × Spells 
 
 -- the value has a canonical spelling that isn't too long, or packing fails, at one place for one reason
 pub record PacksOrFails (t : Table) (id : ℕ) (v : Plain) : Type 0 where
-  pub either : ((b : Bits) × Canon t id v b × (length b ≤ most_bits)) ⊎ ((g : Where) × PackFailsAt t id v g)
-  pub one_place : (g h : Where) → PackFailsAt t id v g → PackFailsAt t id v h → g ≡ h
-  pub not_both : (b : Bits) (g : Where) → Canon t id v b → length b ≤ most_bits → PackFailsAt t id v g → ⊥
+  pub either : ((b : Bits) × Canon t id v b × (length b ≤ most_bits)) ⊎ ((g : PackFault) × PackFailsAt t id v g)
+  pub one_place : (g h : PackFault) → PackFailsAt t id v g → PackFailsAt t id v h → g ≡ h
+  pub not_both : (b : Bits) (g : PackFault) → Canon t id v b → length b ≤ most_bits → PackFailsAt t id v g → ⊥
 
 abbrev pub PackingIsDecided : Type 0
 PackingIsDecided = (t : Table) (id : ℕ) → IsThere t id → (v : Plain) → PacksOrFails t id v

@@ -1,5 +1,5 @@
 -- The least size of a type: a bound below on the bits of a value.
-use Rattle.std.specs.Prelude.{ℕ, zero, suc, ◌+◌, ◌*◌, min, nat_abs, List, [], ◌∷◌, map, filter, sum_by, Option, Some, None, slice_get, slice_index, slice_index_or, if◌then◌else◌}
+use Rattle.std.specs.Prelude.{ℕ, zero, suc, ◌+◌, ◌*◌, min, int_le, nat_abs, List, [], ◌∷◌, map, filter, sum_by, Option, Some, None, slice_get, slice_index, slice_index_or, if◌then◌else◌}
 use Rattle.std.specs.List.{range_with_len}
 use Rattle.eds_base.specs.declared.ids.TypeId.{TypeId}
 use Rattle.eds_base.specs.declared.spans.Span.{Span}
@@ -24,10 +24,14 @@ abbrev pub least_of : List ℕ → ℕ
 least_of [] = no_size
 least_of (n ∷ ns) = min n (least_of ns)
 
+-- the least number of an interval that has no negative ones; an empty interval has none
+abbrev pub least_in : Span → ℕ
+least_in s = if int_le s.low s.high then nat_abs s.low else no_size
+
 -- the least number of a domain that has no negative ones, or the size above where it is larger
 abbrev pub least_number : List Span → ℕ
 least_number [] = no_size
-least_number (s ∷ spans) = min (nat_abs s.low) (least_number spans)
+least_number (s ∷ spans) = min (least_in s) (least_number spans)
 
 abbrev pub least_number_in : Option (List Span) → ℕ
 least_number_in None = 0

@@ -17,3 +17,4 @@ pub mod FlatTables
 pub mod Reasons
 pub mod PackedSizes
 pub mod PlainCode
+pub mod TextValues

@@ -20,7 +20,7 @@ use Rattle.eds_types.specs.declared.row.Part.{Part}
 use Rattle.eds_types.specs.declared.row.Part.TheVariants as part
 use Rattle.eds_types.specs.Failing.{Station, condition, entry, choice, end, course, length_path, part_step, path_steps}
 use Rattle.eds_types.specs.Fields.{Field, listed, paired, value_at}
-use Rattle.eds_types.specs.Packing.{Where, behind, here, most_bits, valued, PackFailsAt}
+use Rattle.eds_types.specs.Packing.{PackFault, pack_fault_behind, pack_fault_here, item_step, most_bits, valued, PackFailsAt, pack_fault_at}
 use Rattle.eds_types.specs.Plain.{Plain, num, label, truth, text, bits, items, fields, list_of, plain}
 use Rattle.eds_types.specs.Reading.{candidate_under, holds, is_coded, is_within}
 use Rattle.eds_types.specs.Rows.{Table, id_of, chain, container_of, is_concrete, list_has, Placed, sequence}
@@ -29,12 +29,12 @@ use Rattle.eds_types.specs.Spelling.{Canon}
 
 -- a number of bits, or the fault
 abbrev pub Size : Type 0
-Size = Result ℕ Where
+Size = Result ℕ PackFault
 
 -- a fault inside a step
-abbrev pub inside : Step → Size → Size
-inside s (Ok n) = Ok n
-inside s (Err g) = Err (behind s g)
+abbrev pub size_inside : Step → Size → Size
+size_inside s (Ok n) = Ok n
+size_inside s (Err g) = Err (pack_fault_behind s g)
 
 abbrev pub after : Size → (ℕ → Size) → Size
 after (Ok n) next = next n
@@ -43,20 +43,20 @@ after (Err g) next = Err g
 -- ---- one value
 
 abbrev pub number_size : IntForm → List Span → Plain → Size
-number_size form spans (num n) = cond (is_within spans n) (Ok form.bits) (Err (here reason.OutOfRange))
-number_size form spans v = Err (here reason.WrongKind)
+number_size form spans (num n) = cond (is_within spans n) (Ok form.bits) (Err (pack_fault_here reason.OutOfRange))
+number_size form spans v = Err (pack_fault_here reason.WrongKind)
 
 abbrev pub listed_size : IntForm → Option ℤ → Size
-listed_size form None = Err (here reason.NoLabel)
+listed_size form None = Err (pack_fault_here reason.NoLabel)
 listed_size form (Some n) = Ok form.bits
 
 abbrev pub label_size : IntForm → List (List ℕ × ℤ) → Plain → Size
 label_size form listing (label l) = listed_size form (listed listing l)
-label_size form listing v = Err (here reason.WrongKind)
+label_size form listing v = Err (pack_fault_here reason.WrongKind)
 
 abbrev pub truth_size : ℕ → Plain → Size
 truth_size n (truth b) = Ok n
-truth_size n v = Err (here reason.WrongKind)
+truth_size n v = Err (pack_fault_here reason.WrongKind)
 
 -- the text is one of the encoding, and doesn't hold its termination octet
 abbrev pub text_fits : TextForm → List ℕ → Bool
@@ -68,8 +68,8 @@ text_bits true n m = 8 * n
 text_bits false n m = 8 * (m + 1)
 
 abbrev pub text_size : TextForm → Plain → Size
-text_size form (text s) = cond (text_fits form s) (cond (nat_lt form.length (length s)) (Err (here reason.WrongSize)) (Ok (text_bits form.fixed form.length (length s)))) (Err (here reason.BadText))
-text_size form v = Err (here reason.WrongKind)
+text_size form (text s) = cond (text_fits form s) (cond (nat_lt form.length (length s)) (Err (pack_fault_here reason.WrongSize)) (Ok (text_bits form.fixed form.length (length s)))) (Err (pack_fault_here reason.BadText))
+text_size form v = Err (pack_fault_here reason.WrongKind)
 
 -- a binary of n bits, or an open one of at most so many, has m bits
 abbrev pub has_bits : ℕ → Bool → ℕ → Bool
@@ -81,19 +81,19 @@ abbrev pub is_filled : ℕ → List ℕ → Bool
 is_filled m o = length (take m (bits_of o)) == m && same_text (octets_of (take m (bits_of o))) o
 
 abbrev pub binary_size : ℕ → Bool → Plain → Size
-binary_size n free (bits m o) = cond (has_bits n free m && is_filled m o) (Ok m) (Err (here reason.WrongSize))
-binary_size n free v = Err (here reason.WrongKind)
+binary_size n free (bits m o) = cond (has_bits n free m && is_filled m o) (Ok m) (Err (pack_fault_here reason.WrongSize))
+binary_size n free v = Err (pack_fault_here reason.WrongKind)
 
 -- ---- items; size gives that of a value of a nested type
 
 -- the items from the one with the number j on, added to the bits before them
 abbrev pub items_size : (Plain → Size) → ℕ → ℕ → List Plain → Size
 items_size size j before [] = Ok before
-items_size size j before (v ∷ vs) = after (inside (step.Item j) (size v)) (λ n. items_size size (j + 1) (before + n) vs)
+items_size size j before (v ∷ vs) = after (size_inside (item_step j) (size v)) (λ n. items_size size (j + 1) (before + n) vs)
 
 abbrev pub array_size : (Plain → Size) → ℕ → Plain → Size
-array_size size n (items vs) = cond (length (list_of vs) == n) (items_size size 0 0 (list_of vs)) (Err (here reason.WrongSize))
-array_size size n v = Err (here reason.WrongKind)
+array_size size n (items vs) = cond (length (list_of vs) == n) (items_size size 0 0 (list_of vs)) (Err (pack_fault_here reason.WrongSize))
+array_size size n v = Err (pack_fault_here reason.WrongKind)
 
 -- ---- containers
 
@@ -138,28 +138,28 @@ module _ (t : Table) (size : ℕ → Plain → Size) where
 
     abbrev pub list_size : ℕ → Option Plain → Option Plain → Size
     list_size id count None = Ok 0
-    list_size id count (Some (items vs)) = cond (tells count (length (list_of vs))) (items_size (size id) 0 0 (list_of vs)) (Err (here reason.CountWrong))
-    list_size id count (Some v) = Err (here reason.WrongKind)
+    list_size id count (Some (items vs)) = cond (tells count (length (list_of vs))) (items_size (size id) 0 0 (list_of vs)) (Err (pack_fault_here reason.CountWrong))
+    list_size id count (Some v) = Err (pack_fault_here reason.WrongKind)
 
-    abbrev pub part_size : Placed → Part → Size
-    part_size p (part.Plain name id) = entry_size id.0 (value_at fs p.container p.place)
-    part_size p (part.Fixed name id v) = size id.0 (plain v)
-    part_size p (part.Pad n) = Ok n
-    part_size p (part.List name id y i) = list_size id.0 (value_at fs y.0 i) (value_at fs p.container p.place)
-    part_size p (part.Length name id c0 c1) = Ok (row_bits (slice_get t id.0))
-    part_size p (part.Check name id k) = Ok (row_bits (slice_get t id.0))
+    abbrev pub packed_part_size : Placed → Part → Size
+    packed_part_size p (part.Plain name id) = entry_size id.0 (value_at fs p.container p.place)
+    packed_part_size p (part.Fixed name id v) = size id.0 (plain v)
+    packed_part_size p (part.Pad n) = Ok n
+    packed_part_size p (part.List name id y i) = list_size id.0 (value_at fs y.0 i) (value_at fs p.container p.place)
+    packed_part_size p (part.Length name id c0 c1) = Ok (row_bits (slice_get t id.0))
+    packed_part_size p (part.Check name id k) = Ok (row_bits (slice_get t id.0))
 
     -- the fields of k go on from no other container
     abbrev pub choice_size : ℕ → Option ℕ → Size
     choice_size k None = Ok 0
-    choice_size k (Some l) = Err (reason.NotMostDerived, step.Choice (id_of k) ∷ [])
+    choice_size k (Some l) = Err (pack_fault_at reason.NotMostDerived (step.Choice (id_of k) ∷ []))
 
     -- of what is judged in turn for the fields of k, after so many bits
     abbrev pub station_size : ℕ → ℕ → Station → Size
-    station_size k before (condition y c) = cond (holds t fs c) (Ok 0) (Err (reason.Constraint, path_steps c.path))
-    station_size k before (entry p) = inside (part_step p) (part_size p p.part)
+    station_size k before (condition y c) = cond (holds t fs c) (Ok 0) (Err (pack_fault_at reason.Constraint (path_steps c.path)))
+    station_size k before (entry p) = size_inside (part_step p) (packed_part_size p p.part)
     station_size k before (choice y) = choice_size k (candidate_under t k fs)
-    station_size k before end = cond (list_all (λ (p : Placed). length_fits (octets_for before) p.part) (sequence t k)) (Ok 0) (Err (reason.LengthField, length_path t k))
+    station_size k before end = cond (list_all (λ (p : Placed). length_fits (octets_for before) p.part) (sequence t k)) (Ok 0) (Err (pack_fault_at reason.LengthField (length_path t k)))
 
     abbrev pub stations_size : ℕ → ℕ → List Station → Size
     stations_size k before [] = Ok before
@@ -170,45 +170,45 @@ module _ (t : Table) (size : ℕ → Plain → Size) where
   own_size k f = stations_size (paired (sequence t k) f) k 0 (course t k k)
 
   abbrev pub concrete_size : ℕ → List Plain → Size
-  concrete_size k f = cond (is_concrete t k) (own_size k f) (Err (reason.Abstract, step.Choice (id_of k) ∷ []))
+  concrete_size k f = cond (is_concrete t k) (own_size k f) (Err (pack_fault_at reason.Abstract (step.Choice (id_of k) ∷ [])))
 
   abbrev pub derived_size : ℕ → ℕ → List Plain → Size
-  derived_size id k f = cond (list_has (chain t k) id) (concrete_size k f) (Err (reason.NotDerived, step.Choice (id_of k) ∷ []))
+  derived_size id k f = cond (list_has (chain t k) id) (concrete_size k f) (Err (pack_fault_at reason.NotDerived (step.Choice (id_of k) ∷ [])))
 
   abbrev pub fields_size : ℕ → ℕ → List Plain → Size
-  fields_size id k f = cond (is_some (container_of t k) && (length f == valued (sequence t k))) (derived_size id k f) (Err (here reason.WrongKind))
+  fields_size id k f = cond (is_some (container_of t k) && (length f == valued (sequence t k))) (derived_size id k f) (Err (pack_fault_here reason.WrongKind))
 
   abbrev pub container_size : ℕ → Plain → Size
   container_size id (fields k f) = fields_size id k (list_of f)
-  container_size id v = Err (here reason.WrongKind)
+  container_size id v = Err (pack_fault_here reason.WrongKind)
 
   -- ---- any type
 
-  abbrev pub kind_size : ℕ → Kind → Plain → Size
-  kind_size id (kind.Int form spans) v = number_size form spans v
-  kind_size id (kind.Enum form listing) v = label_size form listing v
-  kind_size id (kind.Bool form) v = truth_size form.bits v
-  kind_size id (kind.Str form) v = text_size form v
-  kind_size id (kind.Bin n free) v = binary_size n free v
-  kind_size id (kind.Arr item n) v = array_size (size item.0) n v
-  kind_size id (kind.Con c) v = container_size id v
+  abbrev pub packed_kind_size : ℕ → Kind → Plain → Size
+  packed_kind_size id (kind.Int form spans) v = number_size form spans v
+  packed_kind_size id (kind.Enum form listing) v = label_size form listing v
+  packed_kind_size id (kind.Bool form) v = truth_size form.bits v
+  packed_kind_size id (kind.Str form) v = text_size form v
+  packed_kind_size id (kind.Bin n free) v = binary_size n free v
+  packed_kind_size id (kind.Arr item n) v = array_size (size item.0) n v
+  packed_kind_size id (kind.Con c) v = container_size id v
 
-  abbrev pub row_size : ℕ → Option TypeRow → Plain → Size
-  row_size id None v = Err (here reason.WrongKind)
-  row_size id (Some row) v = kind_size id row.kind v
+  abbrev pub packed_row_size : ℕ → Option TypeRow → Plain → Size
+  packed_row_size id None v = Err (pack_fault_here reason.WrongKind)
+  packed_row_size id (Some row) v = packed_kind_size id row.kind v
 
 -- of a value of any type, where at most n types are nested in each other
-unfoldable pub size_within : ℕ → Table → ℕ → Plain → Size
-size_within zero t id v = Err (here reason.WrongKind)
-size_within (suc n) t id v = row_size t (size_within n t) id (slice_get t id) v
+unfoldable pub packed_size_within : ℕ → Table → ℕ → Plain → Size
+packed_size_within zero t id v = Err (pack_fault_here reason.WrongKind)
+packed_size_within (suc n) t id v = packed_row_size t (packed_size_within n t) id (slice_get t id) v
 
 -- a value that is too long fails, where nothing else does
 abbrev pub not_long : Size → Size
-not_long (Ok n) = cond (nat_le n most_bits) (Ok n) (Err (here reason.TooLong))
+not_long (Ok n) = cond (nat_le n most_bits) (Ok n) (Err (pack_fault_here reason.TooLong))
 not_long (Err g) = Err g
 
 abbrev pub packed_size : Table → ℕ → Plain → Size
-packed_size t id v = not_long (size_within 32 t id v)
+packed_size t id v = not_long (packed_size_within 32 t id v)
 
 -- whether the value packs as the type
 abbrev pub packs : Table → ℕ → Plain → Bool
@@ -223,7 +223,7 @@ Packs t id v n = (b : Bits) × Canon t id v b × (length b ≡ n) × (n ≤ most
 -- the pass finds a size exactly where the value packs into so many bits, and a fault exactly where it is there
 pub record IsExact (t : Table) (id : ℕ) (v : Plain) : Type 0 where
   pub size : (n : ℕ) → (packed_size t id v ≡ Ok n) ↔ Packs t id v n
-  pub fault : (g : Where) → (packed_size t id v ≡ Err g) ↔ PackFailsAt t id v g
+  pub fault : (g : PackFault) → (packed_size t id v ≡ Err g) ↔ PackFailsAt t id v g
   pub bool : IsTrue (packs t id v) ↔ ((n : ℕ) × Packs t id v n)
 
 abbrev pub SizesAreExact : Type 0

@@ -1,5 +1,5 @@
 -- Where packing a value fails, and why.
-use Rattle.std.specs.Prelude.{◌≡◌, ◌≢◌, ℕ, zero, suc, ◌+◌, ◌<◌, ℤ, pos, List, [], ◌∷◌, length, false, Option, Some, None, IsSome, ◌⊎◌, if◌then◌else◌, slice_get, IsTrue}
+use Rattle.std.specs.Prelude.{◌≡◌, ◌≢◌, ℕ, zero, suc, ◌+◌, ◌<◌, min, ℤ, pos, List, [], ◌∷◌, length, false, Option, Some, None, IsSome, ◌⊎◌, if◌then◌else◌, slice_get, IsTrue}
 use Rattle.eds_base.specs.declared.fault.Step.{Step}
 use Rattle.eds_base.specs.declared.fault.Step.TheVariants as step
 use Rattle.eds_base.specs.Spans.{IsWithin}
@@ -22,81 +22,83 @@ use Rattle.eds_types.specs.Spelling.{Progress, started, PartsPass, SizeFits, Bin
 use Rattle.eds_types.specs.Failing.{Station, condition, entry, choice, end, course, length_path, path_steps}
 
 -- why packing stops, and the steps from the whole value to the place where it does
-abbrev pub Where : Type 0
-Where = PackReason × List Step
+pub record PackFault : Type 0 where
+  pub reason : PackReason
+  pub path : List Step
 
--- the same, seen from one step further out
-abbrev pub behind : Step → Where → Where
-behind s g = (g.0, s ∷ g.1)
+abbrev pub pack_fault_at : PackReason → List Step → PackFault
+pack_fault_at why path = record { reason = why; path = path }
 
-abbrev pub here : PackReason → Where
-here r = (r, [])
+-- the same fault, seen from one step further out
+abbrev pub pack_fault_behind : Step → PackFault → PackFault
+pack_fault_behind s g = pack_fault_at g.reason (s ∷ g.path)
+
+-- a fault of the whole value
+abbrev pub pack_fault_here : PackReason → PackFault
+pack_fault_here why = pack_fault_at why []
+
+-- the step into the item with the number j. A step holds the numbers below 2^32: the last of them stands for any that is
+-- larger
+abbrev pub item_step : ℕ → Step
+item_step j = step.Item (min j 4294967295)
 
 -- ---- the stations that fields don't pass, where Fails says where packing a value of a nested type fails
 
 -- the first item that fails, after those that don't; the first of the list has the number j
-abbrev pub ItemFails : (Plain → Where → Type 0) → ℕ → List Plain → Where → Type 0
-ItemFails FailsInner j [] g = ⊥
-ItemFails FailsInner j (v ∷ vs) g = ((w : Where) × FailsInner v w × (g ≡ behind (step.Item j) w)) ⊎ (((w : Where) → FailsInner v w → ⊥) × ItemFails FailsInner (j + 1) vs g)
+abbrev pub ItemPackFails : (Plain → PackFault → Type 0) → ℕ → List Plain → PackFault → Type 0
+ItemPackFails FailsInner j [] g = ⊥
+ItemPackFails FailsInner j (v ∷ vs) g = ((w : PackFault) × FailsInner v w × (g ≡ pack_fault_behind (item_step j) w)) ⊎ (((w : PackFault) → FailsInner v w → ⊥) × ItemPackFails FailsInner (j + 1) vs g)
 
-module _ (t : Table) (FailsInner : ℕ → Plain → Where → Type 0) (fs : List Field) where
+module _ (t : Table) (FailsInner : ℕ → Plain → PackFault → Type 0) (fs : List Field) where
   -- the entry at this place of the container tells the number of items
   abbrev pub Tells : ℕ → ℕ → List Plain → Type 0
   Tells y i vs = value_at fs y i ≡ Some (num (pos (length vs)))
 
-  abbrev pub ListFails : ℕ → ℕ → ℕ → Option Plain → Where → Type 0
-  ListFails id y i None g = ⊥
-  ListFails id y i (Some (num n)) g = g ≡ here reason.WrongKind
-  ListFails id y i (Some (label l)) g = g ≡ here reason.WrongKind
-  ListFails id y i (Some (truth b)) g = g ≡ here reason.WrongKind
-  ListFails id y i (Some (text s)) g = g ≡ here reason.WrongKind
-  ListFails id y i (Some (bits n o)) g = g ≡ here reason.WrongKind
-  ListFails id y i (Some (fields k vs)) g = g ≡ here reason.WrongKind
-  ListFails id y i (Some (items vs)) g =
-      ((Tells y i (list_of vs) → ⊥) × (g ≡ here reason.CountWrong))
-      ⊎ (Tells y i (list_of vs) × ItemFails (FailsInner id) 0 (list_of vs) g)
+  abbrev pub ListPackFails : ℕ → ℕ → ℕ → Option Plain → PackFault → Type 0
+  ListPackFails id y i None g = ⊥
+  ListPackFails id y i (Some (num n)) g = g ≡ pack_fault_here reason.WrongKind
+  ListPackFails id y i (Some (label l)) g = g ≡ pack_fault_here reason.WrongKind
+  ListPackFails id y i (Some (truth b)) g = g ≡ pack_fault_here reason.WrongKind
+  ListPackFails id y i (Some (text s)) g = g ≡ pack_fault_here reason.WrongKind
+  ListPackFails id y i (Some (bits n o)) g = g ≡ pack_fault_here reason.WrongKind
+  ListPackFails id y i (Some (fields k vs)) g = g ≡ pack_fault_here reason.WrongKind
+  ListPackFails id y i (Some (items vs)) g =
+      ((Tells y i (list_of vs) → ⊥) × (g ≡ pack_fault_here reason.CountWrong))
+      ⊎ (Tells y i (list_of vs) × ItemPackFails (FailsInner id) 0 (list_of vs) g)
 
   -- a part without a value in the fields never fails here
-  abbrev pub PartFails : Placed → Part → Where → Type 0
-  PartFails p (part.Plain name id) g = (v : Plain) × (value_at fs p.container p.place ≡ Some v) × FailsInner id.0 v g
-  PartFails p (part.Fixed name id v) g = ⊥
-  PartFails p (part.Pad n) g = ⊥
-  PartFails p (part.List name id y i) g = ListFails id.0 y.0 i (value_at fs p.container p.place) g
-  PartFails p (part.Length name id c0 c1) g = ⊥
-  PartFails p (part.Check name id k) g = ⊥
+  abbrev pub PartPackFails : Placed → Part → PackFault → Type 0
+  PartPackFails p (part.Plain name id) g = (v : Plain) × (value_at fs p.container p.place ≡ Some v) × FailsInner id.0 v g
+  PartPackFails p (part.Fixed name id v) g = ⊥
+  PartPackFails p (part.Pad n) g = ⊥
+  PartPackFails p (part.List name id y i) g = ListPackFails id.0 y.0 i (value_at fs p.container p.place) g
+  PartPackFails p (part.Length name id c0 c1) g = ⊥
+  PartPackFails p (part.Check name id k) g = ⊥
 
   -- the fields don't pass the station of x; NoSize says that no number of the length entry fits
-  abbrev pub StationFails : Type 0 → ℕ → Station → Where → Type 0
-  StationFails NoSize x (condition y c) g = (Holds t fs c → ⊥) × (g ≡ (reason.Constraint, path_steps c.path))
-  StationFails NoSize x (entry p) g = (w : Where) × PartFails p p.part w × (g ≡ behind (step.Part (id_of p.container) p.place) w)
-  StationFails NoSize x (choice y) g = (l : ℕ) × (l ≢ x) × IsAtOrUnder t x l × IsCandidate t x l fs × (g ≡ (reason.NotMostDerived, step.Choice (id_of x) ∷ []))
-  StationFails NoSize x end g = NoSize × (g ≡ (reason.LengthField, length_path t x))
+  abbrev pub StationPackFails : Type 0 → ℕ → Station → PackFault → Type 0
+  StationPackFails NoSize x (condition y c) g = (Holds t fs c → ⊥) × (g ≡ pack_fault_at reason.Constraint (path_steps c.path))
+  StationPackFails NoSize x (entry p) g = (w : PackFault) × PartPackFails p p.part w × (g ≡ pack_fault_behind (step.Part (id_of p.container) p.place) w)
+  StationPackFails NoSize x (choice y) g = (l : ℕ) × (l ≢ x) × IsAtOrUnder t x l × IsCandidate t x l fs × (g ≡ pack_fault_at reason.NotMostDerived (step.Choice (id_of x) ∷ []))
+  StationPackFails NoSize x end g = NoSize × (g ≡ pack_fault_at reason.LengthField (length_path t x))
 
   -- the first station that they don't pass, after those that they do
-  abbrev pub FirstFails : Type 0 → ℕ → List Station → Where → Type 0
-  FirstFails NoSize x [] g = ⊥
-  FirstFails NoSize x (s ∷ ss) g = StationFails NoSize x s g ⊎ (((w : Where) → StationFails NoSize x s w → ⊥) × FirstFails NoSize x ss g)
+  abbrev pub FirstPackFails : Type 0 → ℕ → List Station → PackFault → Type 0
+  FirstPackFails NoSize x [] g = ⊥
+  FirstPackFails NoSize x (s ∷ ss) g = StationPackFails NoSize x s g ⊎ (((w : PackFault) → StationPackFails NoSize x s w → ⊥) × FirstPackFails NoSize x ss g)
 
 -- ---- values that don't pack
 
--- the kind of a value, as a number
-abbrev pub shape : Plain → ℕ
-shape (num n) = 0
-shape (label l) = 1
-shape (truth b) = 2
-shape (text s) = 3
-shape (bits n o) = 4
-shape (items vs) = 5
-shape (fields k vs) = 6
-
-abbrev pub kind_shape : Kind → ℕ
-kind_shape (kind.Int form spans) = 0
-kind_shape (kind.Enum form listing) = 1
-kind_shape (kind.Bool form) = 2
-kind_shape (kind.Str form) = 3
-kind_shape (kind.Bin n free) = 4
-kind_shape (kind.Arr item n) = 5
-kind_shape (kind.Con c) = 6
+-- the value is of the sort that the kind's values are: a number, a label, a truth value, a text, bits, items or fields
+abbrev pub IsOfKind : Kind → Plain → Type 0
+IsOfKind (kind.Int form spans) (num n) = Unit {0}
+IsOfKind (kind.Enum form listing) (label l) = Unit {0}
+IsOfKind (kind.Bool form) (truth b) = Unit {0}
+IsOfKind (kind.Str form) (text s) = Unit {0}
+IsOfKind (kind.Bin n free) (bits m o) = Unit {0}
+IsOfKind (kind.Arr item n) (items vs) = Unit {0}
+IsOfKind (kind.Con c) (fields k vs) = Unit {0}
+IsOfKind k v = ⊥
 
 -- the text is one of the encoding, and doesn't hold its termination octet
 abbrev pub TextFits : TextForm → List ℕ → Type 0
@@ -117,37 +119,37 @@ pub record HasFields (t : Table) (k : ℕ) (f : List Plain) : Type 0 where
   pub count : length f ≡ valued (sequence t k)
 
 -- SpellsInner says what is the canonical spelling of a value of a nested type
-module _ (t : Table) (SpellsInner : ℕ → Plain → Bits → Type 0) (FailsInner : ℕ → Plain → Where → Type 0) where
+module _ (t : Table) (SpellsInner : ℕ → Plain → Bits → Type 0) (FailsInner : ℕ → Plain → PackFault → Type 0) where
   -- no canonical bits of these fields have the size that the length entry tells, whatever its number
   abbrev pub NoSizeFits : ℕ → List Field → Type 0
   NoSizeFits k fs = (u : Progress) (b : Bits) → PartsPass canonical t SpellsInner started (sequence t k) u b → u.fields ≡ fs → SizeFits u → ⊥
 
   -- the fields f of k where the type s is packed: not the fields of a container; one that isn't at or under s; an
   -- abstract one; or else the first station of its own course that they don't pass
-  abbrev pub ContainerPackFails : ℕ → ℕ → List Plain → Where → Type 0
+  abbrev pub ContainerPackFails : ℕ → ℕ → List Plain → PackFault → Type 0
   ContainerPackFails s k f g =
-      ((HasFields t k f → ⊥) × (g ≡ here reason.WrongKind))
-      ⊎ (HasFields t k f × (IsAtOrUnder t s k → ⊥) × (g ≡ (reason.NotDerived, step.Choice (id_of k) ∷ [])))
-      ⊎ (HasFields t k f × IsAtOrUnder t s k × (is_concrete t k ≡ false) × (g ≡ (reason.Abstract, step.Choice (id_of k) ∷ [])))
-      ⊎ (HasFields t k f × IsAtOrUnder t s k × IsTrue (is_concrete t k) × FirstFails t FailsInner (paired (sequence t k) f) (NoSizeFits k (paired (sequence t k) f)) k (course t k k) g)
+      ((HasFields t k f → ⊥) × (g ≡ pack_fault_here reason.WrongKind))
+      ⊎ (HasFields t k f × (IsAtOrUnder t s k → ⊥) × (g ≡ pack_fault_at reason.NotDerived (step.Choice (id_of k) ∷ [])))
+      ⊎ (HasFields t k f × IsAtOrUnder t s k × (is_concrete t k ≡ false) × (g ≡ pack_fault_at reason.Abstract (step.Choice (id_of k) ∷ [])))
+      ⊎ (HasFields t k f × IsAtOrUnder t s k × IsTrue (is_concrete t k) × FirstPackFails t FailsInner (paired (sequence t k) f) (NoSizeFits k (paired (sequence t k) f)) k (course t k k) g)
 
   -- a value of the right kind
-  abbrev pub OfKindFails : ℕ → Kind → Plain → Where → Type 0
-  OfKindFails id (kind.Int form spans) v g = (n : ℤ) × (v ≡ num n) × (IsWithin spans n → ⊥) × (g ≡ here reason.OutOfRange)
-  OfKindFails id (kind.Enum form listing) v g = (l : List ℕ) × (v ≡ label l) × (listed listing l ≡ None) × (g ≡ here reason.NoLabel)
+  abbrev pub OfKindFails : ℕ → Kind → Plain → PackFault → Type 0
+  OfKindFails id (kind.Int form spans) v g = (n : ℤ) × (v ≡ num n) × (IsWithin spans n → ⊥) × (g ≡ pack_fault_here reason.OutOfRange)
+  OfKindFails id (kind.Enum form listing) v g = (l : List ℕ) × (v ≡ label l) × (listed listing l ≡ None) × (g ≡ pack_fault_here reason.NoLabel)
   OfKindFails id (kind.Bool form) v g = ⊥
-  OfKindFails id (kind.Str form) v g = (s : List ℕ) × (v ≡ text s) × (((TextFits form s → ⊥) × (g ≡ here reason.BadText)) ⊎ (TextFits form s × (form.length < length s) × (g ≡ here reason.WrongSize)))
-  OfKindFails id (kind.Bin n free) v g = (m : ℕ) × (o : List ℕ) × (v ≡ bits m o) × ((BinHas n free m × IsFilled m o) → ⊥) × (g ≡ here reason.WrongSize)
-  OfKindFails id (kind.Arr item n) v g = (vs : Plains) × (v ≡ items vs) × (((length (list_of vs) ≢ n) × (g ≡ here reason.WrongSize)) ⊎ ((length (list_of vs) ≡ n) × ItemFails (FailsInner item.0) 0 (list_of vs) g))
+  OfKindFails id (kind.Str form) v g = (s : List ℕ) × (v ≡ text s) × (((TextFits form s → ⊥) × (g ≡ pack_fault_here reason.BadText)) ⊎ (TextFits form s × (form.length < length s) × (g ≡ pack_fault_here reason.WrongSize)))
+  OfKindFails id (kind.Bin n free) v g = (m : ℕ) × (o : List ℕ) × (v ≡ bits m o) × ((BinHas n free m × IsFilled m o) → ⊥) × (g ≡ pack_fault_here reason.WrongSize)
+  OfKindFails id (kind.Arr item n) v g = (vs : Plains) × (v ≡ items vs) × (((length (list_of vs) ≢ n) × (g ≡ pack_fault_here reason.WrongSize)) ⊎ ((length (list_of vs) ≡ n) × ItemPackFails (FailsInner item.0) 0 (list_of vs) g))
   OfKindFails id (kind.Con c) v g = (k : ℕ) × (f : Plains) × (v ≡ fields k f) × ContainerPackFails id k (list_of f) g
 
-  abbrev pub KindPackFails : ℕ → Kind → Plain → Where → Type 0
-  KindPackFails id k v g = ((shape v ≢ kind_shape k) × (g ≡ here reason.WrongKind)) ⊎ OfKindFails id k v g
+  abbrev pub KindPackFails : ℕ → Kind → Plain → PackFault → Type 0
+  KindPackFails id k v g = ((IsOfKind k v → ⊥) × (g ≡ pack_fault_here reason.WrongKind)) ⊎ OfKindFails id k v g
 
 -- ---- all types
 
 -- packing the value fails for another reason than its size, where at most n types are nested in each other
-unfoldable pub PackFailsWithin : ℕ → Table → ℕ → Plain → Where → Type 0
+unfoldable pub PackFailsWithin : ℕ → Table → ℕ → Plain → PackFault → Type 0
 PackFailsWithin zero t id v g = ⊥
 PackFailsWithin (suc n) t id v g = (row : TypeRow) × (slice_get t id ≡ Some row) × KindPackFails t (SpellsWithin n canonical t) (PackFailsWithin n t) id row.kind v g
 
@@ -157,11 +159,11 @@ most_bits = 524288
 
 -- nothing else fails, and the canonical spelling has too many bits
 pub record IsTooLong (t : Table) (id : ℕ) (v : Plain) : Type 0 where
-  pub nothing_else : (w : Where) → PackFailsWithin 32 t id v w → ⊥
+  pub nothing_else : (w : PackFault) → PackFailsWithin 32 t id v w → ⊥
   pub spelling : Bits
   pub is : Canon t id v spelling
   pub long : most_bits < length spelling
 
 -- packing the value as the type fails for this reason at this path
-abbrev pub PackFailsAt : Table → ℕ → Plain → Where → Type 0
-PackFailsAt t id v g = PackFailsWithin 32 t id v g ⊎ (IsTooLong t id v × (g ≡ here reason.TooLong))
+abbrev pub PackFailsAt : Table → ℕ → Plain → PackFault → Type 0
+PackFailsAt t id v g = PackFailsWithin 32 t id v g ⊎ (IsTooLong t id v × (g ≡ pack_fault_here reason.TooLong))

@@ -1,6 +1,7 @@
 -- Reading from left to right, with the first fault that is met. This function is a device of the proofs: the meaning of
 -- bits is said by spellings and by where reading fails, and the laws say that this function gives exactly that. The
 -- reader in code is proved to give what this function gives.
+use Rattle.eds_base.specs.declared.fault.Fault.{Fault}
 use Rattle.std.specs.Prelude.{ℕ, zero, suc, ◌+◌, ◌-◌, ◌*◌, ℤ, pos, negsuc, ◌+ℤ◌, ◌*ℤ◌, List, [], ◌∷◌, length, take, drop, reverse, Bool, true, false, cond, not, ◌&&◌, ◌==◌, Option, Some, None, Result, Ok, Err, slice_get, nat_lt, int_le, unwrap_or}
 use Rattle.std.specs.List.{flat_map, list_all}
 use Rattle.std.specs.Str.{is_utf8}
@@ -28,29 +29,29 @@ use Rattle.eds_types.specs.Plain.{Plain, num, label, truth, text, bits, items, f
 use Rattle.eds_types.specs.Rows.{Table, id_of, chain, list_has, is_concrete, entries_of, constraints_of, Placed, placed_entries, placed_trailers}
 use Rattle.eds_types.specs.Fields.{Field, values_of, number_on, listed, constraints_along}
 use Rattle.eds_types.specs.Spelling.{Progress, started, with_bits, with_value, with_octets, count_at}
-use Rattle.eds_types.specs.Failing.{Where, behind, here, path_steps, part_step, length_path, whole}
+use Rattle.eds_types.specs.Failing.{fault_behind, fault_here, path_steps, part_step, length_path, whole_octets, fault_at}
 use Rattle.eds_types.specs.Sizes.{tail_of, trailers_size}
 
 abbrev pub Read : Type 0 → Type 0
-Read A = Result (A × Bits) Where
+Read A = Result (A × Bits) Fault
 
 infixl 10 ◌>>=◌
-abbrev pub ◌>>=◌ : {A B : Type 0} → Result A Where → (A → Result B Where) → Result B Where
+abbrev pub ◌>>=◌ : {A B : Type 0} → Result A Fault → (A → Result B Fault) → Result B Fault
 (Ok x) >>= f = f x
 (Err e) >>= f = Err e
 
 -- a fault inside a step
-abbrev pub inside : {A : Type 0} → Step → Result A Where → Result A Where
+abbrev pub inside : {A : Type 0} → Step → Result A Fault → Result A Fault
 inside s (Ok x) = Ok x
-inside s (Err g) = Err (behind s g)
+inside s (Err g) = Err (fault_behind s g)
 
 -- ---- what is read, and then judged
 
-abbrev pub judged : {B : Type 0} → Bits → Result B Where → Read B
+abbrev pub judged : {B : Type 0} → Bits → Result B Fault → Read B
 judged rest (Ok y) = Ok (y, rest)
 judged rest (Err g) = Err g
 
-abbrev pub judge : {A B : Type 0} → (A → Result B Where) → Read A → Read B
+abbrev pub judge : {A B : Type 0} → (A → Result B Fault) → Read A → Read B
 judge j (Ok x) = judged x.1 (j x.0)
 judge j (Err g) = Err g
 
@@ -63,7 +64,7 @@ advance f b (Ok x) = Ok (f x.0 (front b x.1), x.1)
 advance f b (Err g) = Err g
 
 abbrev pub read_bits : ℕ → Bits → Read Bits
-read_bits n b = cond (nat_lt (length b) n) (Err (here Short)) (Ok (take n b, drop n b))
+read_bits n b = cond (nat_lt (length b) n) (Err (fault_here Short)) (Ok (take n b, drop n b))
 
 -- ---- scalars
 
@@ -74,9 +75,9 @@ abbrev pub is_within : List Span → ℤ → Bool
 is_within [] n = false
 is_within (s ∷ spans) n = cond (in_span n s) true (is_within spans n)
 
-abbrev pub ranged : List Span → Option ℤ → Result Plain Where
-ranged spans None = Err (here BadDigit)
-ranged spans (Some n) = cond (is_within spans n) (Ok (num n)) (Err (here OutOfRange))
+abbrev pub ranged : List Span → Option ℤ → Result Plain Fault
+ranged spans None = Err (fault_here BadDigit)
+ranged spans (Some n) = cond (is_within spans n) (Ok (num n)) (Err (fault_here OutOfRange))
 
 abbrev pub number_is : Option ℤ → ℤ → Bool
 number_is None n = false
@@ -87,12 +88,12 @@ abbrev pub label_of : List (List ℕ × ℤ) → List (List ℕ × ℤ) → ℤ 
 label_of listing [] n = None
 label_of listing (e ∷ es) n = cond (number_is (listed listing e.0) n) (Some e.0) (label_of listing es n)
 
-abbrev pub label_as : Option (List ℕ) → Result Plain Where
-label_as None = Err (here NoLabel)
+abbrev pub label_as : Option (List ℕ) → Result Plain Fault
+label_as None = Err (fault_here NoLabel)
 label_as (Some l) = Ok (label l)
 
-abbrev pub named : List (List ℕ × ℤ) → Option ℤ → Result Plain Where
-named listing None = Err (here BadDigit)
+abbrev pub named : List (List ℕ × ℤ) → Option ℤ → Result Plain Fault
+named listing None = Err (fault_here BadDigit)
 named listing (Some n) = label_as (label_of listing listing n)
 
 abbrev pub truth_of : BoolForm → Bits → Bool
@@ -106,18 +107,18 @@ abbrev pub is_coded : Bool → List ℕ → Bool
 is_coded true s = is_ascii s
 is_coded false s = is_utf8 s
 
-abbrev pub coded : Bool → List ℕ → Result Plain Where
-coded ascii s = cond (is_coded ascii s) (Ok (text s)) (Err (here BadText))
+abbrev pub coded : Bool → List ℕ → Result Plain Fault
+coded ascii s = cond (is_coded ascii s) (Ok (text s)) (Err (fault_here BadText))
 
 -- the text of the octets before the termination octet, which is there
 abbrev pub stopped : TextForm → Bits → Read Plain
-stopped form b = judged (drop (8 * (length (before_stop form.stop (whole b)) + 1)) b) (coded form.ascii (before_stop form.stop (whole b)))
+stopped form b = judged (drop (8 * (length (before_stop form.stop (whole_octets b)) + 1)) b) (coded form.ascii (before_stop form.stop (whole_octets b)))
 
 abbrev pub unstopped : TextForm → Bits → Read Plain
-unstopped form b = cond (nat_lt (length (whole b)) (form.length + 1)) (Err (here Short)) (Err (here Unterminated))
+unstopped form b = cond (nat_lt (length (whole_octets b)) (form.length + 1)) (Err (fault_here Short)) (Err (fault_here Unterminated))
 
 abbrev pub read_open_text : TextForm → Bits → Read Plain
-read_open_text form b = cond (list_has (take (form.length + 1) (whole b)) form.stop) (stopped form b) (unstopped form b)
+read_open_text form b = cond (list_has (take (form.length + 1) (whole_octets b)) form.stop) (stopped form b) (unstopped form b)
 
 abbrev pub read_text : TextForm → Bool → Bits → Read Plain
 read_text form true b = judge (λ c. coded form.ascii (before_stop form.stop (octets_of c))) (read_bits (8 * form.length) b)
@@ -156,17 +157,17 @@ unfoldable mutual
 
 -- ---- parts
 
-abbrev pub expected : Plain → Reason → Plain → Result (Unit {0}) Where
-expected v r w = cond (same w v) (Ok tt) (Err (here r))
+abbrev pub expected : Plain → Reason → Plain → Result (Unit {0}) Fault
+expected v r w = cond (same w v) (Ok tt) (Err (fault_here r))
 
-abbrev pub number_in : Plain → Result ℤ Where
+abbrev pub number_in : Plain → Result ℤ Fault
 number_in (num n) = Ok n
-number_in (label l) = Err (here Short)
-number_in (truth b) = Err (here Short)
-number_in (text s) = Err (here Short)
-number_in (bits n o) = Err (here Short)
-number_in (items vs) = Err (here Short)
-number_in (fields k vs) = Err (here Short)
+number_in (label l) = Err (fault_here Short)
+number_in (truth b) = Err (fault_here Short)
+number_in (text s) = Err (fault_here Short)
+number_in (bits n o) = Err (fault_here Short)
+number_in (items vs) = Err (fault_here Short)
+number_in (fields k vs) = Err (fault_here Short)
 
 abbrev pub after_number : Progress → ℤ → ℤ → ℤ → Bits → Progress
 after_number s c0 c1 r b = with_octets s (c0 +ℤ (c1 *ℤ r)) b
@@ -185,7 +186,7 @@ abbrev pub tail_room : Table → ℕ → Progress → Placed → Option ℕ
 tail_room t n s p = tail_octets n (octets_left (unwrap_or s.octets (pos 0)) (octets_for (length s.before + trailers_size t p.container)))
 
 abbrev pub read_tail : Table → Option ℕ → Progress → Placed → Bits → Read Progress
-read_tail t None s p b = Err (LengthDiffers, length_path t p.container)
+read_tail t None s p b = Err (fault_at LengthDiffers (length_path t p.container))
 read_tail t (Some j) s p b = inside (part_step p) (advance (λ c d. with_value s p (bits (8 * j) (octets_of d)) d) b (read_bits (8 * j) b))
 
 module _ (t : Table) (read : ℕ → Bits → Read Plain) where
@@ -217,9 +218,9 @@ number_within spans (Some n) = is_within spans n
 abbrev pub holds : Table → List Field → Condition → Bool
 holds t fs c = number_within c.set (number_on t fs c.path)
 
-unfoldable pub check_all : Table → List Condition → List Field → Result (Unit {0}) Where
+unfoldable pub check_all : Table → List Condition → List Field → Result (Unit {0}) Fault
 check_all t [] fs = Ok tt
-check_all t (c ∷ cs) fs = cond (holds t fs c) (check_all t cs fs) (Err (Constraint, path_steps c.path))
+check_all t (c ∷ cs) fs = cond (holds t fs c) (check_all t cs fs) (Err (fault_at Constraint (path_steps c.path)))
 
 -- ---- choosing
 
@@ -257,10 +258,10 @@ size_fits (Some n) b = int_eq n (pos (octets_for (length b)))
 
 -- a container, its last state and the bits that are left
 abbrev pub Ends : Type 0
-Ends = Result (ℕ × Progress × Bits) Where
+Ends = Result (ℕ × Progress × Bits) Fault
 
 abbrev pub finish : ℕ → List Step → Progress × Bits → Ends
-finish x steps v = cond (size_fits (v.0).octets (v.0).before) (Ok (x, v.0, v.1)) (Err (LengthDiffers, steps))
+finish x steps v = cond (size_fits (v.0).octets (v.0).before) (Ok (x, v.0, v.1)) (Err (fault_at LengthDiffers steps))
 
 module _ (t : Table) (read : ℕ → Bits → Read Plain) where
   abbrev pub trailers_up : ℕ → List Placed
@@ -275,12 +276,12 @@ module _ (t : Table) (read : ℕ → Bits → Read Plain) where
 
   abbrev pub go_on : (ℕ → Progress → Bits → Ends) → ℕ → Progress → Bits → Next → Ends
   go_on then x s b stay = read_parts t read (trailers_up x) s b >>= finish x (length_path t x)
-  go_on then x s b nowhere = Err (NoDerived, step.Choice (id_of x) ∷ [])
+  go_on then x s b nowhere = Err (fault_at NoDerived (step.Choice (id_of x) ∷ []))
   go_on then x s b (under z) = read_parts t read (placed_entries t z) s b >>= λ v. then z v.0 v.1
 
   -- the container x and its bases have been read
   unfoldable pub read_under : ℕ → ℕ → Progress → Bits → Ends
-  read_under zero x s b = Err (NoDerived, step.Choice (id_of x) ∷ [])
+  read_under zero x s b = Err (fault_at NoDerived (step.Choice (id_of x) ∷ []))
   read_under (suc n) x s b = go_on (read_under n) x s b (next t x s.fields)
 
   abbrev pub ended : Ends → Read Plain
@@ -300,10 +301,10 @@ module _ (t : Table) (read : ℕ → Bits → Read Plain) where
   read_kind id (kind.Con c) b = ended (read_to_end id b)
 
   abbrev pub read_row : ℕ → Option TypeRow → Bits → Read Plain
-  read_row id None b = Err (here Short)
+  read_row id None b = Err (fault_here Short)
   read_row id (Some row) b = read_kind id row.kind b
 
 -- what is read, where at most n types are nested in each other
 unfoldable pub read_within : ℕ → Table → ℕ → Bits → Read Plain
-read_within zero t id b = Err (here Short)
+read_within zero t id b = Err (fault_here Short)
 read_within (suc n) t id b = read_row t (read_within n t) id (slice_get t id) b

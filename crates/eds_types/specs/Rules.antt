@@ -22,6 +22,7 @@ use Rattle.eds_types.specs.Rows.{Table, container_of, base_of, constraints_of, i
 use Rattle.eds_types.specs.Sizes.{open_of, part_size, trailers_along}
 use Rattle.eds_types.specs.Fields.{type_by, type_on, part_at, listed, IsAtOrUnder, StartsInEntries, constraints_along}
 use Rattle.eds_types.specs.Packing.{TextFits, IsFilled}
+use Rattle.eds_types.specs.Spelling.{BinHas}
 use Rattle.eds_types.specs.Overlap.{IsSolution}
 
 -- ---- words
@@ -124,13 +125,14 @@ ItemsNest t rank id (kind.Con c) = Unit {0}
 
 -- ---- parts
 
--- the value is one of a scalar, text or binary type of this kind (FixedValue)
+-- the value is one of a scalar, text or binary type of this kind: in its domain, listed, of its encoding and not too long,
+-- or of its size (FixedValue)
 abbrev pub IsValueOf : Kind → Plain → Type 0
 IsValueOf (kind.Int form spans) v = (n : ℤ) × (v ≡ num n) × IsWithin spans n
 IsValueOf (kind.Enum form listing) v = (l : List ℕ) × (v ≡ label l) × IsSome (listed listing l)
 IsValueOf (kind.Bool form) v = (b : Bool) × (v ≡ truth b)
 IsValueOf (kind.Str form) v = (s : List ℕ) × (v ≡ text s) × TextFits form s × (length s ≤ form.length)
-IsValueOf (kind.Bin n free) v = (o : List ℕ) × (free ≡ false) × (v ≡ bits n o) × IsFilled n o
+IsValueOf (kind.Bin n free) v = (m : ℕ) × (o : List ℕ) × (v ≡ bits m o) × BinHas n free m × IsFilled m o
 IsValueOf (kind.Arr item n) v = ⊥
 IsValueOf (kind.Con c) v = ⊥
 
@@ -174,7 +176,7 @@ pub record TailKeeps (t : Table) (p : Placed) : Type 0 where
 
 abbrev pub PartKeeps : Table → Placed → Part → Type 0
 PartKeeps t p (part.Plain name id) = (IsHollow t id.0 → ⊥) × IfSome (open_of t id.0) (λ n. TailKeeps t p)
-PartKeeps t p (part.Fixed name id v) = HasKind t id.0 (λ k. IsValueOf k (plain v))
+PartKeeps t p (part.Fixed name id v) = HasKind t id.0 (λ k. IsValueOf k (plain v)) × (open_of t id.0 ≡ None)
 PartKeeps t p (part.Pad n) = (1 ≤ n) × (n ≤ 524288)
 PartKeeps t p (part.List name id y i) = (IsHollow t id.0 → ⊥) × (open_of t id.0 ≡ None) × IsCounted t p y.0 i
 PartKeeps t p (part.Length name id c0 c1) = IsInt t id.0 (λ form spans. Unit {0}) × IsScale c0 c1

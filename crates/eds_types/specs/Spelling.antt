@@ -13,7 +13,7 @@ use Rattle.eds_types.specs.declared.row.Part.{Part}
 use Rattle.eds_types.specs.declared.row.Part.TheVariants as part
 use Rattle.eds_types.specs.Plain.{Plain, num, label, truth, text, bits, items, fields, Plains, list_of, plain}
 use Rattle.eds_types.specs.Rows.{Table, is_concrete, Placed, sequence}
-use Rattle.eds_types.specs.Fields.{Field, value_at, values_of, listed, Holds, IsAtOrUnder, constraints_along, IsCandidate}
+use Rattle.eds_types.specs.Fields.{Field, value_at, values_of, listed, Holds, IsAtOrUnder, constraints_along, IsCandidate, field_of}
 
 -- ---- how far a container has come
 
@@ -33,7 +33,7 @@ with_bits s b = record { fields = s.fields; before = s.before ++ b; octets = s.o
 
 -- after the bits of a part and its value
 abbrev pub with_value : Progress → Placed → Plain → Bits → Progress
-with_value s p v b = record { fields = s.fields ++ (p.container, p.place, v) ∷ []; before = s.before ++ b; octets = s.octets }
+with_value s p v b = record { fields = s.fields ++ field_of p v ∷ []; before = s.before ++ b; octets = s.octets }
 
 -- after the bits of a length entry that tells n octets
 abbrev pub with_octets : Progress → ℤ → Bits → Progress

@@ -1,5 +1,6 @@
 //! Laws of types and values: functions with no body, whose contracts are what was proved.
 
+ghost use Rattle.eds_types.specs.TextValues.{TextsAreValues, ValuesHaveTexts};
 ghost use Rattle.eds_types.specs.Laws.{OneSize, HasCanonical, OneCanonical, LeastIsLeast, EmptyTypes, PackingIsDecided};
 
 /// A value that is spelled has exactly one canonical spelling, and all its spellings have as many bits.
@@ -23,4 +24,10 @@ pub fn empty_types()
 /// and not both.
 pub fn packing_is_decided()
     ensures { PackingIsDecided }
+{}
+
+/// What a text of an attribute stands for is a value of the kind, and each value of a kind that keeps the rules has a text.
+pub fn texts_of_values()
+    ensures values { TextsAreValues }
+    ensures texts { ValuesHaveTexts }
 {}

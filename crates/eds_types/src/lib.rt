@@ -11,8 +11,10 @@ mod reason;
 mod row;
 mod same;
 mod sequence;
+mod sets;
 mod sizes;
 mod table;
+mod texts;
 mod value;
 mod values;
 
@@ -24,6 +26,8 @@ pub use row::{
     Used,
 };
 pub use sequence::Sequence;
+pub use sets::{PathSet, Sets};
 pub use table::TypeTable;
+pub use texts::{number_of_label, text_value};
 pub use value::Value;
 pub use values::Values;

@@ -53,7 +53,14 @@ pub enum Part {
 impl Part {
     ghost use Rattle.std.specs.Prelude.{◌≡◌, Some, option_map};
     ghost use Rattle.eds_base.specs.declared.ids.TypeId.{TypeId};
-    ghost use Rattle.eds_types.specs.Fields.{type_by};
+    ghost use Rattle.eds_types.specs.Fields.{has_value, type_by};
+
+    /// Whether it has a value among the fields of a container: entries and lists have, and no other part.
+    pub fn has_value(&self) -> bool
+        ensures { result ≡ has_value self.now }
+    {
+        matches!(self, Part::Plain(_, _) | Part::List(_, _, _, _))
+    }
 
     /// The type of the part, or of its items; padding has none.
     pub fn type_id(&self) -> Option<TypeId>

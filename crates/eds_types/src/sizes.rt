@@ -4,11 +4,11 @@ ghost use Rattle.std.specs.Prelude.{◌≡◌, ◌+◌, ◌*◌, ◌≤◌, ℕ,
 ghost use Rattle.eds_base.specs.declared.ids.TypeId.{TypeId};
 ghost use Rattle.eds_types.specs.Rows.{numbers};
 ghost use Rattle.eds_types.specs.Domains.{int_domain};
-ghost use Rattle.eds_types.specs.LeastSize.{capped, size_in, least_number, least_number_in, least_count, least_part, least_own, size_by, family_size, lowered, next_sizes, least_size};
+ghost use Rattle.eds_types.specs.LeastSize.{capped, size_in, least_in, least_number, least_number_in, least_count, least_part, least_own, size_by, family_size, lowered, next_sizes, least_size};
 
 use crate::look::{chain_of, domain_of, entries_of, is_concrete, part_at, trailers_of};
 use crate::{Kind, Part, TypeRow};
-use eds_base::{Items, Memory, Spans, TypeId};
+use eds_base::{Items, Memory, Span, Spans, TypeId};
 use eds_bits::TextForm;
 use std::alloc::Global;
 
@@ -32,6 +32,17 @@ pub(crate) fn size_in(sizes: &[u32], id: TypeId) -> u32
     }
 }
 
+/// The least number of an interval that has no negative ones; `NO_SIZE` for an empty one.
+fn least_in(span: &Span) -> u128
+    ensures { result ≡ least_in span.now }
+{
+    if span.low <= span.high {
+        span.low.unsigned_abs()
+    } else {
+        u128::from(NO_SIZE)
+    }
+}
+
 /// The least number of a domain that has no negative ones, or `NO_SIZE` where it is larger.
 fn least_number(spans: &Spans) -> u32
     ensures { result ≡ least_number spans.now }
@@ -39,7 +50,7 @@ fn least_number(spans: &Spans) -> u32
     let mut least = NO_SIZE;
     let mut rest = spans.as_slice();
     while let [span, after @ ..] = rest {
-        least = span.low.unsigned_abs().min(least as u128) as u32;
+        least = least_in(span).min(u128::from(least)) as u32;
         rest = after;
     }
     least

@@ -8,20 +8,19 @@ use Rattle.eds_base.specs.declared.fault.Fault.{Fault}
 use Rattle.eds_bits.specs.Bits.{Bits}
 use Rattle.eds_overlap.specs.Laws.{IsReadable, read_type, IsRead, ReadingIsExact}
 use Rattle.eds_types.specs.declared.value.Value.{Value}
-use Rattle.eds_types.specs.Failing.{Where, FailsAt}
-use Rattle.eds_types.specs.FlatTables.{IsFlatTable}
+use Rattle.eds_types.specs.Failing.{FailsAt}
+use Rattle.eds_types.specs.Overlap.{IsClear}
 use Rattle.eds_types.specs.Plain.{Plain, plain}
 use Rattle.eds_types.specs.Reading.{Read}
 use Rattle.eds_types.specs.Rows.{Table}
 use Rattle.eds_types.specs.Rules.{KeepsRules}
 use Rattle.eds_types.specs.Spelling.{Spells}
 use Rattle.eds_types.proofs.ExactReading.{done, failed, err_is, ok_err, same_ok}
-use Rattle.eds_unpack.specs.Answers.{where_of, IsMemory, IsValue, StopsAt, IsFault, IfNamed, IfFault}
+use Rattle.eds_unpack.specs.Answers.{IsMemory, IsValue, StopsAt, IsFault, IfNamed, IfFault}
 use Rattle.eds_unpack.specs.Readers.{Stops, Gives, sized}
-use Rattle.eds_unpack.proofs.FlatContainers.{flat_clear}
 
-pub readable : (t : Table) (id : ℕ) → KeepsRules t → IsFlatTable t → id < length t → IsReadable t id
-readable t id rules flat there = record { rules = rules; there = there; clear = flat_clear t flat id }
+pub readable : (t : Table) (id : ℕ) → KeepsRules t → IsClear t id → id < length t → IsReadable t id
+readable t id rules clear there = record { rules = rules; there = there; clear = clear }
 
 take_front : {A : Type 0} (c rest : List A) → take (length c) (c ++ rest) ≡ c
 take_front [] rest = refl
@@ -34,7 +33,7 @@ module _ (law : ReadingIsExact) (t : Table) (id : ℕ) (is : IsReadable t id) (b
   value_is : (v : Plain) (c rest : Bits) → b ≡ c ++ rest → Spells t id v c → read_type t id b ≡ Ok (v, rest)
   value_is v c rest e s = (law t id is b).1 (Ok (v, rest)) (c, e, s)
 
-  fault_is : (g : Where) → FailsAt t id b g → read_type t id b ≡ Err g
+  fault_is : (g : Fault) → FailsAt t id b g → read_type t id b ≡ Err g
   fault_is g f = (law t id is b).1 (Err g) f
 
   -- no more bits are left than there were
@@ -57,7 +56,7 @@ module _ (law : ReadingIsExact) (t : Table) (id : ℕ) (is : IsReadable t id) (b
           let q = same_ok (sized b (Ok x)) (x.0, length b - length x.1) (v, n) refl e in
           record { rest = x.1; read = p ∙ ap (λ w. done (w, x.1)) (ap (λ y. y.0) q); size = sym (ap (λ y. y.1) q) }
 
-  sized_err : (g : Where) → sized b (read_type t id b) ≡ Err g → read_type t id b ≡ Err g
+  sized_err : (g : Fault) → sized b (read_type t id b) ≡ Err g → read_type t id b ≡ Err g
   sized_err g e = go (read_type t id b) refl e
     where
       go : (r : Read Plain) → read_type t id b ≡ r → sized b r ≡ Err g → read_type t id b ≡ Err g
@@ -83,7 +82,7 @@ module _ (law : ReadingIsExact) (t : Table) (id : ℕ) (is : IsReadable t id) (b
   is_spelled (Err stop) h = tt
 
   only_memory : (stop : Fail Fault) (v : Plain) (rest : Bits) → Stops stop (sized b (read_type t id b)) → read_type t id b ≡ Ok (v, rest) → IsMemory stop
-  only_memory (Named fault) v rest h e = absurd (ok_err (read_type t id b) (v, rest) (where_of fault) e (sized_err (where_of fault) h))
+  only_memory (Named fault) v rest h e = absurd (ok_err (read_type t id b) (v, rest) fault e (sized_err fault h))
   only_memory Memory v rest h e = tt
 
   pub only_value : (r : Result (Value × ℕ) (Fail Fault)) → IsAnswer r → (v : Plain) (c rest : Bits) → b ≡ c ++ rest → Spells t id v c → IsValue v (length c) r
@@ -96,17 +95,17 @@ module _ (law : ReadingIsExact) (t : Table) (id : ℕ) (is : IsReadable t id) (b
   only_value (Err stop) h v c rest e s = only_memory stop v rest h (value_is v c rest e s)
 
   named_fault : (stop : Fail Fault) → Stops stop (sized b (read_type t id b)) → IfNamed (FailsAt t id b) stop
-  named_fault (Named fault) h = read_is (Err (where_of fault)) (sized_err (where_of fault) h)
+  named_fault (Named fault) h = read_is (Err fault) (sized_err fault h)
   named_fault Memory h = tt
 
   pub is_fault : (r : Result (Value × ℕ) (Fail Fault)) → IsAnswer r → IfFault (FailsAt t id b) r
   is_fault (Ok x) h = tt
   is_fault (Err stop) h = named_fault stop h
 
-  stops_at : (stop : Fail Fault) (g : Where) → Stops stop (sized b (read_type t id b)) → read_type t id b ≡ Err g → StopsAt g stop
-  stops_at (Named fault) g h e = err_is (Plain × Bits) (where_of fault) g (sym (sized_err (where_of fault) h) ∙ e)
+  stops_at : (stop : Fail Fault) (g : Fault) → Stops stop (sized b (read_type t id b)) → read_type t id b ≡ Err g → StopsAt g stop
+  stops_at (Named fault) g h e = err_is (Plain × Bits) fault g (sym (sized_err fault h) ∙ e)
   stops_at Memory g h e = tt
 
-  pub only_fault : (r : Result (Value × ℕ) (Fail Fault)) → IsAnswer r → (g : Where) → FailsAt t id b g → IsFault g r
+  pub only_fault : (r : Result (Value × ℕ) (Fail Fault)) → IsAnswer r → (g : Fault) → FailsAt t id b g → IsFault g r
   only_fault (Ok x) h g f = let z = is_sized (plain x.0) x.1 h in absurd (ok_err (read_type t id b) (plain x.0, z.rest) g z.read (fault_is g f))
   only_fault (Err stop) h g f = stops_at stop g h (fault_is g f)

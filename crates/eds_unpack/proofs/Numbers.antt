@@ -10,19 +10,19 @@ use Rattle.eds_bits.specs.declared.forms.IntForm.{IntForm}
 use Rattle.eds_bits.specs.Bits.{Bits, low_bits, unsigned_of}
 use Rattle.eds_bits.specs.IntForms.{number_of}
 use Rattle.eds_bits.proofs.BitLaws.{low-unsigned}
-use Rattle.eds_types.specs.Failing.{here}
+use Rattle.eds_types.specs.Failing.{fault_here}
 use Rattle.eds_types.specs.Reading.{Read, judged, judge, read_bits, is_within}
 use Rattle.eds_types.proofs.ReadingTests.{within_from, within_in}
 use Rattle.eds_unpack.specs.Entries.{decimal, read_number}
 
 bits_by : ℕ → Bits → Bool → Read Bits
-bits_by n b short = cond short (Err (here Short)) (Ok (take n b, drop n b))
+bits_by n b short = cond short (Err (fault_here Short)) (Ok (take n b, drop n b))
 
 pub bits_enough : (n : ℕ) (b : Bits) → n ≤ length b → read_bits n b ≡ Ok (take n b, drop n b)
 unfolding bits_by
 bits_enough n b h = ap (bits_by n b) (le-ltb (length b) n h)
 
-pub bits_short : (n : ℕ) (b : Bits) → length b < n → read_bits n b ≡ Err (here Short)
+pub bits_short : (n : ℕ) (b : Bits) → length b < n → read_bits n b ≡ Err (fault_here Short)
 unfolding bits_by
 bits_short n b h = ap (bits_by n b) (lt-ltb (length b) n h)
 

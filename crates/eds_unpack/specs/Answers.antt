@@ -6,12 +6,7 @@ use Rattle.eds_base.specs.declared.fault.Fault.{Fault}
 use Rattle.eds_base.specs.declared.fault.Reason.{Reason}
 use Rattle.eds_base.specs.declared.fault.Reason.TheVariants.{Short, OutOfRange, NoLabel, BadDigit, BadText, Unterminated, FixedDiffers, Constraint, NoDerived, LengthDiffers, CheckDiffers, TooLong, Trailing}
 use Rattle.eds_types.specs.declared.value.Value.{Value}
-use Rattle.eds_types.specs.Failing.{Where}
 use Rattle.eds_types.specs.Plain.{Plain, plain}
-
--- why and where a fault is
-abbrev pub where_of : Fault → Where
-where_of fault = (fault.reason, fault.path)
 
 -- ---- one value
 
@@ -27,21 +22,21 @@ IsValue v n (Err stop) = IsMemory stop
 
 -- ---- one fault
 
-abbrev pub StopsAt : Where → Fail Fault → Type 0
-StopsAt g (Named fault) = where_of fault ≡ g
+abbrev pub StopsAt : Fault → Fail Fault → Type 0
+StopsAt g (Named fault) = fault ≡ g
 StopsAt g Memory = Unit {0}
 
 -- the answer is this fault, unless memory ran out
-abbrev pub IsFault : Where → Result (Value × ℕ) (Fail Fault) → Type 0
+abbrev pub IsFault : Fault → Result (Value × ℕ) (Fail Fault) → Type 0
 IsFault g (Ok x) = ⊥
 IsFault g (Err stop) = StopsAt g stop
 
-abbrev pub IfNamed : (Where → Type 0) → Fail Fault → Type 0
-IfNamed P (Named fault) = P (where_of fault)
+abbrev pub IfNamed : (Fault → Type 0) → Fail Fault → Type 0
+IfNamed P (Named fault) = P fault
 IfNamed P Memory = Unit {0}
 
 -- where the answer is a fault, P holds of it
-abbrev pub IfFault : (Where → Type 0) → Result (Value × ℕ) (Fail Fault) → Type 0
+abbrev pub IfFault : (Fault → Type 0) → Result (Value × ℕ) (Fail Fault) → Type 0
 IfFault P (Ok x) = Unit {0}
 IfFault P (Err stop) = IfNamed P stop
 

@@ -1,48 +1,62 @@
--- Reading numbers, and the entries of a container one after the other.
-use Rattle.std.specs.Prelude.{ℕ, ◌+◌, ℤ, List, [], ◌∷◌, ◌++◌, Option, Some, None, Result, Ok, Err, unwrap_or}
-use Rattle.eds_base.specs.declared.fault.Step.TheVariants as step
-use Rattle.eds_base.specs.declared.fault.Reason.TheVariants.{BadDigit}
+-- Reading numbers, and what a container's parts are read by.
+use Rattle.eds_base.specs.declared.fault.Fault.{Fault}
+use Rattle.std.specs.Prelude.{◌≡◌, ℕ, ◌<◌, ℤ, Option, Some, None, Result, Ok, Err, length}
+use Rattle.eds_base.specs.declared.fault.Reason.{Reason}
+use Rattle.eds_base.specs.declared.fault.Reason.TheVariants as reason
 use Rattle.eds_bits.specs.declared.forms.IntForm.{IntForm}
 use Rattle.eds_bits.specs.Bits.{Bits}
 use Rattle.eds_bits.specs.IntForms.{number_of}
+use Rattle.eds_codec.specs.declared.text.TextFault.{TextFault}
+use Rattle.eds_codec.specs.declared.text.TextFault.TheVariants as fault
 use Rattle.eds_types.specs.declared.row.Part.{Part}
-use Rattle.eds_types.specs.Failing.{Where, here}
+use Rattle.eds_types.specs.declared.row.Part.TheVariants as part
+use Rattle.eds_types.specs.Failing.{fault_here}
 use Rattle.eds_types.specs.Fields.{type_by}
-use Rattle.eds_types.specs.Plain.{Plain, fields, plains_of}
-use Rattle.eds_types.specs.Reading.{Read, ◌>>=◌, inside, judge, read_bits}
-use Rattle.eds_types.specs.Rows.{id_of}
+use Rattle.eds_types.specs.Reading.{Read, judge, read_bits}
+use Rattle.eds_types.specs.Rows.{Table, Placed}
+use Rattle.eds_types.specs.Rules.{KeepsRules, IsInt, IsScale}
 
--- ---- numbers
+-- ---- scalars and texts
 
-abbrev pub decimal : Option ℤ → Result ℤ Where
-decimal None = Err (here BadDigit)
+abbrev pub decimal : Option ℤ → Result ℤ Fault
+decimal None = Err (fault_here reason.BadDigit)
 decimal (Some n) = Ok n
 
 -- the number of the form, before its domain is judged
 abbrev pub read_number : IntForm → Bits → Read ℤ
 read_number form b = judge (λ c. decimal (number_of form c)) (read_bits form.bits b)
 
--- ---- entries
+-- the reason for which no text is read
+abbrev pub reason_of : TextFault → Reason
+reason_of fault.Short = reason.Short
+reason_of fault.BadText = reason.BadText
+reason_of fault.Unterminated = reason.Unterminated
 
--- the values so far, and the bits that are left
-abbrev pub SoFar : Type 0
-SoFar = List Plain × Bits
+-- ---- what is nested
 
-abbrev pub entry_type : Part → ℕ
-entry_type p = unwrap_or (type_by (Some p)) 0
+-- fewer than n types are nested in each other under the type
+pub record IsLow (t : Table) (n id : ℕ) : Type 0 where
+  pub rules : KeepsRules t
+  pub low : rules.rank id < n
 
--- the entry at place i of the container y
-abbrev pub entry_step : (ℕ → Bits → Read Plain) → ℕ → ℕ → Part → SoFar → Result SoFar Where
-entry_step read y i p s = inside (step.Part (id_of y) i) (read (entry_type p) s.1) >>= λ v. Ok (s.0 ++ v.0 ∷ [], v.1)
+-- and the type is there
+pub record IsInner (t : Table) (n id : ℕ) : Type 0 where
+  pub there : id < length t
+  pub low : IsLow t n id
 
--- the entries from place i on
-abbrev pub read_entries : (ℕ → Bits → Read Plain) → ℕ → ℕ → List Part → SoFar → Result SoFar Where
-read_entries read y i [] s = Ok s
-read_entries read y i (p ∷ ps) s = entry_step read y i p s >>= λ u. read_entries read y (i + 1) ps u
+-- so are the types of a part; and a length entry has a number of an integer type, and coefficients in range
+abbrev pub LengthIsRead : Table → Part → Type 0
+LengthIsRead t (part.Plain name id) = Unit {0}
+LengthIsRead t (part.Fixed name id v) = Unit {0}
+LengthIsRead t (part.Pad n) = Unit {0}
+LengthIsRead t (part.List name id y i) = Unit {0}
+LengthIsRead t (part.Length name id c0 c1) = IsInt t id.0 (λ form spans. Unit {0}) × IsScale c0 c1
+LengthIsRead t (part.Check name id k) = Unit {0}
 
-abbrev pub as_fields : ℕ → SoFar → Plain × Bits
-as_fields k s = (fields k (plains_of s.0), s.1)
+pub record PartIsRead (t : Table) (n : ℕ) (p : Part) : Type 0 where
+  pub inner : (id : ℕ) → type_by (Some p) ≡ Some id → IsInner t n id
+  pub length : LengthIsRead t p
 
--- the fields of a container that is made of entries alone
-abbrev pub read_flat : (ℕ → Bits → Read Plain) → ℕ → List Part → Bits → Read Plain
-read_flat read k ps b = read_entries read k 0 ps ([], b) >>= λ s. Ok (as_fields k s)
+-- the part at a place of a container
+abbrev pub placed : ℕ → ℕ → Part → Placed
+placed y i p = record { container = y; place = i; part = p }

@@ -6,17 +6,16 @@ use Rattle.eds_base.specs.declared.fault.Fault.{Fault}
 use Rattle.eds_base.specs.declared.fault.Reason.{Reason}
 use Rattle.eds_base.specs.declared.fault.Step.{Step}
 use Rattle.eds_bits.specs.Bits.{Bits}
-use Rattle.eds_types.specs.Failing.{Where}
 use Rattle.eds_types.specs.Plain.{Plain}
 use Rattle.eds_types.specs.Reading.{Read}
-use Rattle.eds_unpack.specs.Answers.{where_of, IsOfReading}
+use Rattle.eds_unpack.specs.Answers.{IsOfReading}
 
-abbrev pub Stops : {Y : Type 0} → Fail Fault → Result Y Where → Type 0
-Stops (Named fault) read = read ≡ Err (where_of fault)
+abbrev pub Stops : {Y : Type 0} → Fail Fault → Result Y Fault → Type 0
+Stops (Named fault) read = read ≡ Err fault
 Stops Memory read = Unit {0}
 
 -- what a function returned, seen by view, is what reading gives, unless memory ran out
-abbrev pub Gives : {X Y : Type 0} → (X → Y) → Result X (Fail Fault) → Result Y Where → Type 0
+abbrev pub Gives : {X Y : Type 0} → (X → Y) → Result X (Fail Fault) → Result Y Fault → Type 0
 Gives view (Ok x) read = read ≡ Ok (view x)
 Gives view (Err e) read = Stops e read
 
@@ -36,6 +35,11 @@ StopsReading (Named reason) = IsOfReading reason
 StopsReading Memory = Unit {0}
 
 -- the value that is read, with its size in place of the bits that are left
-abbrev pub sized : Bits → Read Plain → Result (Plain × ℕ) Where
+abbrev pub sized : Bits → Read Plain → Result (Plain × ℕ) Fault
 sized b (Ok x) = Ok (x.0, length b - length x.1)
 sized b (Err g) = Err g
+
+-- the bits that are left, where what is read has no value
+abbrev pub passed : {A : Type 0} → Read A → Result Bits Fault
+passed (Ok x) = Ok x.1
+passed (Err g) = Err g

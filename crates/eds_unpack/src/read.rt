@@ -1,168 +1,414 @@
 //! Reading the value of a type from the bits that are left, by the kind of the type.
 
-ghost use Rattle.std.specs.Prelude.{◌≡◌, ◌+◌, ◌<◌, ◌≤◌, [], Some, length, map, slice_get, IfErr, OnOk};
+ghost use Rattle.std.specs.Prelude.{◌≡◌, ◌+◌, ◌*◌, ◌<◌, ◌≤◌, [], length, map, reverse, slice_get, Some, IfErr, OnOk};
 ghost use Rattle.std.specs.List.{AllByRecursion};
 ghost use Rattle.eds_bits.specs.Reader.{bits_left};
-ghost use Rattle.eds_types.specs.FlatTables.{IsScalarEntry, IsFlatTable};
 ghost use Rattle.eds_types.specs.Plain.{plain};
-ghost use Rattle.eds_types.specs.Reading.{read_within, read_kind};
-ghost use Rattle.eds_types.specs.Rows.{entries_of};
+ghost use Rattle.eds_types.specs.Reading.{read_within, read_kind, read_items as items_read, read_part as part_read, read_entry as entry_read, read_parts as parts_read, read_chain as chain_read, read_under as under_read, ended, read_to_end};
+ghost use Rattle.eds_types.specs.Rows.{placed_from};
+ghost use Rattle.eds_base.specs.declared.ids.TypeId.{TypeId as Id};
+ghost use Rattle.eds_unpack.specs.Choices.{numbers_of};
+ghost use Rattle.eds_unpack.specs.Courses.{IsUnderWay, progress_of};
+ghost use Rattle.eds_unpack.specs.Entries.{IsInner, IsLow, PartIsRead, placed};
 ghost use Rattle.eds_unpack.specs.Readers.{Gives, with_path, StopsReading};
-ghost use Rattle.eds_unpack.specs.Entries.{entry_step, read_entries, read_flat};
+ghost use Rattle.eds_unpack.specs.Seeking.{trailers_along};
 
+use crate::choice::{Next, next_container};
+use crate::constraint::check_constraints;
+use crate::expected::{expect_check, expect_value};
+use crate::fields::{count_at, values_of};
+use crate::octets::{read_octets, read_string, skip_padding};
+use crate::progress::{Reached, begin, has_told_size, keep_field};
 use crate::scalar::{read_integer, read_label, read_truth};
-use eds_base::{Fail, Path, Reason, Step, TypeId};
+use crate::sum::sum_before;
+use crate::tail::{open_bits, read_tail, tell_length};
+use crate::told::keep_told;
+use eds_base::{Fail, Memory, Path, Reason, Step, TypeId};
 use eds_bits::BitReader;
 use eds_types::{Kind, Part, TypeRow, TypeTable, Value};
 use std::alloc::Global;
 
-/// Reads the value of a type, where at most `depth` types are nested in each other.
+/// What values are read by: where memory comes from, the table, and how many types are nested in each other at most.
+#[derive(Drop)]
+pub(crate) struct Level<'a> {
+    pub alloc: Global,
+    pub table: &'a TypeTable,
+    pub depth: u32,
+}
+
+/// The most containers of a chain.
+const CHAIN: usize = 16;
+
+/// Reads the value of a type.
 #[cycle(read)]
 pub(crate) fn read_value(
-    alloc: Global,
-    table: &TypeTable,
-    depth: u32,
+    level: &Level<'_>,
     id: TypeId,
     path: &mut Path,
     reader: &mut BitReader,
 ) -> Result<Value, Fail<Reason>>
-    requires flat { IsFlatTable table.now }
-    requires known { id.0 < length table.now }
-    requires few { depth ≤ 32 }
+    requires inner { IsInner level.now.table.now level.now.depth id.0 }
+    requires few { level.now.depth ≤ 32 }
     requires root { path.old ≡ [] }
-    ensures gives { Gives (λ v. (plain v, bits_left reader.new)) (with_path path.new result) (read_within depth table.now id.0 (bits_left reader.old)) }
-    ensures near { length path.new ≤ depth }
+    ensures gives { Gives (λ v. (plain v, bits_left reader.new)) (with_path path.new result) (read_within level.now.depth level.now.table.now id.0 (bits_left reader.old)) }
+    ensures near { length path.new ≤ 2 * level.now.depth }
     ensures calm { OnOk result (path.new ≡ []) }
     ensures reason { IfErr result StopsReading }
 {
-    if depth == 0 {
-        return Err(Fail::Named(Reason::Short));
-    }
-    read_row(alloc, table, depth - 1, id, table.row(id), path, reader)
+    let inner = Level {
+        alloc: level.alloc,
+        table: level.table,
+        depth: level.depth - 1,
+    };
+    read_row(&inner, id, level.table.row(id), path, reader)
 }
 
-/// Reads the value of the type in a row, where at most `depth` types are nested in it.
+/// Reads the value of the type in a row, where so many types are nested in it at most.
 #[cycle(read)]
 fn read_row(
-    alloc: Global,
-    table: &TypeTable,
-    depth: u32,
+    level: &Level<'_>,
     id: TypeId,
     row: &TypeRow,
     path: &mut Path,
     reader: &mut BitReader,
 ) -> Result<Value, Fail<Reason>>
-    requires flat { IsFlatTable table.now }
-    requires known { slice_get table.now id.0 ≡ Some row.now }
-    requires few { depth < 32 }
+    requires inner { IsLow level.now.table.now (level.now.depth + 1) id.0 }
+    requires known { slice_get level.now.table.now id.0 ≡ Some row.now }
+    requires few { level.now.depth < 32 }
     requires root { path.old ≡ [] }
-    ensures gives { Gives (λ v. (plain v, bits_left reader.new)) (with_path path.new result) (read_kind table.now (read_within depth table.now) id.0 row.now.kind (bits_left reader.old)) }
-    ensures near { length path.new ≤ depth + 1 }
+    ensures gives { Gives (λ v. (plain v, bits_left reader.new)) (with_path path.new result) (read_kind level.now.table.now (read_within level.now.depth level.now.table.now) id.0 row.now.kind (bits_left reader.old)) }
+    ensures near { length path.new ≤ 2 * level.now.depth + 2 }
     ensures calm { OnOk result (path.new ≡ []) }
     ensures reason { IfErr result StopsReading }
 {
-    table.keeps_rules();
+    level.table.keeps_rules();
     match &row.kind {
         Kind::Int(form, spans) => read_integer(*form, spans, reader),
-        Kind::Enum(form, listing) => read_label(alloc, *form, listing, reader),
+        Kind::Enum(form, listing) => read_label(level.alloc, *form, listing, reader),
         Kind::Bool(form) => read_truth(*form, reader),
-        Kind::Str(_) => unreachable!(),
-        Kind::Bin(_, _) => unreachable!(),
-        Kind::Arr(_, _) => unreachable!(),
-        Kind::Con(_) => read_container(alloc, table, depth, id, path, reader),
+        Kind::Str(form) => read_string(level.alloc, *form, reader),
+        Kind::Bin(bits, _) => read_octets(level.alloc, *bits, reader),
+        Kind::Arr(item, count) => {
+            match read_items(level, *item, u128::from(*count), path, reader) {
+                Ok(items) => Ok(Value::Items(items)),
+                Err(stop) => Err(stop),
+            }
+        }
+        Kind::Con(_) => read_container(level, id, path, reader),
     }
 }
 
-/// Reads the fields of a container.
+/// Reads so many items of a type.
 #[cycle(read)]
-fn read_container(
-    alloc: Global,
-    table: &TypeTable,
-    depth: u32,
+#[tactic(auto, unfolding(eds_types::specs::Reading::read_items))]
+fn read_items(
+    level: &Level<'_>,
     id: TypeId,
+    count: u128,
     path: &mut Path,
     reader: &mut BitReader,
-) -> Result<Value, Fail<Reason>>
-    requires flat { IsFlatTable table.now }
-    requires few { depth < 32 }
+) -> Result<Vec<Value>, Fail<Reason>>
+    requires inner { IsInner level.now.table.now level.now.depth id.0 }
+    requires few { level.now.depth < 32 }
     requires root { path.old ≡ [] }
-    ensures gives { Gives (λ v. (plain v, bits_left reader.new)) (with_path path.new result) (read_flat (read_within depth table.now) id.0 (entries_of table.now id.0) (bits_left reader.old)) }
-    ensures near { length path.new ≤ depth + 1 }
+    ensures gives { Gives (λ vs. (map plain vs.items, bits_left reader.new)) (with_path path.new result) (items_read (read_within level.now.depth level.now.table.now id.0) count 0 (bits_left reader.old)) }
+    ensures near { length path.new ≤ 2 * level.now.depth + 1 }
     ensures calm { OnOk result (path.new ≡ []) }
     ensures reason { IfErr result StopsReading }
 {
-    let entries = table.entries_of(id);
-    let mut values = Vec::with_capacity(alloc, entries.len())?;
-    read_entries(alloc, table, depth, id, entries, &mut values, path, reader)?;
-    Ok(Value::Fields(id, values))
+    let mut values = Vec::new(level.alloc);
+    let mut place: u32 = 0;
+    while u128::from(place) < count {
+        match read_value(level, id, path, reader) {
+            Ok(value) => values.push(value)?,
+            Err(stop) => {
+                path.put_first(Step::Item(place));
+                return Err(stop);
+            }
+        }
+        place = place.checked_add(1).ok_or(Memory)?;
+    }
+    Ok(values)
 }
 
-/// Reads the entries of a container, and puts their values last.
+/// Reads a part of a container, and keeps its value, where it has one.
 #[cycle(read)]
-fn read_entries(
-    alloc: Global,
-    table: &TypeTable,
-    depth: u32,
-    id: TypeId,
-    entries: &[Part],
-    values: &mut Vec<Value>,
+fn read_part(
+    level: &Level<'_>,
+    container: TypeId,
+    place: u16,
+    part: &Part,
+    reached: &mut Reached<'_>,
     path: &mut Path,
     reader: &mut BitReader,
 ) -> Result<(), Fail<Reason>>
-    requires flat { IsFlatTable table.now }
-    requires entries { AllByRecursion (IsScalarEntry table.now) entries.now }
-    requires many { length entries.now ≤ 32767 }
-    requires few { depth < 32 }
+    requires inner { PartIsRead level.now.table.now level.now.depth part.now }
+    requires few { level.now.depth < 32 }
+    requires begun { IsUnderWay reached.old (bits_left reader.old) }
     requires root { path.old ≡ [] }
-    ensures gives { Gives (λ u. (map plain values.new.items, bits_left reader.new)) (with_path path.new result) (read_entries (read_within depth table.now) id.0 0 entries.now (map plain values.old.items, bits_left reader.old)) }
-    ensures near { length path.new ≤ depth + 1 }
+    ensures gives { Gives (λ u. (progress_of reached.new (bits_left reader.new), bits_left reader.new)) (with_path path.new result) (part_read level.now.table.now (read_within level.now.depth level.now.table.now) (progress_of reached.old (bits_left reader.old)) (placed container.0 place part.now) part.now (bits_left reader.old)) }
+    ensures begun { OnOk result (IsUnderWay reached.new (bits_left reader.new)) }
+    ensures near { length path.new ≤ 2 * level.now.depth + 1 }
     ensures calm { OnOk result (path.new ≡ []) }
     ensures reason { IfErr result StopsReading }
 {
-    let mut place = 0;
-    let mut rest = entries;
-    while let [entry, after @ ..] = rest {
-        read_entry(alloc, table, depth, id, place, entry, values, path, reader)?;
+    match part {
+        Part::Plain(_, id) => {
+            let value = read_value(level, *id, path, reader)?;
+            Ok(keep_field(reached, container, place, value)?)
+        }
+        Part::Fixed(_, id, fixed) => {
+            let value = read_value(level, *id, path, reader)?;
+            expect_value(fixed, &value)?;
+            Ok(())
+        }
+        Part::Pad(bits) => {
+            skip_padding(*bits, reader)?;
+            Ok(())
+        }
+        Part::List(_, id, teller, told) => {
+            let count = count_at(reached.fields.as_slice(), *teller, *told);
+            let items = read_items(level, *id, count, path, reader)?;
+            Ok(keep_field(reached, container, place, Value::Items(items))?)
+        }
+        Part::Length(_, id, c0, c1) => {
+            let value = read_value(level, *id, path, reader)?;
+            keep_told(reached, c0, c1, &value)?;
+            Ok(())
+        }
+        Part::Check(_, id, check) => {
+            let sum = sum_before(*check, reached, reader)?;
+            let value = read_value(level, *id, path, reader)?;
+            expect_check(sum, &value)?;
+            Ok(())
+        }
+    }
+}
+
+/// Reads the part at a place of a container, a tail among them.
+#[cycle(read)]
+fn read_entry(
+    level: &Level<'_>,
+    container: TypeId,
+    place: u16,
+    part: &Part,
+    reached: &mut Reached<'_>,
+    path: &mut Path,
+    reader: &mut BitReader,
+) -> Result<(), Fail<Reason>>
+    requires inner { PartIsRead level.now.table.now level.now.depth part.now }
+    requires few { level.now.depth < 32 }
+    requires begun { IsUnderWay reached.old (bits_left reader.old) }
+    requires root { path.old ≡ [] }
+    ensures gives { Gives (λ u. (progress_of reached.new (bits_left reader.new), bits_left reader.new)) (with_path path.new result) (entry_read level.now.table.now (read_within level.now.depth level.now.table.now) (progress_of reached.old (bits_left reader.old)) (placed container.0 place part.now) (bits_left reader.old)) }
+    ensures begun { OnOk result (IsUnderWay reached.new (bits_left reader.new)) }
+    ensures near { length path.new ≤ 2 * level.now.depth + 2 }
+    ensures calm { OnOk result (path.new ≡ []) }
+    ensures reason { IfErr result StopsReading }
+{
+    if let Some(most) = open_bits(level.table, part) {
+        return read_tail(
+            level.alloc,
+            level.table,
+            most,
+            container,
+            place,
+            reached,
+            path,
+            reader,
+        );
+    }
+    match read_part(level, container, place, part, reached, path, reader) {
+        Ok(()) => Ok(()),
+        Err(stop) => {
+            path.put_first(Step::Part(container, place));
+            Err(stop)
+        }
+    }
+}
+
+/// Reads parts of a container, of which the first stands at a given place.
+#[cycle(read)]
+#[tactic(auto, unfolding(eds_types::specs::Reading::read_parts))]
+fn read_parts(
+    level: &Level<'_>,
+    container: TypeId,
+    first: u16,
+    parts: &[Part],
+    reached: &mut Reached<'_>,
+    path: &mut Path,
+    reader: &mut BitReader,
+) -> Result<(), Fail<Reason>>
+    requires inner { AllByRecursion (PartIsRead level.now.table.now level.now.depth) parts.now }
+    requires many { first + length parts.now ≤ 65534 }
+    requires few { level.now.depth < 32 }
+    requires begun { IsUnderWay reached.old (bits_left reader.old) }
+    requires root { path.old ≡ [] }
+    ensures gives { Gives (λ u. (progress_of reached.new (bits_left reader.new), bits_left reader.new)) (with_path path.new result) (parts_read level.now.table.now (read_within level.now.depth level.now.table.now) (placed_from container.0 first parts.now) (progress_of reached.old (bits_left reader.old)) (bits_left reader.old)) }
+    ensures begun { OnOk result (IsUnderWay reached.new (bits_left reader.new)) }
+    ensures near { length path.new ≤ 2 * level.now.depth + 2 }
+    ensures calm { OnOk result (path.new ≡ []) }
+    ensures reason { IfErr result StopsReading }
+{
+    let mut place = first;
+    let mut rest = parts;
+    while let [part, after @ ..] = rest {
+        read_entry(level, container, place, part, reached, path, reader)?;
         place += 1;
         rest = after;
     }
     Ok(())
 }
 
-/// Reads the entry at a place of a container, and puts its value last.
+/// Reads the entries of a chain of containers, each behind its container's constraints.
 #[cycle(read)]
-fn read_entry(
-    alloc: Global,
-    table: &TypeTable,
-    depth: u32,
-    container: TypeId,
-    place: u16,
-    entry: &Part,
-    values: &mut Vec<Value>,
+#[tactic(auto, unfolding(eds_types::specs::Reading::read_chain))]
+fn read_chain(
+    level: &Level<'_>,
+    chain: &[TypeId],
+    reached: &mut Reached<'_>,
     path: &mut Path,
     reader: &mut BitReader,
 ) -> Result<(), Fail<Reason>>
-    requires flat { IsFlatTable table.now }
-    requires entry { IsScalarEntry table.now entry.now }
-    requires few { depth < 32 }
+    requires inner { AllByRecursion (λ (id : Id). IsLow level.now.table.now (level.now.depth + 1) id.0) chain.now }
+    requires few { level.now.depth < 32 }
+    requires begun { IsUnderWay reached.old (bits_left reader.old) }
     requires root { path.old ≡ [] }
-    ensures gives { Gives (λ u. (map plain values.new.items, bits_left reader.new)) (with_path path.new result) (entry_step (read_within depth table.now) container.0 place entry.now (map plain values.old.items, bits_left reader.old)) }
-    ensures near { length path.new ≤ depth + 1 }
+    ensures gives { Gives (λ u. (progress_of reached.new (bits_left reader.new), bits_left reader.new)) (with_path path.new result) (chain_read level.now.table.now (read_within level.now.depth level.now.table.now) (numbers_of chain.now) (progress_of reached.old (bits_left reader.old)) (bits_left reader.old)) }
+    ensures begun { OnOk result (IsUnderWay reached.new (bits_left reader.new)) }
+    ensures near { length path.new ≤ 2 * level.now.depth + 2 }
     ensures calm { OnOk result (path.new ≡ []) }
     ensures reason { IfErr result StopsReading }
 {
-    match entry {
-        Part::Plain(_, id) => match read_value(alloc, table, depth, *id, path, reader) {
-            Ok(value) => Ok(values.push(value)?),
-            Err(stop) => {
-                path.put_first(Step::Part(container, place));
-                Err(stop)
+    let table = level.table;
+    table.keeps_rules();
+    let mut rest = chain;
+    while let [id, after @ ..] = rest {
+        let constraints = table.constraints_of(*id);
+        check_constraints(table, constraints, reached.fields.as_slice(), path)?;
+        read_parts(level, *id, 0, table.entries_of(*id), reached, path, reader)?;
+        rest = after;
+    }
+    Ok(())
+}
+
+/// Reads the trailers of a chain of containers, from the last container up.
+#[cycle(read)]
+fn read_trailers(
+    level: &Level<'_>,
+    chain: &[TypeId],
+    reached: &mut Reached<'_>,
+    path: &mut Path,
+    reader: &mut BitReader,
+) -> Result<(), Fail<Reason>>
+    requires inner { AllByRecursion (λ (id : Id). IsLow level.now.table.now (level.now.depth + 1) id.0) chain.now }
+    requires short { length chain.now ≤ 16 }
+    requires few { level.now.depth < 32 }
+    requires begun { IsUnderWay reached.old (bits_left reader.old) }
+    requires root { path.old ≡ [] }
+    ensures gives { Gives (λ u. (progress_of reached.new (bits_left reader.new), bits_left reader.new)) (with_path path.new result) (parts_read level.now.table.now (read_within level.now.depth level.now.table.now) (trailers_along level.now.table.now (reverse chain.now)) (progress_of reached.old (bits_left reader.old)) (bits_left reader.old)) }
+    ensures begun { OnOk result (IsUnderWay reached.new (bits_left reader.new)) }
+    ensures near { length path.new ≤ 2 * level.now.depth + 2 }
+    ensures calm { OnOk result (path.new ≡ []) }
+    ensures reason { IfErr result StopsReading }
+{
+    let table = level.table;
+    table.keeps_rules();
+    let mut rest = chain;
+    while let [front @ .., id] = rest {
+        let first = table.entries_of(*id).len() as u16;
+        if let Err(stop) = read_parts(
+            level,
+            *id,
+            first,
+            table.trailers_of(*id),
+            reached,
+            path,
+            reader,
+        ) {
+            return Err(stop);
+        }
+        rest = front;
+    }
+    Ok(())
+}
+
+/// Reads what follows the entries of a container and its bases: those of the containers that are chosen under it, and the
+/// trailers. Says which container it is.
+#[cycle(read)]
+#[tactic(auto, unfolding(eds_types::specs::Reading::read_under))]
+fn read_under(
+    level: &Level<'_>,
+    id: TypeId,
+    reached: &mut Reached<'_>,
+    path: &mut Path,
+    reader: &mut BitReader,
+) -> Result<TypeId, Fail<Reason>>
+    requires inner { IsLow level.now.table.now (level.now.depth + 1) id.0 }
+    requires few { level.now.depth < 32 }
+    requires begun { IsUnderWay reached.old (bits_left reader.old) }
+    requires root { path.old ≡ [] }
+    ensures gives { Gives (λ (x : Id). (x.0, progress_of reached.new (bits_left reader.new), bits_left reader.new)) (with_path path.new result) (under_read level.now.table.now (read_within level.now.depth level.now.table.now) 16 id.0 (progress_of reached.old (bits_left reader.old)) (bits_left reader.old)) }
+    ensures near { length path.new ≤ 2 * level.now.depth + 2 }
+    ensures calm { OnOk result (path.new ≡ []) }
+    ensures reason { IfErr result StopsReading }
+{
+    let table = level.table;
+    table.keeps_rules();
+    let mut at = id;
+    for _ in 0..CHAIN {
+        match next_container(table, at, reached.fields.as_slice()) {
+            Next::Stay => {
+                let chain = table.chain_of(at);
+                if let Err(stop) = read_trailers(level, chain.as_slice(), reached, path, reader) {
+                    return Err(stop);
+                }
+                if has_told_size(reached, reader) {
+                    return Ok(at);
+                }
+                tell_length(table, at, path);
+                return Err(Fail::Named(Reason::LengthDiffers));
             }
-        },
-        Part::Fixed(_, _, _) => unreachable!(),
-        Part::Pad(_) => unreachable!(),
-        Part::List(_, _, _, _) => unreachable!(),
-        Part::Length(_, _, _, _) => unreachable!(),
-        Part::Check(_, _, _) => unreachable!(),
+            Next::Nowhere => break,
+            Next::Under(child) => {
+                let entries = table.entries_of(child);
+                if let Err(stop) = read_parts(level, child, 0, entries, reached, path, reader) {
+                    return Err(stop);
+                }
+                at = child;
+            }
+        }
+    }
+    path.put_first(Step::Choice(at));
+    Err(Fail::Named(Reason::NoDerived))
+}
+
+/// Reads the fields of a container.
+#[cycle(read)]
+fn read_container(
+    level: &Level<'_>,
+    id: TypeId,
+    path: &mut Path,
+    reader: &mut BitReader,
+) -> Result<Value, Fail<Reason>>
+    requires inner { IsLow level.now.table.now (level.now.depth + 1) id.0 }
+    requires few { level.now.depth < 32 }
+    requires root { path.old ≡ [] }
+    ensures gives { Gives (λ v. (plain v, bits_left reader.new)) (with_path path.new result) (ended level.now.table.now (read_within level.now.depth level.now.table.now) (read_to_end level.now.table.now (read_within level.now.depth level.now.table.now) id.0 (bits_left reader.old))) }
+    ensures near { length path.new ≤ 2 * level.now.depth + 2 }
+    ensures calm { OnOk result (path.new ≡ []) }
+    ensures reason { IfErr result StopsReading }
+{
+    let mut reached = begin(level.alloc, reader);
+    let chain = level.table.chain_of(id);
+    if let Err(stop) = read_chain(level, chain.as_slice(), &mut reached, path, reader) {
+        return Err(stop);
+    }
+    match read_under(level, id, &mut reached, path, reader) {
+        Ok(found) => {
+            let values = values_of(level.alloc, reached.fields)?;
+            Ok(Value::Fields(found, values))
+        }
+        Err(stop) => Err(stop),
     }
 }

@@ -1,18 +1,19 @@
 //! The value at the front of some bits.
 
+ghost use Rattle.eds_base.specs.declared.fault.Fault.{Fault};
 ghost use Rattle.std.specs.Prelude.{◌≡◌, ◌++◌, ◌<◌, ◌≤◌, length, take, IfOk};
 ghost use Rattle.eds_bits.specs.Bits.{Bits};
 ghost use Rattle.eds_bits.specs.Reader.{view_bits};
 ghost use Rattle.eds_overlap.specs.Laws.{read_type};
-ghost use Rattle.eds_types.specs.Failing.{Where, FailsAt};
-ghost use Rattle.eds_types.specs.FlatTables.{IsFlatTable};
+ghost use Rattle.eds_types.specs.Failing.{FailsAt};
+ghost use Rattle.eds_types.specs.Overlap.{IsClear};
 ghost use Rattle.eds_types.specs.Plain.{Plain, plain};
 ghost use Rattle.eds_types.specs.Spelling.{Spells};
 ghost use Rattle.eds_unpack.specs.Answers.{IsOfReading, IsValue, IsFault, IfFault};
 ghost use Rattle.eds_unpack.specs.Readers.{Gives, sized};
 
 use crate::fault::stop_at;
-use crate::read::read_value;
+use crate::read::{Level, read_value};
 use eds_base::{Fail, Fault, Path, TypeId};
 use eds_bits::{BitReader, BitView};
 use eds_overlap::law::reading_is_exact;
@@ -30,17 +31,22 @@ fn read_front(
     view: BitView,
 ) -> Result<(Value, u32), Fail<Fault>>
     requires known { id.0 < length table.now }
-    requires flat { IsFlatTable table.now }
+    requires clear { IsClear table.now id.0 }
     requires most { length (view_bits view) ≤ 524288 }
     ensures gives { Gives (λ x. (plain x.0, x.1)) result (sized (view_bits view.entry) (read_type table.now id.0 (view_bits view.entry))) }
-    ensures reason { IfFault (λ g. IsOfReading g.0) result }
+    ensures reason { IfFault (λ (g : Fault). IsOfReading g.reason) result }
 {
     table.keeps_rules();
     reading_is_exact();
     let mut reader = BitReader::new(view);
     let all = reader.left();
     let mut path = Path::root();
-    match read_value(alloc, table, NESTING, id, &mut path, &mut reader) {
+    let level = Level {
+        alloc,
+        table,
+        depth: NESTING,
+    };
+    match read_value(&level, id, &mut path, &mut reader) {
         Ok(value) => {
             let left = reader.left();
             let bits = (all - left) as u32;
@@ -51,7 +57,8 @@ fn read_front(
 }
 
 /// The value of a type that the bits of a view begin with, and how many bits it takes: it is exactly the one that they
-/// spell. Where none is spelled, the first entry at which reading fails, and why. The view has at most 524,288 bits.
+/// spell. Where none is spelled, the first entry, constraint or choice at which reading fails, and why. No two containers
+/// overlap under the type. The view has at most 524,288 bits.
 pub fn unpack(
     alloc: Global,
     table: &TypeTable,
@@ -59,14 +66,14 @@ pub fn unpack(
     view: BitView,
 ) -> Result<(Value, u32), Fail<Fault>>
     requires known { id.0 < length table.now }
-    requires flat { IsFlatTable table.now }
+    requires clear { IsClear table.now id.0 }
     requires most { length (view_bits view) ≤ 524288 }
     ensures size { IfOk result (λ x. x.1 ≤ length (view_bits view.entry)) }
     ensures value { IfOk result (λ x. Spells table.now id.0 (plain x.0) (take x.1 (view_bits view.entry))) }
     ensures only_value { (v : Plain) (c rest : Bits) → view_bits view.entry ≡ c ++ rest → Spells table.now id.0 v c → IsValue v (length c) result }
     ensures fault { IfFault (FailsAt table.now id.0 (view_bits view.entry)) result }
-    ensures only_fault { (g : Where) → FailsAt table.now id.0 (view_bits view.entry) g → IsFault g result }
-    ensures reason { IfFault (λ g. IsOfReading g.0) result }
+    ensures only_fault { (g : Fault) → FailsAt table.now id.0 (view_bits view.entry) g → IsFault g result }
+    ensures reason { IfFault (λ (g : Fault). IsOfReading g.reason) result }
 {
     table.keeps_rules();
     reading_is_exact();

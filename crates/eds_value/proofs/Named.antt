@@ -4,7 +4,7 @@ use Rattle.std.specs.Prelude.{slice_get}
 use Rattle.eds_base.specs.Reading.{same}
 use Rattle.eds_types.specs.declared.row.TypeRow.{TypeRow}
 use Rattle.eds_types.specs.Rows.{Table}
-use Rattle.eds_value.specs.Shape.{is_container, named_from}
+use Rattle.eds_value.specs.ValueOfJson.{is_container, named_from}
 use Rattle.eds_value.proofs.Steps.{drop-read}
 
 step : (word : List ℕ) (t : Table) (i : ℕ) (row : TypeRow) (b : Bool) → slice_get t i ≡ Some row → b ≡ (is_container row && same row.name word)

@@ -1,7 +1,8 @@
 pub mod Entries
-pub mod Shown
-pub mod Shape
+pub mod JsonOfValue
+pub mod ValueOfJson
 pub mod Json
 pub mod Paths
 pub mod Laws
-pub mod Given
+pub mod Seen
+pub mod Stops

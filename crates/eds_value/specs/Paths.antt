@@ -8,7 +8,7 @@ use Rattle.eds_types.specs.declared.row.Part.{Part}
 use Rattle.eds_types.specs.Fields.{part_at}
 use Rattle.eds_types.specs.Rows.{Table}
 use Rattle.eds_types.specs.Rules.{name_of}
-use Rattle.eds_value.specs.Shown.{type_name}
+use Rattle.eds_value.specs.JsonOfValue.{type_name}
 
 -- `/`
 abbrev pub is_slash : ℕ → Bool

@@ -1,38 +1,48 @@
-//! The entries of a container, whose values it has.
+//! What has a value in an object: the entries and lists of a container, and arguments.
 
 ghost use Rattle.std.specs.Prelude.{◌≡◌, ◌++◌, map, option_map, option_to_list, Some, IfOk, OnOk};
 ghost use Rattle.eds_value.specs.Entries.{entry_by as entry_from, entry_at as entry_in, entries_along as entries_in};
-ghost use Rattle.eds_value.specs.Given.{given};
+ghost use Rattle.eds_value.specs.Seen.{seen};
 
 use eds_base::{Items, Memory, Step, TypeId};
 use eds_types::{Part, TypeTable};
 use std::alloc::Global;
 
-/// An entry of a container.
+/// An entry or list of a container, or an argument.
 #[derive(Clone, Copy, Debug)]
 pub struct Entry<'a> {
-    /// The step to it from its container.
-    pub step: Step,
+    /// The step to it from its container. No step leads to an argument: its path begins at its own value.
+    pub step: Option<Step>,
     pub name: &'a str,
+    /// Its type, or that of its items.
     pub id: TypeId,
+    /// Whether it is a list.
+    pub is_list: bool,
 }
 
 // The entry at a place, where a part stands there.
 fn entry_by(container: TypeId, place: u16, part: &Part) -> Option<Entry<'_>>
-    ensures { option_map given result ≡ entry_from (container, place) (Some part.now) }
+    ensures { option_map seen result ≡ entry_from (container, place) (Some part.now) }
 {
     match part {
         Part::Plain(name, id) => Some(Entry {
-            step: Step::Part(container, place),
+            step: Some(Step::Part(container, place)),
             name: name.as_str(),
             id: *id,
+            is_list: false,
+        }),
+        Part::List(name, id, _, _) => Some(Entry {
+            step: Some(Step::Part(container, place)),
+            name: name.as_str(),
+            id: *id,
+            is_list: true,
         }),
         _ => None,
     }
 }
 
 fn entry_at(table: &TypeTable, container: TypeId, place: u16) -> Option<Entry<'_>>
-    ensures { option_map given result ≡ entry_in table.now (container, place) }
+    ensures { option_map seen result ≡ entry_in table.now (container, place) }
 {
     match table.part_at(container, place) {
         Some(part) => entry_by(container, place, part),
@@ -41,7 +51,7 @@ fn entry_at(table: &TypeTable, container: TypeId, place: u16) -> Option<Entry<'_
 }
 
 fn push_entry<'a>(entries: &mut Items<Entry<'a>>, entry: Option<Entry<'a>>) -> Result<(), Memory>
-    ensures { OnOk result (map given entries.new ≡ map given entries.old ++ option_to_list (option_map given entry.entry)) }
+    ensures { OnOk result (map seen entries.new ≡ map seen entries.old ++ option_to_list (option_map seen entry.entry)) }
 {
     match entry {
         Some(entry) => entries.push(entry),
@@ -49,13 +59,13 @@ fn push_entry<'a>(entries: &mut Items<Entry<'a>>, entry: Option<Entry<'a>>) -> R
     }
 }
 
-/// The entries of a container and of its bases, in the order of their bits.
+/// The entries and lists of a container and of its bases, in the order of their bits.
 pub fn entries_along<'a>(
     alloc: Global,
     table: &'a TypeTable,
     id: TypeId,
 ) -> Result<Items<Entry<'a>>, Memory>
-    ensures { IfOk result (λ es. map given es ≡ entries_in table.now id.0) }
+    ensures { IfOk result (λ es. map seen es ≡ entries_in table.now id.0) }
 {
     let sequence = table.sequence_of(alloc, id)?;
     let mut entries = Items::new(alloc);

@@ -1,8 +1,13 @@
-//! The law of values as JSON: a function with no body, whose contract is what was proved.
+//! Laws of values as JSON: functions with no body, whose contracts are what was proved.
 
-ghost use Rattle.eds_value.specs.Laws.{ShownIsRead};
+ghost use Rattle.eds_value.specs.Laws.{ArgumentsReadBack, ReadsBack};
 
-/// What is shown of a value of a type is read, where that type is declared, as the same value.
-pub fn shown_is_read()
-    ensures { ShownIsRead }
+/// The JSON of a value of a type is read, where that type is declared, as the same value.
+pub fn reads_back()
+    ensures { ReadsBack }
+{}
+
+/// The JSON of values of arguments is read, where these are declared, as the same values.
+pub fn arguments_read_back()
+    ensures { ArgumentsReadBack }
 {}

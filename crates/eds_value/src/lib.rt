@@ -1,15 +1,18 @@
-//! Values as JSON, and paths into values as text, for tables of scalar types and flat containers.
+//! Values as JSON, and paths into values as text.
 #![tactic(auto)]
 
+mod arguments;
 mod entry;
 mod fail;
+mod json_of_value;
 pub mod law;
 mod path;
 mod read;
-mod shape;
-mod shown;
+mod stop;
+mod value_of_json;
 
+pub use arguments::{FieldList, args_from_json, args_to_json};
 pub use fail::ValueFail;
+pub use json_of_value::to_json;
 pub use path::path_text;
 pub use read::from_json;
-pub use shown::to_json;

@@ -3,7 +3,7 @@
 ghost use Rattle.std.specs.Prelude.{◌≡◌, ◌++◌, IfOk, option_map, string_bytes};
 ghost use Rattle.eds_types.specs.Fields.{part_at};
 ghost use Rattle.eds_value.specs.Paths.{name_at as name_in_part, own_name as own_name_of, part_text as text_of_part, path_text as text_of_path, step_text as text_of_step};
-ghost use Rattle.eds_value.specs.Shown.{type_name as name_of_type};
+ghost use Rattle.eds_value.specs.JsonOfValue.{type_name as name_of_type};
 
 use eds_base::{Memory, Path, Step, Text, TypeId};
 use eds_types::{Part, TypeTable};

@@ -3,20 +3,19 @@
 ghost use Rattle.std.specs.Prelude.{◌≡◌, ◌<◌, length};
 ghost use Rattle.serde_json.specs.View.{view};
 ghost use Rattle.eds_base.specs.Answering.{Answers, or_stop};
-ghost use Rattle.eds_types.specs.FlatTables.{IsFlatTable};
 ghost use Rattle.eds_types.specs.Plain.{plain};
 ghost use Rattle.eds_value.specs.declared.fail.ValueFail.TheVariants.{NotJson};
 ghost use Rattle.eds_value.specs.Json.{json_of as json_in, value_in};
 
 use crate::ValueFail;
-use crate::shape::shape;
+use crate::value_of_json::value_of_json;
 use eds_base::{Fail, TypeId};
 use eds_types::{TypeTable, Value};
 use serde_json::Value as Json;
 use std::alloc::Global;
 
-// The JSON that a text is, where it is UTF-8.
-fn json_of(alloc: Global, octets: &[u8]) -> Result<Json, Fail<ValueFail>>
+/// The JSON that a text is, where it is UTF-8.
+pub(crate) fn json_of(alloc: Global, octets: &[u8]) -> Result<Json, Fail<ValueFail>>
     ensures { Answers view result (or_stop NotJson (json_in octets.now)) }
 {
     match Json::from_slice(alloc, octets) {
@@ -41,11 +40,10 @@ pub fn from_json(
     octets: &[u8],
 ) -> Result<Value, Fail<ValueFail>>
     requires known { id.0 < length table.now }
-    requires flat { IsFlatTable table.now }
     ensures { Answers plain result (value_in table.now id.0 octets.now) }
 {
     let json = json_of(alloc, octets)?;
-    match shape(alloc, table, id, &json) {
+    match value_of_json(alloc, table, id, &json) {
         Ok(value) => Ok(value),
         Err(Fail::Memory) => Err(Fail::Memory),
         Err(Fail::Named(path)) => Err(Fail::Named(ValueFail::WrongShape(path))),

@@ -2,21 +2,21 @@ use Rattle.std.proofs.Common.{◌≡◌, ℕ, ◌<◌, ◌^◌, List, [], ◌∷
 use Rattle.std.proofs.lemmas.List.Elements.{All-push}
 use Rattle.std.proofs.lemmas.List.Sums.{sum_by_push}
 use Rattle.eds_io.specs.Counts.{HasRisen}
-use Rattle.eds_cmd.proofs.SheetFiles.{are, halt_reached, halt_told, handed_on, sheet_files-more, sheet_reached}
+use Rattle.eds_cmd.proofs.SheetFiles.{are, ended_reached, ended_told, handed_on, sheet_files-more, sheet_reached}
 use Rattle.eds_cmd.proofs.perform.sheet_files.Goals as goal
 
 pub returns-in_err-octets-clause-told : goal.returns-in_err-octets-clause-told
 returns-in_err-octets-clause-told g c = λ files told.
-    let halts = rw c.as_str.ensures at (c.in_err-octets.ensures.told files (c.loop-name.invariant.files ∙ told)) in
+    let endings = rw c.as_str.ensures at (c.in_err-octets.ensures.told files (c.loop-name.invariant.files ∙ told)) in
     rw (handed_on c.from_residual.result c.in_err-octets.field-0.0 c.from_residual.ensures.1)
-    (halt_told files c.args.names.now c.loop-name.name-index c.loop-name.before c.name-item.result c.in_err-octets.field-0.0 c.loop-name.sheets (omega arith) c.name-item.is c.loop-name.invariant.all (c.loop-name.invariant.so_far files told) halts)
+    (ended_told files c.args.names.now c.loop-name.name-index c.loop-name.before c.name-item.result c.in_err-octets.field-0.0 c.loop-name.sheets (omega arith) c.name-item.is c.loop-name.invariant.all (c.loop-name.invariant.so_far files told) endings)
 
 pub returns-in_err-octets-clause-reached : goal.returns-in_err-octets-clause-reached
 returns-in_err-octets-clause-reached g c = λ files told.
     let faults = g.S.Shelf.faults in
     let reached = sheet_reached files c.args.names.now c.loop-name.name-index c.name-item.result c.loop-name.sheets (omega arith) c.name-item.is (c.loop-name.invariant.so_far files told) in
     rw (handed_on c.from_residual.result c.in_err-octets.field-0.0 c.from_residual.ensures.1)
-    (halt_reached files c.args.names.now c.name-item.result c.in_err-octets.field-0.0 (λ n. HasRisen (faults c.loop-name.shelf n) (faults c.sheet_file.new.shelf n)) reached (rw c.as_str.ensures at c.in_err-octets.ensures.unread))
+    (ended_reached files c.args.names.now c.name-item.result c.in_err-octets.field-0.0 (λ n. HasRisen (faults c.loop-name.shelf n) (faults c.sheet_file.new.shelf n)) reached (rw c.as_str.ensures at c.in_err-octets.ensures.unread))
 
 pub loop-name-preserved : goal.loop-name-preserved
 loop-name-preserved g c =

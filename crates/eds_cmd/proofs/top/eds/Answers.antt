@@ -6,7 +6,7 @@ use Rattle.eds_cmd.specs.Outcome.{IsFault}
 use Rattle.eds_cmd.specs.declared.status.What.TheVariants as what
 use Rattle.eds_cmd.specs.Limits.{sheet_count}
 use Rattle.eds_cmd.specs.Reports.{usage_line}
-use Rattle.eds_cmd.proofs.AnswerLemmas.{past_answer, past_line, unread_reached}
+use Rattle.eds_cmd.proofs.AnswerLemmas.{past_answer, past_line, past_line_is, unread_reached}
 use Rattle.eds_cmd.proofs.ValidLemmas.{valid_done}
 use Rattle.eds_cmd.proofs.top.eds.Goals as goal
 
@@ -20,6 +20,14 @@ returns-in_default-clause-answer g c = λ files before told written calm.
     let whole = not_write_fault c.finish.result calm in
     (usage_line, rw none (c.finish.ensures.kept whole, refl), c.finish.ensures.whole before written whole)
 
+pub returns-in_default-clause-status : goal.returns-in_default-clause-status
+returns-in_default-clause-status g c = λ files told calm.
+    let none : command_of c.args.words.now ≡ None = rw (← c.as_slice.ensures) (sym c.in_default.ensures) in
+    (usage_line, rw none (c.finish.ensures.kept (not_write_fault c.finish.result calm), refl))
+
+pub returns-in_default-clause-usage_line : goal.returns-in_default-clause-usage_line
+returns-in_default-clause-usage_line g c = λ before written usage. c.finish.ensures.whole before written (λ fault. cc (usage, fault))
+
 pub returns-in_default-clause-write_prefix : goal.returns-in_default-clause-write_prefix
 returns-in_default-clause-write_prefix g c = λ files before told written fault.
     let none : command_of c.args.words.now ≡ None = rw (← c.as_slice.ensures) (sym c.in_default.ensures) in
@@ -32,6 +40,16 @@ returns-then-command-gt-SHEETS-clause-answer g c = λ files before told written 
     let whole = not_write_fault c.finish-then-command-gt-SHEETS.result calm in
     let answer = past_answer files (words_of c.in-Some.command) c.if-command-gt-SHEETS.true in
     (past_line, rw (some, c.finish-then-command-gt-SHEETS.ensures.kept whole) answer, c.finish-then-command-gt-SHEETS.ensures.whole before written whole)
+
+pub returns-then-command-gt-SHEETS-clause-status : goal.returns-then-command-gt-SHEETS-clause-status
+returns-then-command-gt-SHEETS-clause-status g c = λ files told calm.
+    let some : command_of c.args.words.now ≡ Some (words_of c.in-Some.command) = rw (← c.as_slice.ensures) (sym c.in-Some.ensures) in
+    let kept = c.finish-then-command-gt-SHEETS.ensures.kept (not_write_fault c.finish-then-command-gt-SHEETS.result calm) in
+    (past_line, rw (some, kept) (past_answer files (words_of c.in-Some.command) c.if-command-gt-SHEETS.true))
+
+pub returns-then-command-gt-SHEETS-clause-too_many_line : goal.returns-then-command-gt-SHEETS-clause-too_many_line
+returns-then-command-gt-SHEETS-clause-too_many_line g c = λ before written many calm.
+    rw (← past_line_is) (c.finish-then-command-gt-SHEETS.ensures.whole before written (not_write_fault c.finish-then-command-gt-SHEETS.result calm))
 
 pub returns-then-command-gt-SHEETS-clause-write_prefix : goal.returns-then-command-gt-SHEETS-clause-write_prefix
 returns-then-command-gt-SHEETS-clause-write_prefix g c = λ files before told written fault.

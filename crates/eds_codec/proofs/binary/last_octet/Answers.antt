@@ -1,4 +1,4 @@
-use Rattle.std.proofs.Common.{◌-◌, ◌*◌, ◌^◌, ap, ◌∙◌, arith}
+use Rattle.std.proofs.Common.{ap, ◌∙◌, arith}
 use Rattle.eds_bits.specs.Bits.{low_bits}
 use Rattle.eds_bits.specs.Reader.{bits_left}
 use Rattle.eds_codec.proofs.Binaries.{high_octet, high_fits, high_below}

@@ -1,4 +1,4 @@
-use Rattle.std.proofs.Common.{◌≡◌, ◌-◌, ◌+◌, ◌*◌, ◌/◌, ◌%◌, ◌<◌, get_or, length, length-take, arith}
+use Rattle.std.proofs.Common.{◌-◌, ◌/◌, ◌%◌, ◌<◌, get_or, length, length-take, arith}
 use Rattle.std.proofs.lemmas.Bool.{OnTrue_at}
 use Rattle.eds_bits.specs.Bits.{bits_of}
 use Rattle.eds_bits.proofs.Shifts.{octet_high}

@@ -1,4 +1,4 @@
-use Rattle.std.proofs.Common.{◌≡◌, length, drop, ◌∙◌, arith}
+use Rattle.std.proofs.Common.{length, drop, ◌∙◌, arith}
 use Rattle.std.proofs.lemmas.List.{take_at}
 use Rattle.eds_bits.specs.Reader.{bits_left}
 use Rattle.eds_codec.proofs.Binaries.{binary_front}

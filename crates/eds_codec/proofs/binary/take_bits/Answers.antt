@@ -1,4 +1,4 @@
-use Rattle.std.proofs.Common.{◌≡◌, ◌-◌, ◌+◌, ◌*◌, ◌/◌, ◌%◌, take, length, length-take, arith}
+use Rattle.std.proofs.Common.{◌≡◌, ◌/◌, ◌%◌, take, length, length-take, arith}
 use Rattle.std.proofs.lemmas.Bool.{OnTrue_at}
 use Rattle.eds_bits.specs.Reader.{bits_left}
 use Rattle.eds_codec.proofs.Binaries.{last_taken, whole_taken}

@@ -1,4 +1,4 @@
-use Rattle.std.proofs.Common.{◌-◌, ◌/◌, ◌%◌, ◌+◌, ◌*◌, length, arith}
+use Rattle.std.proofs.Common.{◌-◌, ◌/◌, ◌%◌, length, arith}
 use Rattle.eds_codec.proofs.Binaries.{binary_size, binary_written}
 use Rattle.eds_codec.proofs.binary.write_binary.Goals as goal
 

@@ -1,4 +1,4 @@
-use Rattle.std.proofs.Common.{◌≡◌, ◌*◌, ℕ, List, take, drop, replicate, length, ap, sym, ◌∙◌, length-take, arith}
+use Rattle.std.proofs.Common.{◌≡◌, ℕ, List, take, drop, replicate, length, ap, ◌∙◌, length-take, arith}
 use Rattle.std.proofs.lemmas.Bool.{OnTrue_at}
 use Rattle.std.proofs.lemmas.List.{length-replicate}
 use Rattle.eds_bits.specs.Reader.{bits_left}

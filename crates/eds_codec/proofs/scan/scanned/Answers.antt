@@ -1,4 +1,4 @@
-use Rattle.std.proofs.Common.{◌≡◌, ◌*◌, ◌≤◌, length, take, ap, sym, subst, ◌∙◌, length-take, arith}
+use Rattle.std.proofs.Common.{◌≡◌, length, take, ap, sym, subst, ◌∙◌, length-take, arith}
 use Rattle.eds_bits.specs.Bits.{bits_of, octets_of}
 use Rattle.eds_bits.specs.Reader.{bits_left}
 use Rattle.eds_bits.specs.Scalars.{before_stop, IsCoded}

@@ -1,4 +1,4 @@
-use Rattle.std.proofs.Common.{◌≡◌, ◌≤◌, ◌*◌, ℕ, length, ap, ◌∙◌, length-drop, arith}
+use Rattle.std.proofs.Common.{◌≤◌, ◌*◌, length, ap, length-drop, arith}
 use Rattle.eds_bits.specs.Reader.{bits_left}
 use Rattle.eds_bits.specs.Texts.{front_octets}
 use Rattle.eds_bits.proofs.TextLaws.{before_is, length-front_octets}

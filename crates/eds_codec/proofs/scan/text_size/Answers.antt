@@ -1,5 +1,4 @@
-use Rattle.std.proofs.Common.{length, arith}
-use Rattle.eds_bits.specs.Scalars.{before_stop}
+use Rattle.std.proofs.Common.{arith}
 use Rattle.eds_bits.proofs.TextLaws.{before_is}
 use Rattle.eds_codec.proofs.Blocks.{first_place}
 use Rattle.eds_codec.proofs.scan.text_size.Goals as goal

@@ -1,6 +1,6 @@
-use Rattle.std.proofs.Common.{◌≡◌, ◌≤◌, ◌*◌, length, ap, sym, arith}
+use Rattle.std.proofs.Common.{arith}
 use Rattle.eds_bits.specs.Reader.{bits_left}
-use Rattle.eds_codec.proofs.Texts.{Sized, fixed_sized}
+use Rattle.eds_codec.proofs.Texts.{fixed_sized}
 use Rattle.eds_codec.proofs.text.fixed_size.Goals as goal
 
 pub returns-then-scan-clause-text : goal.returns-then-scan-clause-text

@@ -1,4 +1,4 @@
-use Rattle.std.proofs.Common.{◌≡◌, ◌≤◌, ◌<◌, ◌*◌, ◌+◌, ◌/◌, length, ap, sym, arith, Err}
+use Rattle.std.proofs.Common.{ap, arith, Err}
 use Rattle.eds_bits.specs.Reader.{bits_left}
 use Rattle.eds_codec.proofs.Texts.{Window, open_sized, open_good, open_bad, open_only_bad, open_short, open_only_short, open_unterminated, open_only_unterminated, untrue}
 use Rattle.eds_codec.proofs.text.open_size.Goals as goal

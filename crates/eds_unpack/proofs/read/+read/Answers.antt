@@ -1,25 +1,274 @@
-use Rattle.std.proofs.Common.{Err, sym, ap, subst, ◌∙◌}
-use Rattle.eds_base.specs.declared.fault.Reason.TheVariants.{Short}
+use Rattle.std.proofs.Common.{◌≡◌, ◌∙◌, ◌+◌, ◌-◌, [], ◌∷◌, ◌++◌, length, map, get_or, take, drop, reverse, true, false, refl, ap, sym, subst, Ok, Err, Some, rules, arith}
+use Rattle.std.specs.List.{AllByRecursion}
+use Rattle.std.proofs.lemmas.List.{length-take, map-append}
+use Rattle.eds_base.specs.declared.fault.Reason.TheVariants.{LengthDiffers, NoDerived}
+use Rattle.eds_base.specs.declared.fault.Step.TheVariants as step
+use Rattle.eds_types.specs.Failing.{fault_at}
 use Rattle.eds_bits.specs.Reader.{bits_left}
-use Rattle.eds_types.specs.Plain.{plain}
-use Rattle.eds_types.specs.Reading.{read_within}
-use Rattle.eds_unpack.specs.Readers.{Gives, with_path}
+use Rattle.eds_types.specs.Fields.{type_by, field_at, value_at}
+use Rattle.eds_types.specs.Plain.{plain, items, fields, plains_of}
+use Rattle.eds_types.specs.Reading.{read_within, read_parts, next}
+use Rattle.eds_types.specs.Spelling.{count_in}
+use Rattle.eds_types.specs.Rows.{chain, placed_from}
+use Rattle.eds_unpack.specs.Choices.{numbers_of, IsNear}
+use Rattle.eds_unpack.specs.Courses.{fields_of, progress_of}
+use Rattle.eds_unpack.specs.Entries.{IsLow, PartIsRead, LengthIsRead}
+use Rattle.eds_unpack.specs.Readers.{Gives, with_path, stop_at}
 use Rattle.eds_unpack.proofs.Labels.{kind_listed}
-use Rattle.eds_unpack.proofs.FlatContainers.{row_read, next_level, no_level}
+use Rattle.eds_unpack.proofs.Levels.{next_level}
+use Rattle.eds_unpack.proofs.Listing.{numbers_are}
+use Rattle.eds_unpack.proofs.OnReads.{value_moves, items_move, pad_moves}
+use Rattle.eds_unpack.proofs.Ranks.{chain_is_low, child_is_low, item_is_read}
+use Rattle.eds_unpack.proofs.Values.{plain_items, plain_fields}
+use Rattle.eds_unpack.proofs.Steps.{stops_as, first_low, last_low, front_low, near_low, near_most, entries_low, trailers_low, under_way, told_way, begins, is_started, plain_part, list_part, fixed_part, check_part, pad_part, length_part, length_number, items_more, trailers_stop, trailers_go, trailers_done, stay_stops, stay_ends, nowhere_is, under_stops, under_goes, under_ends, chain_stops, end_stops, container_reads}
 use Rattle.eds_unpack.proofs.read.+read.Goals as goal
+use Rattle.eds_unpack.proofs.read.+read.Goals.{read_under-else-loop-test, read_under-then-loop-test+in-Nowhere}
+
+-- ---- values
+
+pub read_value-read_row-requires : goal.read_value-read_row-requires
+read_value-read_row-requires t c =
+    let low = c.requires.inner.low.low in
+    let k : c.args.level.now.depth ≡ c.args.level.now.depth - 1 + 1 = omega arith in
+    (omega arith, (subst (λ n. IsLow c.args.level.now.table.now n c.args.id.0) k c.requires.inner.low, (c.row.ensures, (omega arith, c.requires.root))))
+
+pub read_value-returns-clause-gives : goal.read_value-returns-clause-gives
+read_value-returns-clause-gives t c =
+    let low = c.requires.inner.low.low in
+    subst (λ r. Gives (λ v. (plain v, bits_left c.read_row.new.reader)) (with_path c.read_row.new.path c.read_row.result) r) (sym (next_level c.args.level.now.depth c.args.level.now.table.now c.args.id.0 c.row.result.now (bits_left c.args.reader.now) (λ z. omega arith) c.row.ensures))
+    c.read_row.ensures.gives
 
 pub read_row-read_label-requires : goal.read_row-read_label-requires
 read_row-read_label-requires t c = kind_listed c.args.row.now.kind c.in-Enum.form c.in-Enum.listing c.in-Enum.is (c.keeps_rules.ensures.kinds c.args.id.0 c.args.row.now c.requires.known)
 
-pub read_row-returns-in-Con-clause-gives : goal.read_row-returns-in-Con-clause-gives
-read_row-returns-in-Con-clause-gives t c =
-    subst (λ r. Gives (λ v. (plain v, bits_left c.read_container.new.reader)) (with_path c.read_container.new.path c.read_container.result) r) (sym (row_read c.args.table.now (read_within c.args.depth c.args.table.now) c.keeps_rules.ensures c.requires.flat c.args.id.0 c.args.row.now c.in-Con.field-0 c.requires.known c.in-Con.is (bits_left c.args.reader.now)))
-    c.read_container.ensures.gives
+pub read_row-read_items-requires : goal.read_row-read_items-requires
+read_row-read_items-requires t c = (omega arith, (item_is_read c.args.level.now.table.now c.requires.inner.rules c.args.level.now.depth c.args.id.0 c.requires.inner.low c.args.row.now c.in-Arr.item c.in-Arr.count c.requires.known c.in-Arr.is, (c.requires.few, c.requires.root)))
 
-pub read_value-returns-then-depth-eq0-clause-gives : goal.read_value-returns-then-depth-eq0-clause-gives
-read_value-returns-then-depth-eq0-clause-gives t c = no_level c.args.depth c.args.table.now c.args.id.0 (bits_left c.args.reader.now) c.if-depth-eq0.true ∙ ap (λ p. Err (Short, p)) (sym c.requires.root)
+-- ---- items
 
-pub read_value-returns-clause-gives : goal.read_value-returns-clause-gives
-read_value-returns-clause-gives t c =
-    subst (λ r. Gives (λ v. (plain v, bits_left c.read_row.new.reader)) (with_path c.read_row.new.path c.read_row.result) r) (sym (next_level c.args.depth c.args.table.now c.args.id.0 c.row.result.now (bits_left c.args.reader.now) c.if-depth-eq0.false c.row.ensures))
-    c.read_row.ensures.gives
+pub read_items-loop-id-preserved : goal.read_items-loop-id-preserved
+read_items-loop-id-preserved t c =
+    let k : c.in_ok-place.place ≡ c.loop-id.place + 1 = search rules in
+    record {
+      root = c.in-Ok.ensures.calm;
+      read = items_more (read_within c.args.level.now.depth c.args.level.now.table.now c.args.id.0) c.args.count c.loop-id.place c.in_ok-place.place (map plain c.loop-id.values.items) (map plain c.push.new.self.items) (bits_left c.loop-id.reader) (plain c.in-Ok.value) (bits_left c.read_value.new.reader) _
+          (ap (map plain) c.in_ok-push-in-Ok.ensures.items ∙ map-append plain c.loop-id.values.items (c.in-Ok.value ∷ [])) k (omega (arith, c.from.ensures, c.loop-id-test.true)) c.in-Ok.ensures.gives c.loop-id.invariant.read;
+    }
+
+-- ---- parts
+
+pub read_part-read_value-requires : goal.read_part-read_value-requires
+read_part-read_value-requires t c = (omega arith, (c.requires.inner.inner c.in-Plain.id.0 (ap (λ p. type_by (Some p)) c.in-Plain.is), (omega arith, c.requires.root)))
+
+pub read_part-read_value-requires-in-Fixed : goal.read_part-read_value-requires-in-Fixed
+read_part-read_value-requires-in-Fixed t c = (omega arith, (c.requires.inner.inner c.in-Fixed.id.0 (ap (λ p. type_by (Some p)) c.in-Fixed.is), (omega arith, c.requires.root)))
+
+pub read_part-read_items-requires : goal.read_part-read_items-requires
+read_part-read_items-requires t c = (omega arith, (c.requires.inner.inner c.in-List.id.0 (ap (λ p. type_by (Some p)) c.in-List.is), (c.requires.few, c.requires.root)))
+
+pub read_part-read_value-requires-in-Length : goal.read_part-read_value-requires-in-Length
+read_part-read_value-requires-in-Length t c = (omega arith, (c.requires.inner.inner c.in-Length.id.0 (ap (λ p. type_by (Some p)) c.in-Length.is), (omega arith, c.requires.root)))
+
+pub read_part-read_value-requires-in-Check : goal.read_part-read_value-requires-in-Check
+read_part-read_value-requires-in-Check t c = (omega arith, (c.requires.inner.inner c.in-Check.id.0 (ap (λ p. type_by (Some p)) c.in-Check.is), (omega arith, c.requires.root)))
+
+pub read_part-returns-in_ok-keep_field-in-Plain-clause-gives : goal.read_part-returns-in_ok-keep_field-in-Plain-clause-gives
+read_part-returns-in_ok-keep_field-in-Plain-clause-gives t c =
+    let on = value_moves c.args.level.now.depth c.args.level.now.table.now c.in-Plain.id.0 (bits_left c.args.reader.now) (plain c.in_ok-value-in-Plain.value) (bits_left c.read_value.new.reader) c.in_ok-value-in-Plain.ensures.gives in
+    plain_part c.args.level.now.table.now (read_within c.args.level.now.depth c.args.level.now.table.now) c.args.reached.now c.args.container.0 c.args.place c.args.part.now (bits_left c.args.reader.now) (bits_left c.read_value.new.reader) c.requires.begun.begun on c.keep_field.new.reached c.in-Plain.field-0 c.in-Plain.id (plain c.in_ok-value-in-Plain.value) c.in-Plain.is c.in_ok-value-in-Plain.ensures.gives c.in_ok-keep_field-in-Plain.ensures.fields c.keep_field.ensures.octets c.keep_field.ensures.start
+
+pub read_part-returns-in_ok-keep_field-in-Plain-clause-begun : goal.read_part-returns-in_ok-keep_field-in-Plain-clause-begun
+read_part-returns-in_ok-keep_field-in-Plain-clause-begun t c =
+    let on = value_moves c.args.level.now.depth c.args.level.now.table.now c.in-Plain.id.0 (bits_left c.args.reader.now) (plain c.in_ok-value-in-Plain.value) (bits_left c.read_value.new.reader) c.in_ok-value-in-Plain.ensures.gives in
+    under_way c.args.reached.now c.keep_field.new.reached (bits_left c.args.reader.now) (bits_left c.read_value.new.reader) c.requires.begun on c.keep_field.ensures.octets c.keep_field.ensures.start
+
+pub read_part-returns-in_ok-keep_field-in-List-clause-gives : goal.read_part-returns-in_ok-keep_field-in-List-clause-gives
+read_part-returns-in_ok-keep_field-in-List-clause-gives t c =
+    let on = items_move c.args.level.now.depth c.args.level.now.table.now c.in-List.id.0 c.count_at-count.result (bits_left c.args.reader.now) (map plain c.in_ok-items-in-List.items.items) (bits_left c.read_items.new.reader) c.in_ok-items-in-List.ensures.gives in
+    list_part c.args.level.now.table.now (read_within c.args.level.now.depth c.args.level.now.table.now) c.args.reached.now c.args.container.0 c.args.place c.args.part.now (bits_left c.args.reader.now) (bits_left c.read_items.new.reader) c.requires.begun.begun on c.keep_field-in-List.new.reached c.in-List.field-0 c.in-List.id c.in-List.teller c.in-List.told c.count_at-count.result (map plain c.in_ok-items-in-List.items.items) c.in-List.is
+    (c.count_at-count.ensures ∙ ap (λ fs. count_in (value_at (fields_of fs) c.in-List.teller.0 c.in-List.told)) c.as_slice.ensures.value)
+    c.in_ok-items-in-List.ensures.gives
+    (c.in_ok-keep_field-in-List.ensures.fields ∙ ap (λ v. fields_of c.args.reached.now.fields.items ++ field_at c.args.container.0 c.args.place v ∷ []) (plain_items c.in_ok-items-in-List.items)) c.keep_field-in-List.ensures.octets c.keep_field-in-List.ensures.start
+
+pub read_part-returns-in_ok-keep_field-in-List-clause-begun : goal.read_part-returns-in_ok-keep_field-in-List-clause-begun
+read_part-returns-in_ok-keep_field-in-List-clause-begun t c =
+    let on = items_move c.args.level.now.depth c.args.level.now.table.now c.in-List.id.0 c.count_at-count.result (bits_left c.args.reader.now) (map plain c.in_ok-items-in-List.items.items) (bits_left c.read_items.new.reader) c.in_ok-items-in-List.ensures.gives in
+    under_way c.args.reached.now c.keep_field-in-List.new.reached (bits_left c.args.reader.now) (bits_left c.read_items.new.reader) c.requires.begun on c.keep_field-in-List.ensures.octets c.keep_field-in-List.ensures.start
+
+-- ---- chains
+
+pub read_chain-check_constraints-requires-clause-near : goal.read_chain-check_constraints-requires-clause-near
+read_chain-check_constraints-requires-clause-near t c =
+    let low = first_low c.args.level.now.table.now (c.args.level.now.depth + 1) c.loop-rest.rest.now (record { 0 = 0 }) (omega arith) c.loop-rest.invariant.inner in
+    subst (AllByRecursion (IsNear 32)) (sym c.constraints_of-constraints.ensures) (near_most c.args.level.now.table.now c.args.level.now.depth (get_or c.loop-rest.rest.now 0 (record { 0 = 0 })).0 c.requires.few low)
+
+pub read_chain-returns-in_err-check_constraints-clause-near : goal.read_chain-returns-in_err-check_constraints-clause-near
+read_chain-returns-in_err-check_constraints-clause-near t c =
+    let low = first_low c.args.level.now.table.now (c.args.level.now.depth + 1) c.loop-rest.rest.now (record { 0 = 0 }) (omega arith) c.loop-rest.invariant.inner in
+    let most = c.in_err-check_constraints.ensures.near (c.args.level.now.depth + 1) (subst (AllByRecursion (IsNear (c.args.level.now.depth + 1))) (sym c.constraints_of-constraints.ensures) (near_low c.args.level.now.table.now c.args.level.now.depth (get_or c.loop-rest.rest.now 0 (record { 0 = 0 })).0 low)) in
+    omega arith
+
+pub read_chain-read_parts-requires : goal.read_chain-read_parts-requires
+read_chain-read_parts-requires t c =
+    let low = first_low c.args.level.now.table.now (c.args.level.now.depth + 1) c.loop-rest.rest.now (record { 0 = 0 }) (omega arith) c.loop-rest.invariant.inner in (
+      omega arith,
+      (
+        subst (AllByRecursion (PartIsRead c.args.level.now.table.now c.args.level.now.depth)) (sym c.entries_of.ensures.value) (entries_low c.args.level.now.table.now c.args.level.now.depth (get_or c.loop-rest.rest.now 0 (record { 0 = 0 })).0 low),
+        (omega (arith, c.entries_of.ensures.few), (c.requires.few, (c.loop-rest.invariant.begun, c.in_ok-check_constraints.ensures.calm))),
+      ),
+    )
+
+pub read_trailers-read_parts-requires : goal.read_trailers-read_parts-requires
+read_trailers-read_parts-requires t c =
+    let low = last_low c.args.level.now.table.now (c.args.level.now.depth + 1) c.loop-rest.rest.now (record { 0 = 0 }) (omega arith) c.loop-rest.invariant.inner in (
+      omega arith,
+      (
+        subst (AllByRecursion (PartIsRead c.args.level.now.table.now c.args.level.now.depth)) (sym c.trailers_of.ensures.value) (trailers_low c.args.level.now.table.now c.args.level.now.depth (get_or c.loop-rest.rest.now (length c.loop-rest.rest.now - 1) (record { 0 = 0 })).0 low),
+        (omega (arith, c.entries_of.ensures.few, c.trailers_of.ensures.few), (c.requires.few, (c.loop-rest.invariant.begun, c.loop-rest.invariant.root))),
+      ),
+    )
+
+pub read_trailers-returns-clause-gives : goal.read_trailers-returns-clause-gives
+read_trailers-returns-clause-gives t c = trailers_done c.args.level.now.table.now (read_within c.args.level.now.depth c.args.level.now.table.now) c.loop-rest.rest.now (progress_of c.loop-rest.reached (bits_left c.loop-rest.reader)) (bits_left c.loop-rest.reader) _ c.in_default.len_below c.loop-rest.invariant.read
+
+-- ---- the choice
+
+pub read_under-read_trailers-requires : goal.read_under-read_trailers-requires
+read_under-read_trailers-requires t c = (
+  omega arith,
+  (
+    chain_is_low c.args.level.now.table.now c.loop.invariant.low.rules (c.args.level.now.depth + 1) c.loop.at.0 c.as_slice-in-Stay.result.now c.loop.invariant.low.low (c.as_slice-in-Stay.ensures.value ∙ c.chain_of-chain.ensures),
+    (omega (arith, ap length c.as_slice-in-Stay.ensures.value, c.as_slice-in-Stay.ensures.few), (c.requires.few, (c.loop.invariant.begun, c.loop.invariant.root))),
+  ),
+)
+
+pub read_under-put_first-requires : goal.read_under-put_first-requires
+read_under-put_first-requires t c = omega (arith, ap length c.loop.invariant.root)
+
+pub read_under-returns-clause-near : goal.read_under-returns-clause-near
+read_under-returns-clause-near t c = omega (arith, ap length c.put_first.ensures, ap length c.loop.invariant.root)
+
+-- ---- containers
+
+pub read_container-read_chain-requires : goal.read_container-read_chain-requires
+read_container-read_chain-requires t c = (
+  omega arith,
+  (
+    chain_is_low c.args.level.now.table.now c.requires.inner.rules (c.args.level.now.depth + 1) c.args.id.0 c.as_slice.result.now c.requires.inner.low (c.as_slice.ensures.value ∙ c.chain_of-chain.ensures),
+    (c.requires.few, (begins c.begin-reached.result (bits_left c.args.reader.now) c.begin-reached.ensures.start c.begin-reached.ensures.octets, c.requires.root)),
+  ),
+)
+
+pub read_container-returns-in-Err-clause-gives : goal.read_container-returns-in-Err-clause-gives
+read_container-returns-in-Err-clause-gives t c =
+    chain_stops c.args.level.now.table.now (read_within c.args.level.now.depth c.args.level.now.table.now) c.args.id.0 (bits_left c.args.reader.now) (numbers_of c.as_slice.result.now) (progress_of c.begin-reached.result (bits_left c.args.reader.now)) (numbers_are c.as_slice.result.now (chain c.args.level.now.table.now c.args.id.0) (c.as_slice.ensures.value ∙ c.chain_of-chain.ensures)) (is_started c.begin-reached.result (bits_left c.args.reader.now) c.begin-reached.ensures.fields c.begin-reached.ensures.octets c.begin-reached.ensures.start) (stop_at c.read_chain.new.path c.in-Err.stop) c.in-Err.ensures.gives
+
+pub read_container-returns-in_ok-values-in-Ok-clause-gives : goal.read_container-returns-in_ok-values-in-Ok-clause-gives
+read_container-returns-in_ok-values-in-Ok-clause-gives t c =
+    container_reads c.args.level.now.table.now (read_within c.args.level.now.depth c.args.level.now.table.now) c.args.id.0 (bits_left c.args.reader.now) (numbers_of c.as_slice.result.now) (progress_of c.begin-reached.result (bits_left c.args.reader.now)) (numbers_are c.as_slice.result.now (chain c.args.level.now.table.now c.args.id.0) (c.as_slice.ensures.value ∙ c.chain_of-chain.ensures)) (is_started c.begin-reached.result (bits_left c.args.reader.now) c.begin-reached.ensures.fields c.begin-reached.ensures.octets c.begin-reached.ensures.start)
+    (progress_of c.read_chain.new.reached (bits_left c.read_chain.new.reader)) (progress_of c.read_under.new.reached (bits_left c.read_under.new.reader)) (bits_left c.read_chain.new.reader) (bits_left c.read_under.new.reader) c.in-Ok.found.0 c.in_default.ensures.gives c.in-Ok.ensures.gives
+    ∙ ap (λ vs. Ok (fields c.in-Ok.found.0 (plains_of vs), bits_left c.read_under.new.reader)) (sym c.in_ok-values-in-Ok.ensures)
+    ∙ ap (λ v. Ok (v, bits_left c.read_under.new.reader)) (sym (plain_fields c.in-Ok.found c.in_ok-values-in-Ok.values))
+
+pub read_container-returns-in-Err-read_under-clause-gives : goal.read_container-returns-in-Err-read_under-clause-gives
+read_container-returns-in-Err-read_under-clause-gives t c =
+    end_stops c.args.level.now.table.now (read_within c.args.level.now.depth c.args.level.now.table.now) c.args.id.0 (bits_left c.args.reader.now) (numbers_of c.as_slice.result.now) (progress_of c.begin-reached.result (bits_left c.args.reader.now)) (numbers_are c.as_slice.result.now (chain c.args.level.now.table.now c.args.id.0) (c.as_slice.ensures.value ∙ c.chain_of-chain.ensures)) (is_started c.begin-reached.result (bits_left c.args.reader.now) c.begin-reached.ensures.fields c.begin-reached.ensures.octets c.begin-reached.ensures.start)
+    (progress_of c.read_chain.new.reached (bits_left c.read_chain.new.reader)) (bits_left c.read_chain.new.reader) (stop_at c.read_under.new.path c.in-Err-read_under.stop) c.in_default.ensures.gives c.in-Err-read_under.ensures.gives
+
+pub read_part-keep_told-requires-clause-number : goal.read_part-keep_told-requires-clause-number
+read_part-keep_told-requires-clause-number t c =
+    λ n e. length_number c.args.level.now.table.now c.args.level.now.depth c.in-Length.id.0 (bits_left c.args.reader.now) (plain c.in_ok-value-in-Length.value) (bits_left c.read_value-in-Length.new.reader) n
+    (c.requires.inner.inner c.in-Length.id.0 (ap (λ p. type_by (Some p)) c.in-Length.is)).low.rules (subst (LengthIsRead c.args.level.now.table.now) c.in-Length.is c.requires.inner.length).0 c.in_ok-value-in-Length.ensures.gives e
+
+pub read_part-returns-in_ok-expect_value-in-Fixed-clause-gives : goal.read_part-returns-in_ok-expect_value-in-Fixed-clause-gives
+read_part-returns-in_ok-expect_value-in-Fixed-clause-gives t c =
+    let on = value_moves c.args.level.now.depth c.args.level.now.table.now c.in-Fixed.id.0 (bits_left c.args.reader.now) (plain c.in_ok-value-in-Fixed.value) (bits_left c.read_value-in-Fixed.new.reader) c.in_ok-value-in-Fixed.ensures.gives in
+    fixed_part c.args.level.now.table.now (read_within c.args.level.now.depth c.args.level.now.table.now) c.args.reached.now c.args.container.0 c.args.place c.args.part.now (bits_left c.args.reader.now) (bits_left c.read_value-in-Fixed.new.reader) c.requires.begun.begun on c.in-Fixed.field-0 c.in-Fixed.id c.in-Fixed.fixed (plain c.in_ok-value-in-Fixed.value) c.in-Fixed.is c.in_ok-value-in-Fixed.ensures.gives c.in_ok-expect_value-in-Fixed.ensures.gives
+
+pub read_part-returns-in_ok-expect_value-in-Fixed-clause-begun : goal.read_part-returns-in_ok-expect_value-in-Fixed-clause-begun
+read_part-returns-in_ok-expect_value-in-Fixed-clause-begun t c =
+    let on = value_moves c.args.level.now.depth c.args.level.now.table.now c.in-Fixed.id.0 (bits_left c.args.reader.now) (plain c.in_ok-value-in-Fixed.value) (bits_left c.read_value-in-Fixed.new.reader) c.in_ok-value-in-Fixed.ensures.gives in
+    under_way c.args.reached.now c.args.reached.now (bits_left c.args.reader.now) (bits_left c.read_value-in-Fixed.new.reader) c.requires.begun on refl refl
+
+pub read_part-returns-in_ok-skip_padding-in-Pad-clause-gives : goal.read_part-returns-in_ok-skip_padding-in-Pad-clause-gives
+read_part-returns-in_ok-skip_padding-in-Pad-clause-gives t c =
+    let on = pad_moves c.in-Pad.bits (bits_left c.args.reader.now) (bits_left c.skip_padding.new.reader) c.in_ok-skip_padding-in-Pad.ensures.gives in
+    pad_part c.args.level.now.table.now (read_within c.args.level.now.depth c.args.level.now.table.now) c.args.reached.now c.args.container.0 c.args.place c.args.part.now (bits_left c.args.reader.now) (bits_left c.skip_padding.new.reader) c.requires.begun.begun on c.in-Pad.bits c.in-Pad.is c.in_ok-skip_padding-in-Pad.ensures.gives
+
+pub read_part-returns-in_ok-skip_padding-in-Pad-clause-begun : goal.read_part-returns-in_ok-skip_padding-in-Pad-clause-begun
+read_part-returns-in_ok-skip_padding-in-Pad-clause-begun t c =
+    let on = pad_moves c.in-Pad.bits (bits_left c.args.reader.now) (bits_left c.skip_padding.new.reader) c.in_ok-skip_padding-in-Pad.ensures.gives in
+    under_way c.args.reached.now c.args.reached.now (bits_left c.args.reader.now) (bits_left c.skip_padding.new.reader) c.requires.begun on refl refl
+
+pub read_part-returns-in_ok-keep_told-in-Length-clause-gives : goal.read_part-returns-in_ok-keep_told-in-Length-clause-gives
+read_part-returns-in_ok-keep_told-in-Length-clause-gives t c =
+    let on = value_moves c.args.level.now.depth c.args.level.now.table.now c.in-Length.id.0 (bits_left c.args.reader.now) (plain c.in_ok-value-in-Length.value) (bits_left c.read_value-in-Length.new.reader) c.in_ok-value-in-Length.ensures.gives in
+    length_part c.args.level.now.table.now (read_within c.args.level.now.depth c.args.level.now.table.now) c.args.reached.now c.args.container.0 c.args.place c.args.part.now (bits_left c.args.reader.now) (bits_left c.read_value-in-Length.new.reader) c.requires.begun.begun on c.keep_told.new.reached c.in-Length.field-0 c.in-Length.id c.in-Length.c0 c.in-Length.c1 (plain c.in_ok-value-in-Length.value) c.in-Length.is c.in_ok-value-in-Length.ensures.gives c.in_ok-keep_told-in-Length.ensures.gives c.keep_told.ensures.fields c.keep_told.ensures.start
+
+pub read_part-returns-in_ok-keep_told-in-Length-clause-begun : goal.read_part-returns-in_ok-keep_told-in-Length-clause-begun
+read_part-returns-in_ok-keep_told-in-Length-clause-begun t c =
+    let on = value_moves c.args.level.now.depth c.args.level.now.table.now c.in-Length.id.0 (bits_left c.args.reader.now) (plain c.in_ok-value-in-Length.value) (bits_left c.read_value-in-Length.new.reader) c.in_ok-value-in-Length.ensures.gives in
+    told_way c.args.reached.now c.keep_told.new.reached (bits_left c.args.reader.now) (bits_left c.read_value-in-Length.new.reader) c.requires.begun on c.keep_told.ensures.start c.in_ok-keep_told-in-Length.ensures.told
+
+pub read_part-returns-in_ok-expect_check-in-Check-clause-gives : goal.read_part-returns-in_ok-expect_check-in-Check-clause-gives
+read_part-returns-in_ok-expect_check-in-Check-clause-gives t c =
+    let on = value_moves c.args.level.now.depth c.args.level.now.table.now c.in-Check.id.0 (bits_left c.args.reader.now) (plain c.in_ok-value-in-Check.value) (bits_left c.read_value-in-Check.new.reader) c.in_ok-value-in-Check.ensures.gives in
+    check_part c.args.level.now.table.now (read_within c.args.level.now.depth c.args.level.now.table.now) c.args.reached.now c.args.container.0 c.args.place c.args.part.now (bits_left c.args.reader.now) (bits_left c.read_value-in-Check.new.reader) c.requires.begun.begun on c.in-Check.field-0 c.in-Check.id c.in-Check.check c.in_ok-sum-in-Check.sum (plain c.in_ok-value-in-Check.value) c.in-Check.is c.in_ok-value-in-Check.ensures.gives c.in_ok-sum-in-Check.ensures c.in_ok-expect_check-in-Check.ensures.gives
+
+pub read_part-returns-in_ok-expect_check-in-Check-clause-begun : goal.read_part-returns-in_ok-expect_check-in-Check-clause-begun
+read_part-returns-in_ok-expect_check-in-Check-clause-begun t c =
+    let on = value_moves c.args.level.now.depth c.args.level.now.table.now c.in-Check.id.0 (bits_left c.args.reader.now) (plain c.in_ok-value-in-Check.value) (bits_left c.read_value-in-Check.new.reader) c.in_ok-value-in-Check.ensures.gives in
+    under_way c.args.reached.now c.args.reached.now (bits_left c.args.reader.now) (bits_left c.read_value-in-Check.new.reader) c.requires.begun on refl refl
+
+pub read_trailers-returns-in-Err-clause-gives : goal.read_trailers-returns-in-Err-clause-gives
+read_trailers-returns-in-Err-clause-gives t c =
+    trailers_stop c.args.level.now.table.now (read_within c.args.level.now.depth c.args.level.now.table.now) c.loop-rest.rest.now (record { 0 = 0 }) (progress_of c.loop-rest.reached (bits_left c.loop-rest.reader)) (bits_left c.loop-rest.reader) _ c.entries_of.result.now c.trailers_of.result.now (omega arith) c.entries_of.ensures.value c.trailers_of.ensures.value c.loop-rest.invariant.read (stop_at c.read_parts.new.path c.in-Err.stop) c.in-Err.ensures.gives
+
+pub read_trailers-loop-rest-preserved : goal.read_trailers-loop-rest-preserved
+read_trailers-loop-rest-preserved t c =
+    record {
+      root = c.in_default-read_parts.ensures.calm;
+      begun = c.in_default-read_parts.ensures.begun;
+      inner = front_low c.args.level.now.table.now (c.args.level.now.depth + 1) (length c.loop-rest.rest.now - 1) c.loop-rest.rest.now c.loop-rest.invariant.inner;
+      less = omega (arith, length-take (length c.loop-rest.rest.now - 1) c.loop-rest.rest.now, c.loop-rest.invariant.less);
+      read = trailers_go c.args.level.now.table.now (read_within c.args.level.now.depth c.args.level.now.table.now) c.loop-rest.rest.now (record { 0 = 0 }) (progress_of c.loop-rest.reached (bits_left c.loop-rest.reader)) (bits_left c.loop-rest.reader) _ c.entries_of.result.now c.trailers_of.result.now (omega arith) c.entries_of.ensures.value c.trailers_of.ensures.value c.loop-rest.invariant.read (progress_of c.read_parts.new.reached (bits_left c.read_parts.new.reader)) (bits_left c.read_parts.new.reader) c.in_default-read_parts.ensures.gives;
+    }
+
+pub read_under-returns-in-Err-clause-gives : goal.read_under-returns-in-Err-clause-gives
+read_under-returns-in-Err-clause-gives t c =
+    stay_stops c.args.level.now.table.now (read_within c.args.level.now.depth c.args.level.now.table.now) c.loop.counter c.loop.at.0 (omega (arith, c.loop-test.true)) (progress_of c.loop.reached (bits_left c.loop.reader)) (bits_left c.loop.reader) c.as_slice-in-Stay.result.now (stop_at c.read_trailers.new.path c.in-Err.stop) _ (c.in-Stay.ensures ∙ ap (λ fs. next c.args.level.now.table.now c.loop.at.0 (fields_of fs)) c.as_slice.ensures.value) (c.as_slice-in-Stay.ensures.value ∙ c.chain_of-chain.ensures) c.loop.invariant.read c.in-Err.ensures.gives
+
+pub read_under-returns-then-has_told_size-clause-gives : goal.read_under-returns-then-has_told_size-clause-gives
+read_under-returns-then-has_told_size-clause-gives t c =
+    stay_ends c.args.level.now.table.now (read_within c.args.level.now.depth c.args.level.now.table.now) c.loop.counter c.loop.at.0 (omega (arith, c.loop-test.true)) (progress_of c.loop.reached (bits_left c.loop.reader)) (bits_left c.loop.reader) c.as_slice-in-Stay.result.now (progress_of c.read_trailers.new.reached (bits_left c.read_trailers.new.reader)) (bits_left c.read_trailers.new.reader) _ true (c.in-Stay.ensures ∙ ap (λ fs. next c.args.level.now.table.now c.loop.at.0 (fields_of fs)) c.as_slice.ensures.value) (c.as_slice-in-Stay.ensures.value ∙ c.chain_of-chain.ensures) c.loop.invariant.read c.in_default.ensures.gives c.if-has_told_size.ensures
+
+pub read_under-returns-in-Stay-clause-gives : goal.read_under-returns-in-Stay-clause-gives
+read_under-returns-in-Stay-clause-gives t c =
+    stay_ends c.args.level.now.table.now (read_within c.args.level.now.depth c.args.level.now.table.now) c.loop.counter c.loop.at.0 (omega (arith, c.loop-test.true)) (progress_of c.loop.reached (bits_left c.loop.reader)) (bits_left c.loop.reader) c.as_slice-in-Stay.result.now (progress_of c.read_trailers.new.reached (bits_left c.read_trailers.new.reader)) (bits_left c.read_trailers.new.reader) _ false (c.in-Stay.ensures ∙ ap (λ fs. next c.args.level.now.table.now c.loop.at.0 (fields_of fs)) c.as_slice.ensures.value) (c.as_slice-in-Stay.ensures.value ∙ c.chain_of-chain.ensures) c.loop.invariant.read c.in_default.ensures.gives c.if-has_told_size.ensures
+    ∙ ap (λ p. Err (fault_at LengthDiffers p)) (sym c.tell_length.ensures.value)
+
+pub read_under-read_parts-requires : goal.read_under-read_parts-requires
+read_under-read_parts-requires t c =
+    let low = child_is_low c.args.level.now.table.now c.loop.invariant.low.rules (c.args.level.now.depth + 1) c.loop.at.0 c.in-Under.child.0 (fields_of c.loop.reached.fields.items) c.loop.invariant.low.low (c.in-Under.ensures ∙ ap (λ fs. next c.args.level.now.table.now c.loop.at.0 (fields_of fs)) c.as_slice.ensures.value) in
+    (omega arith, (subst (AllByRecursion (PartIsRead c.args.level.now.table.now c.args.level.now.depth)) (sym c.entries_of-entries.ensures.value) (entries_low c.args.level.now.table.now c.args.level.now.depth c.in-Under.child.0 low), (omega (arith, c.entries_of-entries.ensures.few), (c.requires.few, (c.loop.invariant.begun, c.loop.invariant.root)))))
+
+pub read_under-returns-in-Err-read_parts-clause-gives : goal.read_under-returns-in-Err-read_parts-clause-gives
+read_under-returns-in-Err-read_parts-clause-gives t c =
+    under_stops c.args.level.now.table.now (read_within c.args.level.now.depth c.args.level.now.table.now) c.loop.counter c.loop.at.0 (omega (arith, c.loop-test.true)) (progress_of c.loop.reached (bits_left c.loop.reader)) (bits_left c.loop.reader) c.in-Under.child.0 (stop_at c.read_parts.new.path c.in-Err-read_parts.stop) _ (c.in-Under.ensures ∙ ap (λ fs. next c.args.level.now.table.now c.loop.at.0 (fields_of fs)) c.as_slice.ensures.value) c.loop.invariant.read (stops_as (stop_at c.read_parts.new.path c.in-Err-read_parts.stop) _ _ (ap (λ ps. read_parts c.args.level.now.table.now (read_within c.args.level.now.depth c.args.level.now.table.now) (placed_from c.in-Under.child.0 0 ps) (progress_of c.loop.reached (bits_left c.loop.reader)) (bits_left c.loop.reader)) c.entries_of-entries.ensures.value) c.in-Err-read_parts.ensures.gives)
+
+pub read_under-loop-preserved : goal.read_under-loop-preserved
+read_under-loop-preserved t c =
+    record {
+      root = c.in_default-read_parts.ensures.calm;
+      begun = c.in_default-read_parts.ensures.begun;
+      low = child_is_low c.args.level.now.table.now c.loop.invariant.low.rules (c.args.level.now.depth + 1) c.loop.at.0 c.in-Under.child.0 (fields_of c.loop.reached.fields.items) c.loop.invariant.low.low (c.in-Under.ensures ∙ ap (λ fs. next c.args.level.now.table.now c.loop.at.0 (fields_of fs)) c.as_slice.ensures.value);
+      read = under_goes c.args.level.now.table.now (read_within c.args.level.now.depth c.args.level.now.table.now) c.loop.counter c.loop.at.0 (omega (arith, c.loop-test.true)) (progress_of c.loop.reached (bits_left c.loop.reader)) (bits_left c.loop.reader) c.in-Under.child.0 (progress_of c.read_parts.new.reached (bits_left c.read_parts.new.reader)) (bits_left c.read_parts.new.reader) _ (c.in-Under.ensures ∙ ap (λ fs. next c.args.level.now.table.now c.loop.at.0 (fields_of fs)) c.as_slice.ensures.value) c.loop.invariant.read (sym (ap (λ ps. read_parts c.args.level.now.table.now (read_within c.args.level.now.depth c.args.level.now.table.now) (placed_from c.in-Under.child.0 0 ps) (progress_of c.loop.reached (bits_left c.loop.reader)) (bits_left c.loop.reader)) c.entries_of-entries.ensures.value) ∙ c.in_default-read_parts.ensures.gives);
+    }
+
+pub read_under-returns-clause-gives : goal.read_under-returns-clause-gives
+read_under-returns-clause-gives t c =
+    let path = ap (λ p. Err (fault_at NoDerived p)) (sym (c.put_first.ensures ∙ ap (λ old. step.Choice c.loop.at ∷ old) c.loop.invariant.root)) in
+    elim c.loop-test.branch [
+      | read_under-else-loop-test w ↦ under_ends c.args.level.now.table.now (read_within c.args.level.now.depth c.args.level.now.table.now) c.loop.counter c.loop.at.0 (progress_of c.loop.reached (bits_left c.loop.reader)) (bits_left c.loop.reader) _ (omega (arith, w.loop-test.false)) c.loop.invariant.read ∙ path
+      | read_under-then-loop-test+in-Nowhere w ↦ nowhere_is c.args.level.now.table.now (read_within c.args.level.now.depth c.args.level.now.table.now) c.loop.counter c.loop.at.0 (omega (arith, w.loop-test.true)) (progress_of c.loop.reached (bits_left c.loop.reader)) (bits_left c.loop.reader) _ (w.in-Nowhere.ensures ∙ ap (λ fs. next c.args.level.now.table.now c.loop.at.0 (fields_of fs)) w.as_slice.ensures.value) c.loop.invariant.read ∙ path
+    ]

@@ -1,34 +1,94 @@
-use Rattle.std.proofs.Common.{◌≡◌, ◌+◌, ◌*◌, ◌≤◌, [], length, map}
+use Rattle.std.proofs.Common.{◌≡◌, ◌+◌, ◌-◌, ◌*◌, ◌≤◌, [], length, map, reverse}
 use Rattle.std.specs.List.{AllByRecursion}
+use Rattle.eds_base.specs.declared.ids.TypeId.{TypeId}
 use Rattle.eds_bits.specs.Reader.{bits_left}
-use Rattle.eds_types.specs.FlatTables.{IsScalarEntry}
 use Rattle.eds_types.specs.Plain.{plain}
-use Rattle.eds_types.specs.Reading.{read_within}
-use Rattle.eds_unpack.specs.Entries.{read_entries}
+use Rattle.eds_types.specs.Reading.{read_within, read_items, read_parts, read_chain, read_under}
+use Rattle.eds_types.specs.Rows.{placed_from}
+use Rattle.eds_unpack.specs.Choices.{numbers_of}
+use Rattle.eds_unpack.specs.Courses.{IsUnderWay, progress_of, behind_items}
+use Rattle.eds_unpack.specs.Entries.{IsLow, PartIsRead}
+use Rattle.eds_unpack.specs.Seeking.{trailers_along}
 use Rattle.eds_unpack.proofs.read.+read.Given as goal
 
 abbrev pub decreases-read_value : goal.decreases-read_value
-decreases-read_value l = 8 * l.depth
+decreases-read_value l = 16 * l.level.now.depth
+
+abbrev pub decreases-read_items : goal.decreases-read_items
+decreases-read_items l = 16 * l.level.now.depth + 1
+
+abbrev pub decreases-read_part : goal.decreases-read_part
+decreases-read_part l = 16 * l.level.now.depth + 2
 
 abbrev pub decreases-read_entry : goal.decreases-read_entry
-decreases-read_entry l = 8 * l.depth + 1
+decreases-read_entry l = 16 * l.level.now.depth + 3
 
-abbrev pub decreases-read_entries : goal.decreases-read_entries
-decreases-read_entries l = 8 * l.depth + 2
+abbrev pub decreases-read_parts : goal.decreases-read_parts
+decreases-read_parts l = 16 * l.level.now.depth + 4
+
+abbrev pub decreases-read_chain : goal.decreases-read_chain
+decreases-read_chain l = 16 * l.level.now.depth + 5
+
+abbrev pub decreases-read_trailers : goal.decreases-read_trailers
+decreases-read_trailers l = 16 * l.level.now.depth + 5
+
+abbrev pub decreases-read_under : goal.decreases-read_under
+decreases-read_under l = 16 * l.level.now.depth + 6
 
 abbrev pub decreases-read_container : goal.decreases-read_container
-decreases-read_container l = 8 * l.depth + 3
+decreases-read_container l = 16 * l.level.now.depth + 7
 
 abbrev pub decreases-read_row : goal.decreases-read_row
-decreases-read_row l = 8 * l.depth + 4
+decreases-read_row l = 16 * l.level.now.depth + 8
 
-abbrev pub invariant-read_entries-loop-rest : goal.invariant-read_entries-loop-rest
-invariant-read_entries-loop-rest l = record {
-  read : read_entries (read_within l.depth l.table) l.id.0 l.place l.rest (map plain l.values.items, bits_left l.reader) ≡ read_entries (read_within l.depth l.table) l.id.0 0 l.entries (map plain l.fn.values.items, bits_left l.fn.reader);
-  entries : AllByRecursion (IsScalarEntry l.table) l.rest;
+abbrev pub invariant-read_items-loop-id : goal.invariant-read_items-loop-id
+invariant-read_items-loop-id l = record {
   root : l.path ≡ [];
-  many : l.place + length l.rest ≤ 32767;
+  read : behind_items (map plain l.values.items) (read_items (read_within l.level.depth l.level.table.now l.id.0) (l.count - l.place) l.place (bits_left l.reader)) ≡ read_items (read_within l.level.depth l.level.table.now l.id.0) l.count 0 (bits_left l.fn.reader);
 }
 
-abbrev pub decreases-read_entries-loop-rest : goal.decreases-read_entries-loop-rest
-decreases-read_entries-loop-rest l = length l.rest
+abbrev pub decreases-read_items-loop-id : goal.decreases-read_items-loop-id
+decreases-read_items-loop-id l = l.count - l.place
+
+abbrev pub invariant-read_parts-loop-rest : goal.invariant-read_parts-loop-rest
+invariant-read_parts-loop-rest l = record {
+  root : l.path ≡ [];
+  begun : IsUnderWay l.reached (bits_left l.reader);
+  many : l.place + length l.rest ≤ 65534;
+  inner : AllByRecursion (PartIsRead l.level.table.now l.level.depth) l.rest;
+  read : read_parts l.level.table.now (read_within l.level.depth l.level.table.now) (placed_from l.container.0 l.place l.rest) (progress_of l.reached (bits_left l.reader)) (bits_left l.reader) ≡ read_parts l.level.table.now (read_within l.level.depth l.level.table.now) (placed_from l.container.0 l.first l.parts) (progress_of l.fn.reached (bits_left l.fn.reader)) (bits_left l.fn.reader);
+}
+
+abbrev pub decreases-read_parts-loop-rest : goal.decreases-read_parts-loop-rest
+decreases-read_parts-loop-rest l = length l.rest
+
+abbrev pub invariant-read_chain-loop-rest : goal.invariant-read_chain-loop-rest
+invariant-read_chain-loop-rest l = record {
+  root : l.path ≡ [];
+  begun : IsUnderWay l.reached (bits_left l.reader);
+  inner : AllByRecursion (λ (id : TypeId). IsLow l.level.table.now (l.level.depth + 1) id.0) l.rest;
+  read : read_chain l.level.table.now (read_within l.level.depth l.level.table.now) (numbers_of l.rest) (progress_of l.reached (bits_left l.reader)) (bits_left l.reader) ≡ read_chain l.level.table.now (read_within l.level.depth l.level.table.now) (numbers_of l.chain) (progress_of l.fn.reached (bits_left l.fn.reader)) (bits_left l.fn.reader);
+}
+
+abbrev pub decreases-read_chain-loop-rest : goal.decreases-read_chain-loop-rest
+decreases-read_chain-loop-rest l = length l.rest
+
+abbrev pub invariant-read_trailers-loop-rest : goal.invariant-read_trailers-loop-rest
+invariant-read_trailers-loop-rest l = record {
+  root : l.path ≡ [];
+  begun : IsUnderWay l.reached (bits_left l.reader);
+  inner : AllByRecursion (λ (id : TypeId). IsLow l.level.table.now (l.level.depth + 1) id.0) l.rest;
+  less : length l.rest ≤ length l.chain;
+  read : read_parts l.level.table.now (read_within l.level.depth l.level.table.now) (trailers_along l.level.table.now (reverse l.rest)) (progress_of l.reached (bits_left l.reader)) (bits_left l.reader) ≡ read_parts l.level.table.now (read_within l.level.depth l.level.table.now) (trailers_along l.level.table.now (reverse l.chain)) (progress_of l.fn.reached (bits_left l.fn.reader)) (bits_left l.fn.reader);
+}
+
+abbrev pub decreases-read_trailers-loop-rest : goal.decreases-read_trailers-loop-rest
+decreases-read_trailers-loop-rest l = length l.rest
+
+abbrev pub invariant-read_under-loop : goal.invariant-read_under-loop
+invariant-read_under-loop l = record {
+  root : l.path ≡ [];
+  begun : IsUnderWay l.reached (bits_left l.reader);
+  low : IsLow l.level.table.now (l.level.depth + 1) l.at.0;
+  read : read_under l.level.table.now (read_within l.level.depth l.level.table.now) (16 - l.counter) l.at.0 (progress_of l.reached (bits_left l.reader)) (bits_left l.reader) ≡ read_under l.level.table.now (read_within l.level.depth l.level.table.now) 16 l.fn.id.0 (progress_of l.fn.reached (bits_left l.fn.reader)) (bits_left l.fn.reader);
+}

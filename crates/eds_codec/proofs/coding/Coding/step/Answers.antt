@@ -1,4 +1,3 @@
-use Rattle.std.proofs.Common.{refl}
 use Rattle.eds_codec.proofs.Blocks.{plain_seen, ascii_told}
 use Rattle.eds_codec.proofs.coding.Coding.step.Goals as goal
 

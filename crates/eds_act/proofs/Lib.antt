@@ -1,0 +1,13 @@
+pub mod ArgumentLists
+pub mod Calculating
+pub mod Conforming
+pub mod Examples
+pub mod Fields
+pub mod Fitted
+pub mod Leading
+pub mod Sameness
+pub mod OneOutcome
+pub mod Seeking
+pub mod Starting
+pub mod Whole
+pub mod Working

@@ -1,0 +1,4 @@
+pub mod Does
+pub mod Running
+pub mod Laws
+pub mod Work

@@ -1,0 +1,24 @@
+//! Activities of components, run over a plan.
+#![tactic(auto)]
+
+mod activity;
+mod arguments;
+mod check;
+mod copy;
+mod ending;
+mod entry;
+mod event;
+mod guard;
+pub mod law;
+mod math;
+mod operand;
+mod run;
+mod same;
+mod send;
+mod store;
+mod target;
+mod turn;
+mod work;
+
+pub use activity::run_activity;
+pub use ending::ActEnd;

@@ -1,0 +1,9 @@
+pub mod Tests
+pub mod Leading
+pub mod Circles
+pub mod Heights
+pub mod Parts
+pub mod Searching
+pub mod Stacking
+pub mod Marking
+pub mod Depth

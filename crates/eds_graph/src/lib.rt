@@ -1,0 +1,15 @@
+//! Numbers that lead to numbers: which of them lie on a circle, which lead to one, how long the longest way from the others is,
+//! and what is reached.
+#![tactic(auto)]
+
+mod course;
+mod graph;
+pub mod law;
+mod marks;
+mod search;
+mod stack;
+
+pub use course::Course;
+pub use graph::Graph;
+pub use marks::reached;
+pub use search::courses;

@@ -1,0 +1,258 @@
+//! The first two containers whose values can't be told apart.
+
+ghost use Rattle.std.specs.Prelude.{◌≡◌, ℕ, ℤ, ◌≤ℤ◌, ◌<◌, ◌↔◌, length, map, slice_get, Some, IsTrue, IfOk, IfSome, IfNone};
+ghost use Rattle.std.specs.List.{AllByRecursion};
+ghost use Rattle.eds_base.specs.Spans.{IsWithin};
+ghost use Rattle.eds_types.specs.Rows.{list_has};
+ghost use Rattle.eds_types.specs.Reading.{starts_above};
+ghost use Rattle.eds_types.specs.Overlap.{Overlapping};
+ghost use Rattle.eds_overlap.specs.Pairs.{AllSets, Meets, Agrees, ArePartedAt, IsReadThrough, Named, IsWithinOn, IsFirstPair, IsFirstWith, set_on, shared, numbers_of, has_used};
+
+use crate::paths::find_set;
+use crate::sets::solution_sets;
+use eds_base::{Items, Memory, TypeId};
+use eds_types::{PathSet, Sets, TypeTable, Used};
+use std::alloc::Global;
+
+/// Two concrete containers that overlap, and the nearest base that both have.
+#[derive(Clone, Copy, Debug, PartialEq, Eq)]
+pub struct Overlap {
+    pub first: TypeId,
+    pub second: TypeId,
+    pub ancestor: TypeId,
+}
+
+/// The first two containers that overlap where these types are used: of all such pairs the one with the least second, and
+/// then the least first, which is declared before the second. None exactly where no two containers overlap.
+pub fn find_overlap(
+    alloc: Global,
+    table: &TypeTable,
+    used: &Used,
+) -> Result<Option<Overlap>, Memory>
+    ensures found { IfOk result (λ found. IfSome found (λ o. IsFirstPair table.now (Named used.now) o.ancestor.0 o.first.0 o.second.0)) }
+    ensures none { IfOk result (λ found. IfNone found ((x k l : ℕ) → Overlapping table.now (Named used.now) x k l → ⊥)) }
+{
+    let sets = all_sets(alloc, table)?;
+    Ok(first_pair(table, used.as_slice(), sets.as_slice()))
+}
+
+// How many types two chains have in common at their front.
+fn shared_front(one: &[TypeId], other: &[TypeId]) -> usize
+    ensures { result ≡ shared one.now other.now }
+{
+    let mut count = 0;
+    let mut ours = one;
+    let mut theirs = other;
+    while let [id, ours_after @ ..] = ours {
+        let [with, theirs_after @ ..] = theirs else {
+            return count;
+        };
+        if id.0 != with.0 {
+            return count;
+        }
+        count += 1;
+        ours = ours_after;
+        theirs = theirs_after;
+    }
+    count
+}
+
+// The nearest common base of two types, neither of which derives from the other.
+fn parting(table: &TypeTable, first: TypeId, second: TypeId) -> Option<TypeId>
+    ensures some { IfSome result (λ x. ArePartedAt table.now x.0 first.0 second.0) }
+    ensures none { IfNone result ((x : ℕ) → ArePartedAt table.now x first.0 second.0 → ⊥) }
+{
+    table.keeps_rules();
+    let one = table.chain_of(first);
+    let other = table.chain_of(second);
+    let ours = one.as_slice();
+    let theirs = other.as_slice();
+    let count = shared_front(ours, theirs);
+    if 0 < count && count < ours.len() && count < theirs.len() {
+        Some(ours[count - 1])
+    } else {
+        None
+    }
+}
+
+// Whether a type is among some.
+fn has_id(ids: &[TypeId], id: TypeId) -> bool
+    ensures { result ≡ list_has (numbers_of ids.now) id.0 }
+{
+    let mut rest = ids;
+    while let [one, after @ ..] = rest {
+        if one.0 == id.0 {
+            return true;
+        }
+        rest = after;
+    }
+    false
+}
+
+// Whether a type is used or derives from a used one.
+fn is_read_through(table: &TypeTable, used: &[TypeId], id: TypeId) -> bool
+    ensures { IsTrue result ↔ IsReadThrough table.now (Named used.now) id.0 }
+{
+    let chain = table.chain_of(id);
+    has_used_one(used, chain.as_slice())
+}
+
+// Whether some of the types are used.
+fn has_used_one(used: &[TypeId], ids: &[TypeId]) -> bool
+    ensures { result ≡ has_used used.now ids.now }
+{
+    let mut rest = ids;
+    while let [one, after @ ..] = rest {
+        if has_id(used, *one) {
+            return true;
+        }
+        rest = after;
+    }
+    false
+}
+
+// Whether a path starts in an entry of a container or of one of its bases.
+fn starts_in(table: &TypeTable, id: TypeId, path: &[(TypeId, u16)]) -> bool
+    ensures { result ≡ starts_above table.now id.0 path.now }
+{
+    let [step, ..] = path else {
+        return false;
+    };
+    let chain = table.chain_of(id);
+    has_id(chain.as_slice(), step.0) && (step.1 as usize) < table.entries_of(step.0).len()
+}
+
+// The least number of a path's set that the set on that path among others has too, if there is one.
+fn least_common(ours: &PathSet, theirs: &[PathSet]) -> Option<i128>
+    ensures some { IfSome result (λ n. IsWithin ours.now.set n × IsWithinOn (set_on theirs.now ours.now.path) n) }
+    ensures least { IfSome result (λ n. (m : ℤ) → IsWithin ours.now.set m → IsWithinOn (set_on theirs.now ours.now.path) m → n ≤ℤ m) }
+    ensures none { IfNone result ((m : ℤ) → IsWithin ours.now.set m → IsWithinOn (set_on theirs.now ours.now.path) m → ⊥) }
+{
+    match find_set(theirs, ours.path.as_slice()) {
+        Some(set) => ours.set.first_common(set),
+        None => ours.set.first_common(&ours.set),
+    }
+}
+
+// Whether a path starts below a choice, or its set has a number that the set on that path among others has too.
+fn agrees(table: &TypeTable, id: TypeId, one: &PathSet, theirs: &[PathSet]) -> bool
+    ensures { IsTrue result ↔ Agrees table.now id.0 theirs.now one.now }
+{
+    if !starts_in(table, id, one.path.as_slice()) {
+        return true;
+    }
+    match least_common(one, theirs) {
+        Some(_) => true,
+        None => false,
+    }
+}
+
+// Whether on each path that starts above a choice the sets have a common number.
+fn agree(table: &TypeTable, id: TypeId, ours: &[PathSet], theirs: &[PathSet]) -> bool
+    ensures { IsTrue result ↔ AllByRecursion (Agrees table.now id.0 theirs.now) ours.now }
+{
+    let mut rest = ours;
+    while let [one, after @ ..] = rest {
+        if !agrees(table, id, one, theirs) {
+            return false;
+        }
+        rest = after;
+    }
+    true
+}
+
+// The container at which two types overlap. Where they don't there is none.
+fn overlap_of(
+    table: &TypeTable,
+    used: &[TypeId],
+    sets: &[Sets],
+    first: TypeId,
+    second: TypeId,
+) -> Option<TypeId>
+    requires sets { AllSets table.now sets.now }
+    requires first { first.0 < length table.now }
+    requires second { second.0 < length table.now }
+    ensures some { IfSome result (λ x. Overlapping table.now (Named used.now) x.0 first.0 second.0) }
+    ensures none { IfNone result ((x : ℕ) → Overlapping table.now (Named used.now) x first.0 second.0 → ⊥) }
+{
+    if !table.is_concrete(first) || !table.is_concrete(second) {
+        return None;
+    }
+    table.keeps_rules();
+    let ours = sets[first.0 as usize].as_slice();
+    let theirs = sets[second.0 as usize].as_slice();
+    match parting(table, first, second) {
+        Some(id) => met_at(table, used, id, ours, theirs),
+        None => None,
+    }
+}
+
+// The container at which two types part, where their sets agree and it is read.
+fn met_at(
+    table: &TypeTable,
+    used: &[TypeId],
+    id: TypeId,
+    ours: &[PathSet],
+    theirs: &[PathSet],
+) -> Option<TypeId>
+    ensures some { IfSome result (λ x. (x ≡ id) × Meets table.now (Named used.now) id.0 ours.now theirs.now) }
+    ensures none { IfNone result (Meets table.now (Named used.now) id.0 ours.now theirs.now → ⊥) }
+{
+    if agree(table, id, ours, theirs)
+        && agree(table, id, theirs, ours)
+        && is_read_through(table, used, id)
+    {
+        Some(id)
+    } else {
+        None
+    }
+}
+
+// The first of the types before another one with which it overlaps.
+fn first_with(table: &TypeTable, used: &[TypeId], sets: &[Sets], second: TypeId) -> Option<Overlap>
+    requires sets { AllSets table.now sets.now }
+    requires second { second.0 < length table.now }
+    ensures some { IfSome result (λ p. (p.second ≡ second) × IsFirstWith table.now (Named used.now) p.ancestor.0 p.first.0 second.0) }
+    ensures none { IfNone result ((x k : ℕ) → k < second.0 → Overlapping table.now (Named used.now) x k second.0 → ⊥) }
+{
+    for first in 0..second.0 {
+        let first = TypeId(first);
+        match overlap_of(table, used, sets, first, second) {
+            Some(ancestor) => {
+                return Some(Overlap {
+                    first,
+                    second,
+                    ancestor,
+                });
+            }
+            None => {}
+        }
+    }
+    None
+}
+
+// The first pair of types that overlap.
+fn first_pair(table: &TypeTable, used: &[TypeId], sets: &[Sets]) -> Option<Overlap>
+    requires { AllSets table.now sets.now }
+    ensures some { IfSome result (λ p. IsFirstPair table.now (Named used.now) p.ancestor.0 p.first.0 p.second.0) }
+    ensures none { IfNone result ((x k l : ℕ) → Overlapping table.now (Named used.now) x k l → ⊥) }
+{
+    for second in 0..table.len() {
+        match first_with(table, used, sets, TypeId(second)) {
+            Some(pair) => return Some(pair),
+            None => {}
+        }
+    }
+    None
+}
+
+// The solution sets of all types.
+fn all_sets(alloc: Global, table: &TypeTable) -> Result<Items<Sets>, Memory>
+    ensures { IfOk result (λ sets. AllSets table.now sets) }
+{
+    let mut all = Items::new(alloc);
+    for id in 0..table.len() {
+        all.push(solution_sets(alloc, table, TypeId(id))?)?;
+    }
+    Ok(all)
+}

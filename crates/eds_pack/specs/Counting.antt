@@ -1,0 +1,37 @@
+-- Bits as the first pass counts them: up to a bound beyond the octets that any length entry tells.
+use Rattle.std.specs.Prelude.{ℕ, ◌+◌, ◌^◌, min, List, Result, Ok, Err}
+use Rattle.eds_base.specs.declared.fault.Step.{Step}
+use Rattle.eds_pack.specs.declared.fail.PackFail.{PackFail}
+use Rattle.eds_pack.specs.Packs.{fail_at}
+use Rattle.eds_types.specs.declared.reason.PackReason.{PackReason}
+use Rattle.eds_types.specs.Packing.{pack_fault_at, pack_fault_here}
+use Rattle.eds_types.specs.PackedSizes.{Size}
+
+-- a number of bits, or the bound where it is larger
+abbrev pub capped : ℕ → ℕ
+capped n = min n (2 ^ 100)
+
+-- a size that is added to so many bits before it
+abbrev pub added : ℕ → Size → Size
+added before (Ok n) = Ok (capped (before + n))
+added before (Err g) = Err g
+
+-- the same size, counted
+abbrev pub counted : Size → Size
+counted (Ok n) = Ok (capped n)
+counted (Err g) = Err g
+
+-- the size of a value in which nothing is nested, or why it has none
+abbrev pub at_once : Result ℕ PackReason → Size
+at_once (Ok n) = Ok n
+at_once (Err r) = Err (pack_fault_here r)
+
+-- what a function found that leaves so many bits, or this path to a fault
+abbrev pub found : {A : Type 0} → Result A PackReason → ℕ → List Step → Size
+found (Ok u) bits path = Ok bits
+found (Err r) bits path = Err (pack_fault_at r path)
+
+-- what packing fails with
+abbrev pub given : Size → Result ℕ PackFail
+given (Ok n) = Ok n
+given (Err g) = Err (fail_at g)

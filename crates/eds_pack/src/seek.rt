@@ -1,0 +1,183 @@
+//! PackFault the values of a container stand.
+
+ghost use Rattle.std.specs.Prelude.{◌≡◌, [], ◌∷◌, ◌&&◌, ◌==◌, is_some, ◌≤◌, ◌<◌, ◌+◌, ◌^◌, ◌*◌, length, map, reverse, IfErr, option_map, slice_get};
+ghost use Rattle.std.specs.Option.{option_copied};
+ghost use Rattle.eds_base.specs.declared.ids.TypeId.{TypeId as Id};
+ghost use Rattle.eds_types.specs.Fields.{paired, value_at};
+ghost use Rattle.eds_pack.specs.BuiltTables.{IsBuiltTable};
+ghost use Rattle.eds_types.specs.Packing.{valued as valued_of};
+ghost use Rattle.eds_types.specs.Plain.{plain};
+ghost use Rattle.eds_types.specs.Rows.{chain, container_of, list_has, placed_from, sequence};
+ghost use Rattle.eds_pack.specs.Seeking.{seek, nth, entries_along, trailers_along, values_in};
+
+use eds_base::TypeId;
+use eds_types::{Part, TypeTable, Value};
+
+/// Looks for an entry among parts of the container `id`, the first of which has a given place, after so many values.
+fn seek_part(
+    parts: &[Part],
+    id: TypeId,
+    first: usize,
+    wanted: (TypeId, u16),
+    before: usize,
+) -> Result<usize, usize>
+    requires few { first + length parts.now < 2 ^ 32 }
+    requires before { before < 2 ^ 32 }
+    ensures place { result ≡ seek (placed_from id.0 first parts.now) before wanted.0.0 wanted.1 }
+    ensures few { IfErr result (λ n. n ≤ before + length parts.now) }
+{
+    let mut n = before;
+    for (i, part) in parts.iter().enumerate() {
+        if part.has_value() {
+            if id.0 == wanted.0.0 && first + i == wanted.1 as usize {
+                return Ok(n);
+            }
+            n += 1;
+        }
+    }
+    Err(n)
+}
+
+/// Looks for an entry among the entries of containers.
+fn seek_entries(
+    table: &TypeTable,
+    chain: &[TypeId],
+    wanted: (TypeId, u16),
+    before: usize,
+) -> Result<usize, usize>
+    requires few { length chain.now ≤ 16 }
+    requires before { before < 2 ^ 31 }
+    ensures place { result ≡ seek (entries_along table.now chain.now) before wanted.0.0 wanted.1 }
+    ensures few { IfErr result (λ n. n ≤ before + 32767 * length chain.now) }
+{
+    let mut n = before;
+    for id in chain {
+        match seek_part(table.entries_of(*id), *id, 0, wanted, n) {
+            Ok(place) => return Ok(place),
+            Err(more) => n = more,
+        }
+    }
+    Err(n)
+}
+
+/// Looks for an entry among the trailers of containers, those of the last container first.
+fn seek_trailers(
+    table: &TypeTable,
+    chain: &[TypeId],
+    wanted: (TypeId, u16),
+    before: usize,
+) -> Result<usize, usize>
+    requires few { length chain.now ≤ 16 }
+    requires before { before < 2 ^ 31 }
+    ensures { result ≡ seek (trailers_along table.now (reverse chain.now)) before wanted.0.0 wanted.1 }
+{
+    let mut n = before;
+    let mut rest = chain;
+    while let [front @ .., id] = rest {
+        let first = table.entries_of(*id).len();
+        match seek_part(table.trailers_of(*id), *id, first, wanted, n) {
+            Ok(place) => return Ok(place),
+            Err(more) => n = more,
+        }
+        rest = front;
+    }
+    Err(n)
+}
+
+/// How many values stand before that of a part in the sequence of a container, or how many there are where the part is
+/// none of them.
+fn place_of(table: &TypeTable, own: TypeId, wanted: (TypeId, u16)) -> Result<usize, usize>
+    ensures { result ≡ seek (sequence table.now own.0) 0 wanted.0.0 wanted.1 }
+{
+    let chain = table.chain_of(own);
+    match seek_entries(table, chain.as_slice(), wanted, 0) {
+        Ok(place) => Ok(place),
+        Err(n) => seek_trailers(table, chain.as_slice(), wanted, n),
+    }
+}
+
+/// The value at a place.
+pub(crate) fn value_in(values: &[Value], place: usize) -> Option<&Value>
+    ensures { option_map plain (option_copied result) ≡ slice_get (map plain values.now) place }
+{
+    values.get(place)
+}
+
+fn nth(values: &[Value], place: Result<usize, usize>) -> Option<&Value>
+    ensures { option_map plain (option_copied result) ≡ nth (map plain values.now) place }
+{
+    match place {
+        Ok(place) => value_in(values, place),
+        Err(_) => None,
+    }
+}
+
+/// The value of a part among the values of the container `own`.
+pub(crate) fn value_of<'a>(
+    table: &TypeTable,
+    own: TypeId,
+    values: &'a [Value],
+    wanted: (TypeId, u16),
+) -> Option<&'a Value>
+    ensures { option_map plain (option_copied result) ≡ value_at (paired (sequence table.now own.0) (map plain values.now)) wanted.0.0 wanted.1 }
+{
+    nth(values, place_of(table, own, wanted))
+}
+
+/// How many of the parts have a value.
+fn valued(parts: &[Part]) -> usize
+    requires { length parts.now ≤ 32767 }
+    ensures value { result ≡ values_in parts.now }
+    ensures few { result ≤ length parts.now }
+{
+    let mut count = 0;
+    let mut rest = parts;
+    while let [part, after @ ..] = rest {
+        if part.has_value() {
+            count += 1;
+        }
+        rest = after;
+    }
+    count
+}
+
+/// How many values stand before the next part.
+pub(crate) fn behind(used: usize, part: &Part) -> usize
+    requires { used < 2 ^ 32 }
+    ensures { result ≡ used + values_in (part.now ∷ []) }
+{
+    if part.has_value() { used + 1 } else { used }
+}
+
+/// Whether a type is a container with so many values.
+pub(crate) fn has_fields(table: &TypeTable, own: TypeId, count: usize) -> bool
+    requires { IsBuiltTable table.now }
+    ensures { result ≡ (is_some (container_of table.now own.0) && count == valued_of (sequence table.now own.0)) }
+{
+    table.keeps_rules();
+    match table.container_of(own) {
+        Some(_) => count == valued(table.entries_of(own)),
+        None => false,
+    }
+}
+
+fn has(ids: &[TypeId], id: TypeId) -> bool
+    ensures { result ≡ list_has (map (λ (x : Id). x.0) ids.now) id.0 }
+{
+    let mut rest = ids;
+    while let [first, after @ ..] = rest {
+        if first.0 == id.0 {
+            return true;
+        }
+        rest = after;
+    }
+    false
+}
+
+/// Whether a type is another one, or derives from it.
+pub(crate) fn is_under(table: &TypeTable, id: TypeId, base: TypeId) -> bool
+    ensures { result ≡ list_has (chain table.now id.0) base.0 }
+{
+    let chain = table.chain_of(id);
+    has(chain.as_slice(), base)
+}

@@ -1,0 +1,168 @@
+-- Plans that fit their table: what is named is there, and operands fit what takes them.
+use Rattle.std.specs.Prelude.{◌≡◌, ◌≢◌, ℕ, suc, ◌+◌, ◌<◌, ℤ, pos, List, [], ◌∷◌, length, map, Bool, true, false, if◌then◌else◌, Option, Some, None, slice_get, ◌⊎◌}
+use Rattle.std.specs.List.{AllByRecursion}
+use Rattle.eds_base.specs.declared.ids.TypeId.{TypeId}
+use Rattle.eds_bits.specs.Lists.{Has}
+use Rattle.eds_types.specs.declared.row.TypeRow.{TypeRow}
+use Rattle.eds_types.specs.declared.row.Kind.{Kind}
+use Rattle.eds_types.specs.declared.row.Kind.TheVariants as kind
+use Rattle.eds_types.specs.declared.row.Part.TheVariants as part
+use Rattle.eds_types.specs.Fields.{part_at, IsAtOrUnder}
+use Rattle.eds_types.specs.Plain.{Plain, plain, num}
+use Rattle.eds_types.specs.Rows.{Table, chain}
+use Rattle.eds_plan.specs.declared.activity.Action.{Action}
+use Rattle.eds_plan.specs.declared.activity.Activity.{Activity}
+use Rattle.eds_plan.specs.declared.activity.MathItem.{MathItem}
+use Rattle.eds_plan.specs.declared.activity.MathItem.TheVariants as math
+use Rattle.eds_plan.specs.declared.activity.Op.{Op}
+use Rattle.eds_plan.specs.declared.activity.Op.TheVariants as op
+use Rattle.eds_plan.specs.declared.activity.Operand.{Operand}
+use Rattle.eds_plan.specs.declared.activity.Operand.TheVariants as source
+use Rattle.eds_plan.specs.declared.activity.Relation.{Relation}
+use Rattle.eds_plan.specs.declared.activity.Relation.TheVariants.{Equal, NotEqual, Less, LessOrEqual, Greater, GreaterOrEqual}
+use Rattle.eds_plan.specs.declared.activity.Target.{Target}
+use Rattle.eds_plan.specs.declared.component.ComponentPlan.{ComponentPlan}
+use Rattle.eds_plan.specs.declared.component.EndPlan.{EndPlan}
+use Rattle.eds_plan.specs.declared.instance.Argument.{Argument}
+use Rattle.eds_plan.specs.declared.instance.Member.{Member}
+use Rattle.eds_plan.specs.declared.instance.Member.TheVariants as member
+use Rattle.eds_plan.specs.declared.component.VarPlan.{VarPlan}
+use Rattle.eds_plan.specs.Statements.{Condition, Conditions, compare, every, some, none, more, Stmt, Stmts, assign, calculate, choose, iterate, call, send_command, send_parameter, done, next, stmts, stmts_of}
+
+-- ---- types
+
+-- from a container type the path goes over entries to a type; an empty path stays
+abbrev pub LeadsFrom : Table → ℕ → List (TypeId × ℕ) → ℕ → Type 0
+LeadsFrom t id [] to = id ≡ to
+LeadsFrom t id (p ∷ path) to = Has (chain t id) (p.0).0 × (name : List ℕ) × (inner : TypeId) × (part_at t p ≡ Some (part.Plain name inner)) × LeadsFrom t inner.0 path to
+
+-- what values of a type are: two types fit each other by this
+abbrev pub AreAlike : Table → ℕ → Kind → ℕ → Kind → Type 0
+AreAlike t a (kind.Int f s) b (kind.Int g u) = Unit {0}
+AreAlike t a (kind.Bool f) b (kind.Bool g) = Unit {0}
+AreAlike t a (kind.Str f) b (kind.Str g) = Unit {0}
+AreAlike t a (kind.Bin m tail) b (kind.Bin n free) = Unit {0}
+AreAlike t a (kind.Enum f l) b (kind.Enum g m) = a ≡ b
+AreAlike t a (kind.Arr i m) b (kind.Arr j n) = a ≡ b
+AreAlike t a (kind.Con c) b (kind.Con d) = IsAtOrUnder t a b ⊎ IsAtOrUnder t b a
+AreAlike t a k b l = ⊥
+
+pub record FitTogether (t : Table) (a b : ℕ) : Type 0 where
+  pub one : TypeRow
+  pub other : TypeRow
+  pub one_is : slice_get t a ≡ Some one
+  pub other_is : slice_get t b ≡ Some other
+  pub alike : AreAlike t a one.kind b other.kind
+
+abbrev pub IsNumeric : Kind → Type 0
+IsNumeric (kind.Int f s) = Unit {0}
+IsNumeric k = ⊥
+
+abbrev pub IsNumberType : Table → ℕ → Type 0
+IsNumberType t id = (row : TypeRow) × (slice_get t id ≡ Some row) × IsNumeric row.kind
+
+-- ---- operands; Conforms says which values pack as a type
+
+module _ (t : Table) (Conforms : ℕ → Plain → Type 0) (vars args : List ℕ) where
+  -- a variable or argument, or an entry of it, is of the type
+  abbrev pub HasType : List ℕ → ℕ → List (TypeId × ℕ) → ℕ → Type 0
+  HasType ids i path id = (whole : ℕ) × (slice_get ids i ≡ Some whole) × LeadsFrom t whole path id
+
+  -- the operand fits a target of the type
+  abbrev pub OperandFits : ℕ → Operand → Type 0
+  OperandFits id (source.Value v) = Conforms id (plain v)
+  OperandFits id (source.Variable x path) = (from : ℕ) × HasType vars x path from × FitTogether t from id
+  OperandFits id (source.Argument i path) = (from : ℕ) × HasType args i path from × FitTogether t from id
+
+  -- one operand for each type
+  abbrev pub OperandsFit : List ℕ → List Operand → Type 0
+  OperandsFit [] [] = Unit {0}
+  OperandsFit [] (a ∷ as') = ⊥
+  OperandsFit (id ∷ ids) [] = ⊥
+  OperandsFit (id ∷ ids) (a ∷ as') = OperandFits id a × OperandsFit ids as'
+
+  abbrev pub IsNumberValue : Plain → Type 0
+  IsNumberValue v = (n : ℤ) × (v ≡ num n)
+
+  -- the operand is a number
+  abbrev pub IsNumber : Operand → Type 0
+  IsNumber (source.Value v) = IsNumberValue (plain v)
+  IsNumber (source.Variable x path) = (from : ℕ) × HasType vars x path from × IsNumberType t from
+  IsNumber (source.Argument i path) = (from : ℕ) × HasType args i path from × IsNumberType t from
+
+  -- ---- conditions
+
+  -- at most one of two operands is a value, which the other one's type has
+  abbrev pub BothFit : Operand → Operand → Type 0
+  BothFit (source.Value v) (source.Value w) = ⊥
+  BothFit (source.Value v) (source.Variable x path) = (id : ℕ) × HasType vars x path id × Conforms id (plain v)
+  BothFit (source.Value v) (source.Argument i path) = (id : ℕ) × HasType args i path id × Conforms id (plain v)
+  BothFit (source.Variable x path) b = (id : ℕ) × HasType vars x path id × OperandFits id b
+  BothFit (source.Argument i path) b = (id : ℕ) × HasType args i path id × OperandFits id b
+
+  abbrev pub IsOrder : Relation → Type 0
+  IsOrder Equal = ⊥
+  IsOrder NotEqual = ⊥
+  IsOrder r = Unit {0}
+
+  abbrev mutual
+    pub ConditionFits : Condition → Type 0
+    ConditionFits (compare r a b) = BothFit a b × (IsOrder r → IsNumber a × IsNumber b)
+    ConditionFits (every cs) = ConditionsFit cs
+    ConditionFits (some cs) = ConditionsFit cs
+
+    pub ConditionsFit : Conditions → Type 0
+    ConditionsFit none = Unit {0}
+    ConditionsFit (more c cs) = ConditionFits c × ConditionsFit cs
+
+  -- ---- calculations
+
+  -- after the items one number is left, where there are n before them
+  abbrev pub LeavesOne : ℕ → List MathItem → Type 0
+  LeavesOne n [] = n ≡ 1
+  LeavesOne n (math.Operand a ∷ is) = IsNumber a × LeavesOne (n + 1) is
+  LeavesOne n (math.Operator o ∷ is) = (m : ℕ) × (n ≡ suc (suc m)) × LeavesOne (suc m) is
+
+  -- ---- statements, where Calls says which activities have which types of arguments, and Carries what a member carries
+
+  module _ (Calls : ℕ → List ℕ → Type 0) (Carries : ℕ → ℕ → Op → List ℕ → Type 0) where
+    abbrev pub TargetHas : Target → ℕ → Type 0
+    TargetHas x id = HasType vars x.variable x.path id
+
+    abbrev pub list_of_option : Option Operand → List Operand
+    list_of_option None = []
+    list_of_option (Some a) = a ∷ []
+
+    abbrev mutual
+      pub StatementFits : Stmt → Type 0
+      StatementFits (assign x a) = (id : ℕ) × TargetHas x id × OperandFits id a
+      StatementFits (calculate x is) = (id : ℕ) × TargetHas x id × IsNumberType t id × LeavesOne 0 is
+      StatementFits (choose g a b) = ConditionFits g × StatementsFit a × StatementsFit b
+      StatementFits (iterate x a b step body) = (id : ℕ) × (slice_get vars x ≡ Some id) × IsNumberType t id × IsNumber a × IsNumber b × (step ≢ pos 0) × StatementsFit body
+      StatementFits (call action) = (ids : List ℕ) × Calls action.activity ids × OperandsFit ids action.operands
+      StatementFits (send_command end member operands name) = (ids : List ℕ) × Carries end member op.Command ids × OperandsFit ids operands
+      StatementFits (send_parameter end member o operand name) = (ids : List ℕ) × Carries end member o ids × OperandsFit ids (list_of_option operand)
+
+      pub StatementsFit : Stmts → Type 0
+      StatementsFit done = Unit {0}
+      StatementsFit (next s ss) = StatementFits s × StatementsFit ss
+
+-- ---- components
+
+abbrev pub MemberKnown : Table → Option Member → Type 0
+MemberKnown t None = Unit {0}
+MemberKnown t (Some (member.Parameter name id read_only)) = id.0 < length t
+MemberKnown t (Some (member.Command name args)) = AllByRecursion (λ (a : Argument). a.id.0 < length t) args
+
+-- what a member carries in the way of its end, by its own op
+pub record ComponentFits (t : Table) (Conforms : ℕ → Plain → Type 0) (Carries : ℕ → ℕ → Op → List ℕ → Type 0) (c : ComponentPlan) : Type 0 where
+  -- each variable's first value packs, and so its type is there
+  pub initial : AllByRecursion (λ (x : VarPlan). Conforms x.id.0 (plain x.initial)) c.variables
+  pub known : (i j : ℕ) (a : Activity) (id : ℕ) → slice_get c.activities i ≡ Some a → slice_get (map (λ (p : List ℕ × TypeId). (p.1).0) a.arguments) j ≡ Some id → id < length t
+  pub members : (i j : ℕ) (e : EndPlan) → slice_get c.ends i ≡ Some e → MemberKnown t (slice_get e.instance.members j)
+  -- calls lead down, so that there is no cycle of them
+  pub rank : ℕ → ℕ
+  pub bodies : (i : ℕ) (a : Activity) → slice_get c.activities i ≡ Some a →
+      StatementsFit t Conforms (map (λ (x : VarPlan). x.id.0) c.variables) (map (λ (p : List ℕ × TypeId). (p.1).0) a.arguments)
+      (λ j ids. (b : Activity) × (slice_get c.activities j ≡ Some b) × (ids ≡ map (λ (p : List ℕ × TypeId). (p.1).0) b.arguments) × (rank j < rank i))
+      Carries (stmts_of (stmts a.body))

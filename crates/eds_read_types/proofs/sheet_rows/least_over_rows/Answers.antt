@@ -1,0 +1,8 @@
+use Rattle.std.proofs.Common.{arith}
+use Rattle.eds_read_types.proofs.BaseSteps.{least-next_type}
+use Rattle.eds_read_types.proofs.sheet_rows.least_over_rows.Goals as goal
+
+pub loop-id-preserved : goal.loop-id-preserved
+loop-id-preserved g c =
+    least-next_type (g.R.RowRule.breaks c.args.sheet.now.graph.now.sheet.now.trees.now c.args.sheet.now.rows.now) c.args.sheet.now.graph.now.sheet.now.types.now c.loop-id.id _ c.loop-id.found c.in_ok-here.here c.first-found.result _
+    (omega arith) c.in_ok-here.ensures c.first-found.ensures.first c.loop-id.invariant

@@ -1,0 +1,181 @@
+//! Rules that are judged over the rows of a sheet: at each type, and at each part of its container.
+
+ghost use Rattle.std.specs.Prelude.{◌≡◌, List, ℕ, is_some, IfOk, slice_get};
+ghost use Rattle.std.specs.Option.{option_copied};
+ghost use Rattle.eds_base.specs.declared.ids.Place.{Place as place};
+ghost use Rattle.eds_base.specs.declared.refusal.Refusal.{Refusal as refusal};
+ghost use Rattle.eds_base.specs.Refusals.{least};
+ghost use Rattle.eds_tree.specs.declared.tree.Node.{Node as node};
+ghost use Rattle.eds_types.specs.Sizes.{open_of};
+ghost use Rattle.eds_types.specs.Rows.{Table, Placed, container_of, entries_in};
+ghost use Rattle.eds_read_types.specs.Bases.{breaks_over};
+ghost use Rattle.eds_read_types.specs.TableRows.{table_rows};
+ghost use Rattle.eds_read_types.specs.Parts.{judged_part, judged_parts};
+
+use crate::base_graph::BaseGraph;
+use crate::entry::entries_at;
+use eds_base::{Memory, Place, Refusal, TypeId};
+use eds_types::{Kind, Part, TypeRows};
+use std::alloc::Global;
+use std::marker::PhantomData;
+
+/// A sheet, what its types derive from, and a row for each type.
+#[derive(Drop)]
+pub(crate) struct SheetRows<'a> {
+    pub(crate) graph: &'a BaseGraph<'a>,
+    pub(crate) rows: &'a TypeRows,
+    ghost read: { rows.now ≡ table_rows graph.now.sheet.now.trees.now graph.now.sheet.now.space.now },
+}
+
+/// A rule that is judged at one type at a time, by its number and its place.
+pub(crate) trait RowRule {
+    /// All that breaks it at a type, of which the trees and the rows of all types are given.
+    ghost breaks: { List (List node) → Table → ℕ → place → List refusal };
+
+    /// The least of them.
+    fn least_at(
+        alloc: Global,
+        sheet: &SheetRows,
+        id: usize,
+        at: Place,
+    ) -> Result<Option<Refusal>, Memory>
+        ensures { IfOk result (λ r. r ≡ least (breaks sheet.now.graph.now.sheet.now.trees.now sheet.now.rows.now id at)) };
+}
+
+/// The least break of a rule at all types.
+pub(crate) fn least_over_rows<R: RowRule>(
+    alloc: Global,
+    sheet: &SheetRows,
+) -> Result<Option<Refusal>, Memory>
+    ensures { IfOk result (λ r. r ≡ least (breaks_over (R.breaks sheet.now.graph.now.sheet.now.trees.now sheet.now.rows.now) 0 sheet.now.graph.now.sheet.now.types.now)) }
+{
+    let types = sheet.graph.sheet.types;
+    let mut found = None;
+    for id in 0..types.len() {
+        let here = R::least_at(alloc, sheet, id, types[id])?;
+        found = Refusal::first(found, here);
+    }
+    Ok(found)
+}
+
+// ---- the types of parts
+
+/// Whether a type is a container.
+pub(crate) fn is_container(rows: &TypeRows, id: TypeId) -> bool
+    ensures { result ≡ is_some (container_of rows.now id.0) }
+{
+    match rows.get(id.0 as usize) {
+        None => false,
+        Some(row) => match &row.kind {
+            Kind::Con(_) => true,
+            _ => false,
+        },
+    }
+}
+
+/// Whether a type is an open binary.
+pub(crate) fn is_open(rows: &TypeRows, id: TypeId) -> bool
+    ensures { result ≡ is_some (open_of rows.now id.0) }
+{
+    match rows.get(id.0 as usize) {
+        None => false,
+        Some(row) => match &row.kind {
+            Kind::Bin(_, open) => *open,
+            _ => false,
+        },
+    }
+}
+
+// ---- at each part
+
+/// A part of a container: the container's number, the part's position, and the place of its element.
+#[derive(Drop)]
+pub(crate) struct PartAt<'a> {
+    pub(crate) rows: &'a TypeRows,
+    pub(crate) container: usize,
+    pub(crate) index: usize,
+    pub(crate) part: &'a Part,
+    pub(crate) place: Place,
+}
+
+/// A rule that is judged at one part of a container at a time.
+pub(crate) trait PartRule {
+    /// All that breaks it at a part, of which the rows of all types and the place of its element are given.
+    ghost breaks: { Table → Placed → place → List refusal };
+
+    /// The least of them.
+    fn least_at(alloc: Global, at: &PartAt) -> Result<Option<Refusal>, Memory>
+        ensures { IfOk result (λ r. r ≡ least (breaks at.now.rows.now (record { container = at.now.container; place = at.now.index; part = at.now.part.now }) at.now.place)) };
+}
+
+/// The parts of a type, none where it is no container.
+pub(crate) fn parts_of(rows: &TypeRows, id: usize) -> &[Part]
+    ensures { result.now ≡ entries_in (container_of rows.now id) }
+{
+    match rows.get(id) {
+        None => &[],
+        Some(row) => match &row.kind {
+            Kind::Con(container) => container.entries.as_slice(),
+            _ => &[],
+        },
+    }
+}
+
+fn least_part<R: PartRule>(
+    alloc: Global,
+    rows: &TypeRows,
+    container: usize,
+    index: usize,
+    place: Place,
+) -> Result<Option<Refusal>, Memory>
+    ensures { IfOk result (λ r. r ≡ least (judged_part R.breaks rows.now container index place)) }
+{
+    match parts_of(rows, container).get(index) {
+        None => Ok(None),
+        Some(part) => R::least_at(
+            alloc,
+            &PartAt {
+                rows,
+                container,
+                index,
+                part,
+                place,
+            },
+        ),
+    }
+}
+
+fn least_over_parts<R: PartRule>(
+    alloc: Global,
+    rows: &TypeRows,
+    container: usize,
+    places: &[Place],
+) -> Result<Option<Refusal>, Memory>
+    ensures { IfOk result (λ r. r ≡ least (breaks_over (judged_part R.breaks rows.now container) 0 places.now)) }
+{
+    let mut found = None;
+    for index in 0..places.len() {
+        let here = least_part::<R>(alloc, rows, container, index, places[index])?;
+        found = Refusal::first(found, here);
+    }
+    Ok(found)
+}
+
+/// A rule that is judged at the parts of a type.
+pub(crate) struct AtParts<R>(PhantomData<R>);
+
+impl<R: PartRule> RowRule for AtParts<R> {
+    ghost use Rattle.eds_read_types.specs.Parts.{judged_parts};
+
+    ghost breaks = { judged_parts R.breaks };
+
+    fn least_at(
+        alloc: Global,
+        sheet: &SheetRows,
+        id: usize,
+        at: Place,
+    ) -> Result<Option<Refusal>, Memory> {
+        let places = entries_at(alloc, sheet.graph.sheet.trees, at)?;
+        least_over_parts::<R>(alloc, sheet.rows, id, &places)
+    }
+}

@@ -1,0 +1,25 @@
+-- The choice of a derived container.
+use Rattle.std.specs.Prelude.{ℕ, ◌≤◌, List, length, map, Bool, true, cond}
+use Rattle.eds_base.specs.declared.ids.TypeId.{TypeId}
+use Rattle.eds_types.specs.declared.row.Constraint.{Constraint}
+use Rattle.eds_types.specs.Fields.{Field}
+use Rattle.eds_types.specs.Reading.{Next, stay, nowhere, under, starts_above, holds}
+use Rattle.eds_types.specs.Rows.{Table}
+use Rattle.eds_unpack.specs.declared.choice.Next.{Next as Chosen}
+use Rattle.eds_unpack.specs.declared.choice.Next.TheVariants as chosen
+
+abbrev pub numbers_of : List TypeId → List ℕ
+numbers_of ids = map (λ (id : TypeId). id.0) ids
+
+-- a constraint on an entry that is read before the choice at x holds
+abbrev pub meets : Table → ℕ → List Field → Constraint → Bool
+meets t x fs c = cond (starts_above t x c.path) (holds t fs c) true
+
+abbrev pub next_in : Chosen → Next
+next_in chosen.Stay = stay
+next_in chosen.Nowhere = nowhere
+next_in (chosen.Under id) = under id.0
+
+-- the path of the constraint has at most n steps
+abbrev pub IsNear : ℕ → Constraint → Type 0
+IsNear n c = length c.path ≤ n

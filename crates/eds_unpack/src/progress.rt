@@ -1,0 +1,77 @@
+//! How far the reader of a container has come.
+
+ghost use Rattle.std.specs.Prelude.{◌≡◌, ◌++◌, ◌∷◌, [], length, None, OnOk};
+ghost use Rattle.eds_bits.specs.Bits.{octets_for};
+ghost use Rattle.eds_bits.specs.Reader.{bits_left};
+ghost use Rattle.eds_types.specs.Fields.{field_at};
+ghost use Rattle.eds_types.specs.Plain.{plain};
+ghost use Rattle.eds_types.specs.Reading.{size_fits};
+ghost use Rattle.eds_types.specs.Spelling.{started};
+ghost use Rattle.eds_unpack.specs.Courses.{IsUnderWay, fields_of, progress_of};
+
+use crate::fields::ReadField;
+use eds_base::{Memory, TypeId};
+use eds_bits::BitReader;
+use eds_types::Value;
+use std::alloc::Global;
+
+/// How far the reader of a container has come: the fields so far, how many octets the length entry tells, and a reader
+/// before the container's first bit.
+#[derive(Drop)]
+pub(crate) struct Reached<'a> {
+    pub fields: Vec<ReadField>,
+    pub octets: Option<i128>,
+    pub start: BitReader<'a>,
+}
+
+/// Before the first part of a container.
+pub(crate) fn begin<'a>(alloc: Global, reader: &BitReader<'a>) -> Reached<'a>
+    ensures fields { fields_of result.fields.items ≡ [] }
+    ensures octets { result.octets ≡ None }
+    ensures start { bits_left result.start ≡ bits_left reader.now }
+{
+    Reached {
+        fields: Vec::new(alloc),
+        octets: None,
+        start: *reader,
+    }
+}
+
+/// Puts the value of the part at a place of a container last.
+pub(crate) fn keep_field(
+    reached: &mut Reached<'_>,
+    container: TypeId,
+    place: u16,
+    value: Value,
+) -> Result<(), Memory>
+    ensures fields { OnOk result (fields_of reached.new.fields.items ≡ fields_of reached.old.fields.items ++ field_at container.0 place (plain value) ∷ []) }
+    ensures octets { reached.new.octets ≡ reached.old.octets }
+    ensures start { reached.new.start ≡ reached.old.start }
+{
+    let field = ReadField {
+        container,
+        place,
+        value,
+    };
+    reached.fields.push(field)?;
+    Ok(())
+}
+
+/// How many bits of the container are before those that are left.
+pub(crate) fn bits_before(reached: &Reached<'_>, reader: &BitReader<'_>) -> u64
+    requires begun { IsUnderWay reached.now (bits_left reader.now) }
+    ensures { result ≡ length (progress_of reached.now (bits_left reader.now)).before }
+{
+    reached.start.left() - reader.left()
+}
+
+/// Whether the container has as many octets as its length entry tells, if it has one.
+pub(crate) fn has_told_size(reached: &Reached<'_>, reader: &BitReader<'_>) -> bool
+    requires begun { IsUnderWay reached.now (bits_left reader.now) }
+    ensures { result ≡ size_fits reached.now.octets (progress_of reached.now (bits_left reader.now)).before }
+{
+    match reached.octets {
+        Some(told) => told == i128::from(bits_before(reached, reader).div_ceil(8)),
+        None => true,
+    }
+}
