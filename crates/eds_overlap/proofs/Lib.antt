@@ -18,3 +18,4 @@ pub mod Solutions
 pub mod UnderivedTables
 pub mod Parting
 pub mod Meeting
+pub mod UsedTypes
