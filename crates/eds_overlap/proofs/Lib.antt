@@ -21,3 +21,4 @@ pub mod Solutions
 pub mod UnderivedTables
 pub mod Parting
 pub mod Meeting
+pub mod UsedTypes
