@@ -15,7 +15,7 @@ use Rattle.eds_read_types.specs.declared.table.SheetTypes.{SheetTypes}
 use Rattle.eds_read_types.specs.Places.{types}
 use Rattle.eds_read_types.specs.References.{word_place}
 use Rattle.eds_read_types.specs.ReadTypes.{word_type}
-use Rattle.eds_read_types.specs.EmptyType.{is_hollow, may_be_empty, empty_where, empty_by}
+use Rattle.eds_read_types.specs.EmptyType.{is_hollow, empty_where, empty_by}
 use Rattle.eds_read_types.specs.TableRows.{rows_from, table_rows}
 use Rattle.eds_read_types.specs.TableBreaks.{table_breaks}
 use Rattle.eds_read_types.specs.TableRead.{typed_of, unless, table_read}
