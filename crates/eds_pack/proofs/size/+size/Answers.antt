@@ -1,16 +1,16 @@
 use Rattle.std.proofs.Common.{◌≡◌, ◌+◌, ◌<◌, [], ◌∷◌, get_or, sym, ap, ◌∙◌, map, drop, length, refl, arith}
 use Rattle.std.specs.Prelude.{option_map}
 use Rattle.std.specs.Option.{option_copied}
-use Rattle.eds_types.specs.Fields.{paired}
 use Rattle.eds_types.specs.PackedSizes.{tells, packed_size_within, items_size, container_size, fields_size}
 use Rattle.eds_types.specs.Plain.{plain}
-use Rattle.eds_types.specs.Rows.{entries_of, sequence}
 use Rattle.eds_pack.specs.Counting.{added}
-use Rattle.eds_pack.specs.Seeking.{values_in}
-use Rattle.eds_pack.proofs.Looking.{one_value, values_next}
+use Rattle.eds_pack.specs.Seeking.{fields_of}
+use Rattle.eds_pack.proofs.Looking.{one_value, values_left}
 use Rattle.eds_pack.proofs.Counts.{item_next, size_next}
-use Rattle.eds_pack.proofs.Nested.{array_is, array_wrong, goes_here, items_left, list_is, list_wrong, own_here, stops_here}
+use Rattle.eds_pack.proofs.Nested.{array_is, array_wrong, goes_here, items_left, list_is, list_wrong, next_here, next_later, stops_here}
 use Rattle.eds_pack.proofs.Plains.{plain_items, plain_fields, length_plains, list_of-plains_of}
+use Rattle.eds_pack.proofs.Chains.{chain_next, chain_stops, entries_stop, entries_next, entries_used, entries_count, trailers_next, trailers_stop, these_next, above_next, first_next, last_next}
+use Rattle.eds_pack.proofs.Ranks.{chain_is_low, entries_nest, trailers_nest, constraints_near, nearer, under_low}
 use Rattle.eds_pack.proofs.size.+size.Goals as goal
 
 pub add_array-returns-then-items-count-clause-adds : goal.add_array-returns-then-items-count-clause-adds
@@ -59,26 +59,52 @@ add_items-loop-i-preserved t c =
       root = c.in_default.ensures.calm;
     }
 
-pub add_entries-loop-i-preserved : goal.add_entries-loop-i-preserved
-add_entries-loop-i-preserved t c =
-    let table = c.args.table.now in let k = c.args.own.0 in let f = map plain c.args.values.now in
-    let es = entries_of table k in let i = c.loop-i.i in let p = c.part-item.result in
-    let within : i < length es = omega (arith, ap length c.entries_of-part-items.ensures.value) in
-    let is : p ≡ get_or es i p = c.part-item.is ∙ ap (λ ps. get_or ps i p) c.entries_of-part-items.ensures.value in
+pub add_parts-loop-i-preserved : goal.add_parts-loop-i-preserved
+add_parts-loop-i-preserved t c =
+    let table = c.args.fields.now.table.now in let size = packed_size_within c.args.fields.now.depth table in let k = c.args.fields.now.own.0 in let fs = fields_of table k c.args.fields.now.values.now in let f = map plain c.args.fields.now.values.now in
+    let y = ((c.args.first).0).0 in let first = (c.args.first).1 in let es = c.args.parts.now in let i = c.loop-i.i in let p = c.part-item.result in
+    let within : i < length es = omega arith in
     let one = one_value p in
     record {
-      rest = goes_here table (packed_size_within c.args.depth table) (paired (sequence table k) f) k es i p within is c.loop-i.total c.add_part.new.total _
-          (c.in_default.ensures.adds (record { container = k; place = i; part = p }) (own_here table k es i p within is f c.loop-i.used _ c.requires.sequence c.loop-i.invariant.used c.value_in-value.ensures)) c.loop-i.invariant.rest;
-      used = c.behind-used.ensures ∙ ap (λ n. n + values_in (p ∷ [])) c.loop-i.invariant.used ∙ sym (values_next es i p within is);
+      rest = goes_here table size fs k y first es i p within c.part-item.is c.loop-i.total c.add_part.new.total _
+          (c.in_default.ensures.adds (record { container = y; place = first + i; part = p }) (next_here table size fs k y first es i p within c.part-item.is f c.loop-i.used c.loop-i.invariant.next _ c.value_in-value.ensures)) c.loop-i.invariant.rest;
+      next = next_later table size fs k y first es i p within c.part-item.is f c.loop-i.used c.loop-i.invariant.next c.behind-used.result c.behind-used.ensures;
+      used = omega (arith, c.behind-used.ensures, c.loop-i.invariant.used, values_left es i p within c.part-item.is);
       few = omega (arith, c.behind-used.ensures, c.loop-i.invariant.few, one);
       root = c.in_default.ensures.calm;
     }
 
-pub add_entries-returns-in-Err-clause-adds : goal.add_entries-returns-in-Err-clause-adds
-add_entries-returns-in-Err-clause-adds t c =
-    let table = c.args.table.now in let k = c.args.own.0 in let f = map plain c.args.values.now in
-    let es = entries_of table k in let i = c.loop-i.i in let p = c.part-item.result in
-    let within : i < length es = omega (arith, ap length c.entries_of-part-items.ensures.value) in
-    let is : p ≡ get_or es i p = c.part-item.is ∙ ap (λ ps. get_or ps i p) c.entries_of-part-items.ensures.value in
-    stops_here table (packed_size_within c.args.depth table) (paired (sequence table k) f) k es i p within is c.loop-i.total c.in-Err.reason c.add_part.new.path c.put_first.new.self _
-    (c.in-Err.ensures.adds (record { container = k; place = i; part = p }) (own_here table k es i p within is f c.loop-i.used _ c.requires.sequence c.loop-i.invariant.used c.value_in-value.ensures)) c.loop-i.invariant.rest c.put_first.ensures
+pub add_parts-returns-in-Err-clause-adds : goal.add_parts-returns-in-Err-clause-adds
+add_parts-returns-in-Err-clause-adds t c =
+    let table = c.args.fields.now.table.now in let size = packed_size_within c.args.fields.now.depth table in let k = c.args.fields.now.own.0 in let fs = fields_of table k c.args.fields.now.values.now in let f = map plain c.args.fields.now.values.now in
+    let y = ((c.args.first).0).0 in let first = (c.args.first).1 in let es = c.args.parts.now in let i = c.loop-i.i in let p = c.part-item.result in
+    let within : i < length es = omega arith in
+    stops_here table size fs k y first es i p within c.part-item.is c.loop-i.total c.in-Err.reason c.add_part.new.path c.put_first.new.self _
+    (c.in-Err.ensures.adds (record { container = y; place = first + i; part = p }) (next_here table size fs k y first es i p within c.part-item.is f c.loop-i.used c.loop-i.invariant.next _ c.value_in-value.ensures)) c.loop-i.invariant.rest c.put_first.ensures
+
+pub own_size-add_chain-requires : goal.own_size-add_chain-requires
+own_size-add_chain-requires t c =
+    let table = c.args.fields.now.table.now in let k = c.args.fields.now.own.0 in let f = map plain c.args.fields.now.values.now in
+    let is = c.as_slice.ensures.value ∙ c.chain_of-chain.ensures in
+    (omega arith, (chain_is_low table (c.args.fields.now.depth + 1) k c.as_slice.result.now c.requires.low is, (c.as_slice.ensures.few, (first_next table c.keeps_rules.ensures k f c.as_slice.result.now is, (c.requires.few, c.requires.root)))))
+
+pub own_size-returns-in_err-used-clause-size : goal.own_size-returns-in_err-used-clause-size
+own_size-returns-in_err-used-clause-size t c = ?
+
+pub own_size-returns-in_err-check_most_derived-clause-size : goal.own_size-returns-in_err-check_most_derived-clause-size
+own_size-returns-in_err-check_most_derived-clause-size t c = ?
+
+pub own_size-add_trailers-requires : goal.own_size-add_trailers-requires
+own_size-add_trailers-requires t c = ?
+
+pub own_size-returns-in_err-add_trailers-clause-size : goal.own_size-returns-in_err-add_trailers-clause-size
+own_size-returns-in_err-add_trailers-clause-size t c = ?
+
+pub own_size-returns-in_err-check_length-clause-size : goal.own_size-returns-in_err-check_length-clause-size
+own_size-returns-in_err-check_length-clause-size t c = ?
+
+pub own_size-returns-clause-size : goal.own_size-returns-clause-size
+own_size-returns-clause-size t c = ?
+
+pub add_fields-own_size-requires : goal.add_fields-own_size-requires
+add_fields-own_size-requires t c = (omega arith, (under_low c.args.fields.now.table.now (c.args.fields.now.depth + 1) c.args.id.0 c.args.fields.now.own.0 c.requires.low ?, (c.requires.few, c.requires.root)))

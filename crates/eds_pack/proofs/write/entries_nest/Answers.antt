@@ -2,17 +2,14 @@ use Rattle.std.proofs.Common.{sym, subst}
 use Rattle.std.specs.List.{AllByRecursion}
 use Rattle.eds_types.specs.Rows.{container_of, entries_of}
 use Rattle.eds_pack.specs.Nesting.{PartNests}
-use Rattle.eds_pack.proofs.Containers.{some_of, parts_built, sequence_is, own_is, entries_nest, under_is}
-use Rattle.eds_pack.proofs.size.entries_nest.Goals as goal
+use Rattle.eds_pack.proofs.Containers.{some_of, parts_built, sequence_is, entries_nest, under_is}
+use Rattle.eds_pack.proofs.write.entries_nest.Goals as goal
 
 pub returns-clause-parts : goal.returns-clause-parts
 returns-clause-parts c = let s = some_of (container_of c.args.table.now c.args.own.0) c.requires.container in parts_built c.args.table.now c.keeps_rules.ensures c.requires.built c.args.own.0 s.0 s.1
 
 pub returns-clause-sequence : goal.returns-clause-sequence
 returns-clause-sequence c = let s = some_of (container_of c.args.table.now c.args.own.0) c.requires.container in sequence_is c.args.table.now c.keeps_rules.ensures c.requires.built c.args.own.0 s.0 s.1
-
-pub returns-clause-size : goal.returns-clause-size
-returns-clause-size c size f = let s = some_of (container_of c.args.table.now c.args.own.0) c.requires.container in own_is c.args.table.now c.keeps_rules.ensures c.requires.built size c.args.own.0 s.0 s.1 f
 
 pub returns-clause-nests : goal.returns-clause-nests
 returns-clause-nests c =
