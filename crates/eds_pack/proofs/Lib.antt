@@ -9,7 +9,6 @@ pub mod LengthEntries
 pub mod LengthNumbers
 pub mod OwnSizes
 pub mod Chains
-pub mod Sized
 pub mod Listing
 pub mod Paths
 pub mod Containers

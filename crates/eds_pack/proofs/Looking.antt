@@ -96,6 +96,15 @@ values_next ps i p lt e = ap values_in (take_more ps i p lt ∙ ap (λ (q : Part
 pub values_left : (ps : List Part) (i : ℕ) (p : Part) → i < length ps → p ≡ get_or ps i p → values_in (drop i ps) ≡ values_in (p ∷ []) + values_in (drop (i + 1) ps)
 values_left ps i p lt e = ap values_in (drop_more ps i p lt ∙ ap (λ (q : Part). q ∷ drop (i + 1) ps) (sym e)) ∙ values_more (p ∷ []) (drop (i + 1) ps)
 
+-- no more values than parts
+pub values_few : (ps : List Part) → values_in ps ≤ length ps
+values_few [] = omega arith
+values_few (p ∷ ps) = go (has_value p) (values_few ps)
+  where
+    go : (b : Bool) → values_in ps ≤ length ps → (if b then 1 else 0) + values_in ps ≤ length (p ∷ ps)
+    go true h = omega (arith, h)
+    go false h = omega (arith, h)
+
 pub one_value : (p : Part) → values_in (p ∷ []) ≤ 1
 one_value p = go (has_value p)
   where

@@ -62,8 +62,8 @@ module _ (t : Table) (rules : KeepsRules t) (n k : ℕ) (low : IsLow t (n + 1) k
       let a = added_ok s one (Goes 0 own) e in
       sym (ap counted (begins (Ok a.0) a.1 ∙ ap (λ r. after (after r (λ b. Goes (a.0 + b) others)) Last) (sym h)))
 
-  pub trailers_stop : (s one : ℕ) (g : PackFault) → ◌≡◌ {A = Counted} (Ok one) (added s (Goes 0 own)) → Ok 0 ≡ Choice → ◌≡◌ {A = Counted} (Err g) (added one (Goes 0 others)) → Err g ≡ counted (own_size t S k f)
-  trailers_stop s one g e h o =
+  pub others_stop : (s one : ℕ) (g : PackFault) → ◌≡◌ {A = Counted} (Ok one) (added s (Goes 0 own)) → Ok 0 ≡ Choice → ◌≡◌ {A = Counted} (Err g) (added one (Goes 0 others)) → Err g ≡ counted (own_size t S k f)
+  others_stop s one g e h o =
       let a = added_ok s one (Goes 0 own) e in
       sym (ap counted (goes_on a.0 (Err g) a.1 h (added_err one g (Goes 0 others) o)))
 

@@ -55,7 +55,7 @@ module _ (t : Table) (rules : KeepsRules t) where
 
   -- ---- the paths of constraints
 
-  parts_lower : (y : ℕ) → AllByRecursion (λ (p : Part). (id : ℕ) → type_by (Some p) ≡ Some id → IsNested t rules.rank y id) (entries_of t y ++ trailers_of t y)
+  pub parts_lower : (y : ℕ) → AllByRecursion (λ (p : Part). (id : ℕ) → type_by (Some p) ≡ Some id → IsNested t rules.rank y id) (entries_of t y ++ trailers_of t y)
   parts_lower y =
       All-both (λ (p : Part). (id : ℕ) → type_by (Some p) ≡ Some id → IsNested t rules.rank y id) (entries_of t y) (trailers_of t y)
       (unplaced (λ (p : Part). (id : ℕ) → type_by (Some p) ≡ Some id → IsNested t rules.rank y id) y 0 (entries_of t y) (All-front (λ (p : Placed). (id : ℕ) → type_by (Some p.part) ≡ Some id → IsNested t rules.rank y id) (placed_entries t y) (placed_trailers t y) (rules.parts_nest y)))
@@ -95,6 +95,9 @@ pub nearer : (n m : ℕ) (cs : List Constraint) → n ≤ m → AllByRecursion (
 nearer n m cs le h = All-weaker (IsNear n) (IsNear m) (λ c k. omega (arith, k, le)) cs h
 
 -- ---- chains
+
+pub has_low : (t : Table) (n id k : ℕ) → IsLow t n id → Has (chain t k) id → IsLow t n k
+has_low t n id k low has r = let same = rank_in t r k id has in let less = low r in omega arith
 
 -- a container under a type is as low
 pub under_low : (t : Table) (n id k : ℕ) → IsLow t n id → list_has (chain t k) id ≡ true → IsLow t n k
