@@ -1,5 +1,5 @@
 -- The own generic names of an interface.
-use Rattle.std.proofs.Common.{◌≡◌, ℕ, ◌+◌, ◌<◌, Bool, true, false, ◌||◌, List, [], ◌∷◌, length, map, drop, get_or, refl, sym, ap, ◌∙◌, drop-cons, add-one}
+use Rattle.std.proofs.Common.{◌≡◌, ℕ, ◌+◌, ◌<◌, Bool, true, false, ◌||◌, List, [], ◌∷◌, length, map, drop, get_or, refl, sym, ap, ◌∙◌}
 use Rattle.eds_base.specs.Reading.{same}
 use Rattle.eds_names.specs.Repeats.{is_among}
 use Rattle.eds_names.proofs.RepeatsLemmas.{SameNames, opened}

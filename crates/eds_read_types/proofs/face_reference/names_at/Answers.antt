@@ -1,6 +1,6 @@
 use Rattle.std.proofs.Common.{map, refl, arith, string_bytes}
 use Rattle.eds_read_types.specs.Places.{own_name}
-use Rattle.eds_read_types.proofs.FaceFacts.{names-next, names-all}
+use Rattle.eds_read_types.proofs.FaceFacts.{names-next}
 use Rattle.eds_read_types.proofs.face_reference.names_at.Goals as goal
 
 pub loop-at-preserved : goal.loop-at-preserved

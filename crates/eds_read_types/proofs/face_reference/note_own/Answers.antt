@@ -1,5 +1,4 @@
-use Rattle.std.proofs.Common.{◌≡◌, map, true, false, sym, ◌∙◌, string_bytes}
-use Rattle.eds_names.specs.Repeats.{is_among}
+use Rattle.std.proofs.Common.{sym, ◌∙◌, string_bytes}
 use Rattle.eds_names.proofs.RepeatsLemmas.{among-map, names-present, inserted}
 use Rattle.eds_read_types.proofs.face_reference.note_own.Goals as goal
 
