@@ -17,6 +17,7 @@ pub mod FaceFacts
 pub mod SortFacts
 pub mod Found
 pub mod ChainFacts
+pub mod Circles
 pub mod NumberFacts
 pub mod TableRules
 pub mod Limits
