@@ -14,7 +14,7 @@ use Rattle.eds_types.specs.Plain.{Plain, list_of}
 use Rattle.eds_types.specs.Rows.{Table, base_of, chain_before, chain_within, Placed, sequence}
 use Rattle.eds_types.specs.Sizes.{tail_of}
 use Rattle.eds_types.specs.Spelling.{Progress, started, PartPasses, PartsPass, KindSpells, SpellsWithin}
-use Rattle.eds_types.specs.Tables.{IsTable, IsItemType}
+use Rattle.eds_types.proofs.Tables.{IsTable, IsItemType}
 use Rattle.eds_types.proofs.AllOf.{All-weaker, All-front, All-back}
 use Rattle.eds_types.proofs.Ranks.{Lower, sequence_lower}
 use Rattle.eds_types.proofs.SpellingSizes.{items_any}

@@ -7,7 +7,7 @@ use Rattle.eds_types.specs.declared.row.Part.{Part}
 use Rattle.eds_types.specs.Failing.{Station, condition, entry, choice, end, own_stations, chosen_stations, course}
 use Rattle.eds_types.specs.Fields.{type_by, IsAtOrUnder}
 use Rattle.eds_types.specs.Rows.{Table, chain, Placed, placed_entries, placed_trailers, sequence, constraints_of}
-use Rattle.eds_types.specs.Tables.{IsTable}
+use Rattle.eds_types.proofs.Tables.{IsTable}
 use Rattle.eds_types.proofs.AllOf.{All-both, All-front, All-back, All-unflat}
 use Rattle.eds_types.proofs.ChainLaws.{under_is}
 

@@ -18,7 +18,7 @@ use Rattle.eds_types.specs.Plain.{Plain, num, label, truth, text, bits, items, f
 use Rattle.eds_types.specs.Rows.{Table, chain, chain_within, is_concrete, list_has, numbers, Placed, sequence}
 use Rattle.eds_types.specs.Sizes.{kind_size, row_size, size_within}
 use Rattle.eds_types.specs.Spelling.{started, SpellsWithin}
-use Rattle.eds_types.specs.Tables.{IsTable}
+use Rattle.eds_types.proofs.Tables.{IsTable}
 use Rattle.eds_types.proofs.AllOf.{All-weaker}
 use Rattle.eds_types.proofs.ReadingTests.{has_from}
 use Rattle.eds_overlap.proofs.Bounds.{Carried, OfItem, parts_to, item_of, parts_of, spells_to}

@@ -1,6 +1,6 @@
 -- With room for 16 types in a chain and for 32 nested types, more room changes nothing.
 use Rattle.std.proofs.Common.{arith}
-use Rattle.eds_types.specs.Tables.{IsTable}
+use Rattle.eds_types.proofs.Tables.{IsTable}
 use Rattle.eds_types.proofs.RuleFacts.{table_of}
 use Rattle.eds_overlap.specs.Laws.{BoundsSuffice}
 use Rattle.eds_overlap.proofs.Bounds.{chain_same, spells_to, fails_to}
