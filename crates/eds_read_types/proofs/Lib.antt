@@ -13,9 +13,11 @@ mod Unbroken
 pub mod TableFacts
 pub mod PlainRules
 pub mod PartFacts
+pub mod FaceFacts
 pub mod SortFacts
 pub mod Found
 pub mod ChainFacts
+pub mod Circles
 pub mod NumberFacts
 pub mod TableRules
 pub mod Limits

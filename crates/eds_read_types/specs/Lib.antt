@@ -28,5 +28,7 @@ pub mod Numbers
 pub mod TableRows
 pub mod Parts
 pub mod LengthField
+pub mod FaceReferences
+pub mod FaceRules
 pub mod TableBreaks
 pub mod TableRead

@@ -10,6 +10,7 @@ ghost use Rattle.eds_read_types.specs.TableBreaks.{table_breaks};
 ghost use Rattle.eds_read_types.specs.TableRead.{typed_of, table_read};
 
 use crate::base_graph::{BaseGraph, bases_of, cycles_of};
+use crate::face_reference::push_face_types;
 use crate::named_trees::{NamedTrees, elements, type_places};
 use crate::reference::word_type;
 use crate::rules::least_break;
@@ -26,7 +27,8 @@ use std::alloc::Global;
 pub struct SheetTypes {
     /// A row for each declared type, at its `TypeId`: in the order of files and elements.
     pub table: TypeTable,
-    /// The types that entries name, in the order of types and entries, and then that of the TYPE word.
+    /// The types that entries name, in the order of types and entries, then that of the TYPE word, and then those that
+    /// parameters, arguments and maps of interfaces name.
     pub used: Used,
     /// The type that the TYPE word names, where there is a TYPE word.
     pub asked_type: Option<TypeId>,
@@ -39,7 +41,8 @@ fn typed_of(alloc: Global, sheet: &NamedTrees, rows: TypeRows) -> Result<SheetTy
     ensures { IfOk result (λ t. t ≡ typed_of sheet.now.trees.now sheet.now.space.now (option_map (λ w. w.now) sheet.now.asked)) }
 {
     let asked_type = word_type(alloc, sheet)?;
-    let used = used_types(alloc, sheet, asked_type)?;
+    let mut used = used_types(alloc, sheet, asked_type)?;
+    push_face_types(alloc, &mut used, sheet)?;
     let table = TypeTable::of(alloc, rows)?;
     Ok(SheetTypes {
         table,
