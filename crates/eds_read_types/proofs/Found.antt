@@ -15,7 +15,7 @@ use Rattle.eds_names.proofs.Numbering.{type-rows}
 use Rattle.eds_read_types.specs.Places.{types}
 use Rattle.eds_read_types.specs.ReadTypes.{id_of, id_found}
 use Rattle.eds_read_types.specs.Entries.{type_named}
-use Rattle.eds_read_types.specs.TableRows.{entry_id, id_or_first}
+use Rattle.eds_read_types.specs.PartRows.{entry_id, id_or_first}
 
 module _ (trees : List (List Node)) (names : Names) (named : names_in trees ≡ Ok names) where
   row_there : (name : List ℕ) (id : TypeId) → item_named names.declared name ≡ Some (item.Sort id) → id.0 < length (types names)

@@ -13,6 +13,7 @@ mod Unbroken
 pub mod TableFacts
 pub mod PlainRules
 pub mod PartFacts
+pub mod PartNames
 pub mod SortFacts
 pub mod Found
 pub mod ChainFacts

@@ -27,20 +27,23 @@ use Rattle.eds_types.specs.declared.row.Kind.{Kind}
 use Rattle.eds_types.specs.declared.row.Kind.TheVariants as kind
 use Rattle.eds_types.specs.declared.row.Container.{Container}
 use Rattle.eds_types.specs.declared.row.Part.{Part}
+use Rattle.eds_types.specs.declared.row.Part.TheVariants as part
 use Rattle.eds_types.specs.Rows.{base_in, base_of, container_by, container_in, container_of, number_of_id, entries_in}
 use Rattle.eds_types.specs.Sizes.{open_of}
-use Rattle.eds_types.specs.FlatTables.{IsScalarEntry, IsFlatKind, IsFlatTable}
 use Rattle.eds_types.specs.Rules.{AreDistinct, IsListing, KindKeeps, HasKind, IsScalarKind, DerivesFrom, IsNested, name_of, KeepsRules}
 use Rattle.eds_read_types.specs.declared.numbers.FormAndDomain.{FormAndDomain}
 use Rattle.eds_read_types.specs.Places.{element, is_element, is_container, is_sub_range, is_number, attribute, own_name, elements, types, type_places}
 use Rattle.eds_read_types.specs.References.{references, row_for, judged_text, judged_by, judged_at, broken_with}
 use Rattle.eds_read_types.specs.ReadTypes.{id_of, id_found}
-use Rattle.eds_read_types.specs.Entries.{entries_at}
+use Rattle.eds_read_types.specs.declared.part_sort.PartSort.{PartSort}
+use Rattle.eds_read_types.specs.declared.part_sort.PartSort.TheVariants as sorts
+use Rattle.eds_read_types.specs.Entries.{sort_at, entries_at, named_among}
+use Rattle.eds_read_types.specs.PartRows.{entry_id, padding_bits, unread, plain_part, part_by, part_at}
 use Rattle.eds_read_types.specs.Forms.{int_form_of, bool_form_of}
 use Rattle.eds_read_types.specs.Listings.{listing_of}
 use Rattle.eds_read_types.specs.Bases.{base_found, bases_of}
 use Rattle.eds_read_types.specs.Numbers.{form_or_wide, numbers_of}
-use Rattle.eds_read_types.specs.TableRows.{entry_id, entry_part, container_at, scalar_kind_by, scalar_kind_in, kind_of, table_row, rows_from, table_rows, has_few_entries, are_few}
+use Rattle.eds_read_types.specs.TableRows.{container_at, scalar_kind_by, scalar_kind_in, kind_of, table_row, rows_from, table_rows, has_few_entries, are_few}
 use Rattle.eds_read_types.specs.TableBreaks.{table_breaks}
 use Rattle.eds_read_types.specs.DuplicateEntry.{repeats, duplicates_at}
 use Rattle.eds_read_types.specs.declared.sort.Sort.{Sort}
@@ -60,6 +63,7 @@ use Rattle.eds_read_types.proofs.Limits.{few_types, length-rows}
 use Rattle.eds_read_types.proofs.LawFacts.{name_apart, enumerated_unbroken}
 use Rattle.eds_read_types.proofs.PlainRules.{EntryKeeps, IsPlainKind, KeepsRow, ArePlainRows, keeps_by_rows}
 use Rattle.eds_read_types.proofs.PartFacts.{rank_by, few_ranks, mapped_there, placed_all, all_mapped, no_item, part_none}
+use Rattle.eds_read_types.proofs.PartNames.{among_has, names_distinct, padding_keeps}
 use Rattle.eds_read_types.proofs.Found.{id_there}
 use Rattle.eds_read_types.proofs.SortFacts.{sort_named, binary_keeps}
 use Rattle.eds_read_types.proofs.ChainFacts.{each-none, level}
@@ -78,13 +82,6 @@ true_or true = refl
 true_or false = refl
 
 -- ---- names
-
-among_has : (xs : List (List ℕ)) (x : List ℕ) → Has xs x → is_among xs x ≡ true
-among_has xs x h = ap (λ ys. is_among ys x) h.is ∙ stands h.before h.after
-  where
-    stands : (before after : List (List ℕ)) → is_among (before ++ x ∷ after) x ≡ true
-    stands [] after = rw ((bytes_eq-Decides x x).1 refl) refl
-    stands (y ∷ before) after = rw (stands before after) (true_or (same x y))
 
 apart-distinct : (xs : List (List ℕ)) → AreApart xs → AreDistinct xs
 apart-distinct [] h = tt
@@ -167,12 +164,6 @@ scalar_by (Some t) n numbers = go (sort_of (name_at t n))
     go (Some sort.SubRange) = refl
     go (Some sort.Container) = refl
 
--- ---- entries
-
-part_names : (trees : List (List Node)) (names : Names) (ats : List Place) → filter_map name_of (map (entry_part trees names) ats) ≡ map (own_name trees) ats
-part_names trees names [] = refl
-part_names trees names (at ∷ ats) = ap (λ ns. own_name trees at ∷ ns) (part_names trees names ats)
-
 -- ---- bases
 
 -- the base of a sub-range
@@ -242,35 +233,46 @@ module _ (trees : List (List Node)) (names : Names) (word : Option (List ℕ)) (
   entry_there : (q : Place) (id : ℕ) (d : Declared) → slice_get (types names) id ≡ Some d → (entry_id trees names q).0 < length (table_rows trees names)
   entry_there q id d there = subst (λ n. (entry_id trees names q).0 < n) (sym (length-rows trees names 0 (types names))) (id_there trees names q (slice_get_within (types names) id d there) named)
 
-  -- an entry's type is no container
-  entry_scalar : (id : ℕ) (d : Declared) → slice_get (types names) id ≡ Some d → container_of (table_rows trees names) id ≡ Some (container_at trees names d.place) → (k : ℕ) (q : Place) → slice_get (entries_at trees d.place) k ≡ Some q → container_of (table_rows trees names) (entry_id trees names q).0 ≡ None
-  entry_scalar id d there is k q e =
-      let part_there : slice_get (entries_in (container_of (table_rows trees names) id)) k ≡ Some (entry_part trees names q) = ap (λ c. slice_get (entries_in c) k) is ∙ (slice_get-map (entry_part trees names) (entries_at trees d.place) k ∙ ap (option_map (entry_part trees names)) e) in
-      no_container (container_of (table_rows trees names) (entry_id trees names q).0) q (part_none unsupported_entry_at trees names u.flat id d.place (place_there (types names) id d there) k (entry_part trees names q) part_there q e)
+  -- a part of a container's row, and the element that it was read from
+  part_there : (id : ℕ) (d : Declared) → container_of (table_rows trees names) id ≡ Some (container_at trees names d.place) → (k : ℕ) (q : Place) → slice_get (entries_at trees d.place) k ≡ Some q
+      → slice_get (entries_in (container_of (table_rows trees names) id)) k ≡ Some (part_at trees names q)
+  part_there id d is k q e = ap (λ c. slice_get (entries_in c) k) is ∙ (slice_get-map (part_at trees names) (entries_at trees d.place) k ∙ ap (option_map (part_at trees names)) e)
+
+  -- an entry's type is no container, and no open binary
+  entry_scalar : (id : ℕ) (d : Declared) → slice_get (types names) id ≡ Some d → container_of (table_rows trees names) id ≡ Some (container_at trees names d.place) → (k : ℕ) (q : Place) → slice_get (entries_at trees d.place) k ≡ Some q → sort_at trees q ≡ Some sorts.Entry
+      → (container_of (table_rows trees names) (entry_id trees names q).0 ≡ None) × (open_of (table_rows trees names) (entry_id trees names q).0 ≡ None)
+  entry_scalar id d there is k q e s =
+      let place = place_there (types names) id d there in
+      let part = part_there id d is k q e ∙ ap (λ s. Some (part_by s trees names q)) s in (
+        no_container (container_of (table_rows trees names) (entry_id trees names q).0) q (part_none unsupported_entry_at trees names u.flat id d.place place k (plain_part trees names q) part q e),
+        no_open (open_of (table_rows trees names) (entry_id trees names q).0) q (part_none length_field_at trees names u.lengths id d.place place k (plain_part trees names q) part q e),
+      )
     where
       no_container : (o : Option Container) (at : Place) → unsupported_by at o ≡ [] → o ≡ None
       no_container None at h = refl
       no_container (Some c) at h = absurd cc
 
-  -- and no open binary
-  entry_keeps : (id : ℕ) (d : Declared) → slice_get (types names) id ≡ Some d → container_of (table_rows trees names) id ≡ Some (container_at trees names d.place) → (k : ℕ) (p : Part) → slice_get (map (entry_part trees names) (entries_at trees d.place)) k ≡ Some p → EntryKeeps (table_rows trees names) rank (record { container = id; place = k; part = p })
-  unfolding rank
-  entry_keeps id d there is k p e =
-      let place = place_there (types names) id d there in
-      let q = mapped_there (entry_part trees names) (entries_at trees d.place) k p e in
-      let part_there : slice_get (entries_in (container_of (table_rows trees names) id)) k ≡ Some (entry_part trees names q.0) = ap (λ c. slice_get (entries_in c) k) is ∙ (e ∙ ap Some (sym q.2)) in
-      let scalar = entry_scalar id d there is k q.0 q.1 in
-      let closed = no_open (open_of (table_rows trees names) (entry_id trees names q.0).0) q.0 (part_none length_field_at trees names u.lengths id d.place place k (entry_part trees names q.0) part_there q.0 q.1) in
-      subst (λ part. EntryKeeps (table_rows trees names) rank (record { container = id; place = k; part = part })) q.2
-      (record {
-        fits = ((λ c same_type. absurd (none_some (container_of (table_rows trees names) (entry_id trees names q.0).0) c scalar same_type)), closed);
-        nests = λ inner same_type. nests (entry_id trees names q.0).0 inner same_type (entry_there q.0 id d there) scalar;
-      })
-    where
       no_open : (o : Option ℕ) (at : Place) → untold_by at o ≡ [] → o ≡ None
       no_open None at h = refl
       no_open (Some n) at h = absurd cc
 
+  -- padding keeps its size, and has no type
+  pad_keeps : (id k n : ℕ) → 1 ≤ n → n ≤ 524288 → EntryKeeps (table_rows trees names) rank (record { container = id; place = k; part = part.Pad n })
+  pad_keeps id k n some few = record { fits = (some, few); nests = λ inner same_type. absurd cc }
+
+  unread_keeps : (id k : ℕ) → EntryKeeps (table_rows trees names) rank (record { container = id; place = k; part = unread })
+  unread_keeps id k = pad_keeps id k 8 (lit≤ tt) (lit≤ tt)
+
+  plain_keeps : (id : ℕ) (d : Declared) → slice_get (types names) id ≡ Some d → container_of (table_rows trees names) id ≡ Some (container_at trees names d.place) → (k : ℕ) (q : Place) → slice_get (entries_at trees d.place) k ≡ Some q → sort_at trees q ≡ Some sorts.Entry
+      → EntryKeeps (table_rows trees names) rank (record { container = id; place = k; part = plain_part trees names q })
+  unfolding rank
+  plain_keeps id d there is k q e s =
+      let scalar = entry_scalar id d there is k q e s in
+      record {
+        fits = ((λ c same_type. absurd (none_some (container_of (table_rows trees names) (entry_id trees names q).0) c scalar.0 same_type)), scalar.1);
+        nests = λ inner same_type. nests (entry_id trees names q).0 inner same_type (entry_there q id d there) scalar.0;
+      }
+    where
       none_some : (o : Option Container) (c : Container) → o ≡ None → o ≡ Some c → ⊥
       none_some o c e f = cc
 
@@ -281,23 +283,41 @@ module _ (trees : List (List Node)) (names : Names) (word : Option (List ℕ)) (
           let high = ap rank_by is in
           subst (IsNested (table_rows trees names) (λ id. rank_by (container_of (table_rows trees names) id)) id) i (lt, omega (arith, low, high))
 
+  part_keeps : (id : ℕ) (d : Declared) → slice_get (types names) id ≡ Some d → container_of (table_rows trees names) id ≡ Some (container_at trees names d.place) → (k : ℕ) (q : Place) → slice_get (entries_at trees d.place) k ≡ Some q
+      → EntryKeeps (table_rows trees names) rank (record { container = id; place = k; part = part_at trees names q })
+  part_keeps id d there is k q e = go (sort_at trees q) refl
+    where
+      go : (s : Option PartSort) → sort_at trees q ≡ s → EntryKeeps (table_rows trees names) rank (record { container = id; place = k; part = part_by s trees names q })
+      go None s = unread_keeps id k
+      go (Some sorts.Entry) s = plain_keeps id d there is k q e s
+      go (Some sorts.FixedValue) s = unread_keeps id k
+      go (Some sorts.Padding) s = let size = padding_keeps trees q in pad_keeps id k (padding_bits trees q) size.0 size.1
+      go (Some sorts.List) s = unread_keeps id k
+      go (Some sorts.Length) s = unread_keeps id k
+      go (Some sorts.ErrorControl) s = unread_keeps id k
+
+  entry_keeps : (id : ℕ) (d : Declared) → slice_get (types names) id ≡ Some d → container_of (table_rows trees names) id ≡ Some (container_at trees names d.place) → (k : ℕ) (p : Part) → slice_get (map (part_at trees names) (entries_at trees d.place)) k ≡ Some p → EntryKeeps (table_rows trees names) rank (record { container = id; place = k; part = p })
+  entry_keeps id d there is k p e =
+      let q = mapped_there (part_at trees names) (entries_at trees d.place) k p e in
+      subst (λ part. EntryKeeps (table_rows trees names) rank (record { container = id; place = k; part = part })) q.2 (part_keeps id d there is k q.0 q.1)
+
   container_row : (id : ℕ) (d : Declared) → slice_get (types names) id ≡ Some d → is_container trees d.place ≡ true → length (entries_at trees d.place) ≤ 32767
       → KeepsRow (table_rows trees names) rank id (record { name = d.name; base = base_found trees names d.place; kind = kind.Con (container_at trees names d.place) })
   container_row id d there is few =
       let place = place_there (types names) id d there in
       let rootless = no_base trees names d.place is in
       let container : container_of (table_rows trees names) id ≡ Some (container_at trees names d.place) = ap container_in (row_of id d there) ∙ rw is refl in
-      let differ : repeats trees [] (entries_at trees d.place) ≡ [] = rw is at (each-none (duplicates_at trees names) (type_places names) u.duplicates id d.place place) in
+      let differ : repeats trees [] (named_among trees (entries_at trees d.place)) ≡ [] = rw is at (each-none (duplicates_at trees names) (type_places names) u.duplicates id d.place place) in
       record {
-        kind_keeps = (subst (λ n. n ≤ 32767) (sym (length-map (entries_at trees d.place) (entry_part trees names))) few, lit≤ tt);
+        kind_keeps = (subst (λ n. n ≤ 32767) (sym (length-map (entries_at trees d.place) (part_at trees names))) few, lit≤ tt);
         derives = λ base e. absurd (no_other base e rootless);
         plain = record {
           concrete = refl;
           root = ap number_of_id rootless;
           bare = refl;
           trailers = refl;
-          entries = placed_all (EntryKeeps (table_rows trees names) rank) id 0 (map (entry_part trees names) (entries_at trees d.place)) (λ k p e i same_place. subst (λ n. EntryKeeps (table_rows trees names) rank (record { container = id; place = n; part = p })) (to_sum k i same_place) (entry_keeps id d there container k p e));
-          names = subst AreDistinct (sym (part_names trees names (entries_at trees d.place))) (apart-distinct (map (own_name trees) (entries_at trees d.place)) (no_repeats trees [] (entries_at trees d.place) differ).1);
+          entries = placed_all (EntryKeeps (table_rows trees names) rank) id 0 (map (part_at trees names) (entries_at trees d.place)) (λ k p e i same_place. subst (λ n. EntryKeeps (table_rows trees names) rank (record { container = id; place = n; part = p })) (to_sum k i same_place) (entry_keeps id d there container k p e));
+          names = names_distinct trees names (entries_at trees d.place) (no_repeats trees [] (named_among trees (entries_at trees d.place)) differ).1;
         };
       }
     where
@@ -383,8 +403,8 @@ module _ (trees : List (List Node)) (names : Names) (word : Option (List ℕ)) (
     where
       go : (b : Bool) → is_container trees d.place ≡ b → KeepsRow (table_rows trees names) rank id (table_row trees names id d)
       go true is =
-          let short : nat_le (length (map (entry_part trees names) (entries_at trees d.place))) 32767 ≡ true = rw is at few in
-          rw is (container_row id d there is (subst (λ n. n ≤ 32767) (length-map (entries_at trees d.place) (entry_part trees names)) (leb-true _ 32767 short)))
+          let short : nat_le (length (map (part_at trees names) (entries_at trees d.place))) 32767 ≡ true = rw is at few in
+          rw is (container_row id d there is (subst (λ n. n ≤ 32767) (length-map (entries_at trees d.place) (part_at trees names)) (leb-true _ 32767 short)))
       go false is = scalar_row id d there is
 
   base_row : (id base : ℕ) → base_of (table_rows trees names) id ≡ Some base → level (bases_of trees names) id ≡ suc (level (bases_of trees names) base)
@@ -446,91 +466,3 @@ module _ (trees : List (List Node)) (names : Names) (word : Option (List ℕ)) (
 pub table_keeps : (trees : List (List Node)) (names : Names) (word : Option (List ℕ)) → shape_verdict trees ≡ Ok tt → names_in trees ≡ Ok names → least (table_breaks trees names word) ≡ None → KeepsRules (table_rows trees names)
 table_keeps trees names word shaped named none =
     keeps_by_rows (table_rows trees names) (plain_rows trees names word named (unbroken trees names word (least-none (table_breaks trees names word) none)) (differ trees names named) (few_types trees names shaped named))
-
--- ---- tables that are flat
-
--- a string or a binary
-abbrev pub is_octets : (name : List ℕ) → Bool
-is_octets name = same name (codes "StringDataType") || same name (codes "BinaryDataType")
-
--- the type at a place is none
-abbrev pub IsNoOctets : List (List Node) → Place → Type 0
-IsNoOctets trees at = is_octets (node_name (element trees at)) ≡ false
-
-module _ (trees : List (List Node)) (names : Names) (word : Option (List ℕ)) (named : names_in trees ≡ Ok names) (u : IsUnbroken trees names word) (none : AllByRecursion (IsNoOctets trees) (type_places names)) where
-  abbrev rows : List TypeRow
-  rows = table_rows trees names
-
-  -- a type that is no container is scalar
-  scalar_there : (id : ℕ) (d : Declared) → slice_get (types names) id ≡ Some d → is_container trees d.place ≡ false → IsScalarKind (kind_of trees names id d.place)
-  scalar_there id d there is = rw is (in_tree (slice_get trees d.place.file) (at_one (IsNoOctets trees) (type_places names) none id d.place (place_there (types names) id d there)))
-    where
-      octets_named : (name element : List ℕ) → is_octets element ≡ true → same name element ≡ true → is_octets name ≡ false → ⊥
-      octets_named name element h e f = clash (is_octets name) f (subst (λ n. is_octets n ≡ true) (sym ((bytes_eq-Decides name element).0 e)) h)
-
-      by_sort : (t : List Node) (s : Option Sort) → sort_of (name_at t d.place.node) ≡ s → is_octets (name_at t d.place.node) ≡ false → IsScalarKind (scalar_kind_by s t d.place.node (numbers_of trees (type_places names) (bases_of trees names) id))
-      by_sort t None e f = tt
-      by_sort t (Some sort.Integer) e f = tt
-      by_sort t (Some sort.Enumerated) e f = tt
-      by_sort t (Some sort.Boolean) e f = tt
-      by_sort t (Some sort.Text) e f = absurd (octets_named (name_at t d.place.node) (codes "StringDataType") refl (sort_named (name_at t d.place.node) sort.Text e) f)
-      by_sort t (Some sort.Binary) e f = absurd (octets_named (name_at t d.place.node) (codes "BinaryDataType") refl (sort_named (name_at t d.place.node) sort.Binary e) f)
-      by_sort t (Some sort.Array) e f = tt
-      by_sort t (Some sort.SubRange) e f = tt
-      by_sort t (Some sort.Container) e f = tt
-
-      in_tree : (o : Option (List Node)) → is_octets (node_name (o >>= λ t. slice_get t d.place.node)) ≡ false → IsScalarKind (scalar_kind_in o d.place.node (numbers_of trees (type_places names) (bases_of trees names) id))
-      in_tree None h = tt
-      in_tree (Some t) h = by_sort t (sort_of (name_at t d.place.node)) refl h
-
-  -- the entries of a container are scalar
-  entries_scalar : (id : ℕ) (d : Declared) → slice_get (types names) id ≡ Some d → container_of rows id ≡ Some (container_at trees names d.place) → AllByRecursion (IsScalarEntry rows) (map (entry_part trees names) (entries_at trees d.place))
-  entries_scalar id d there is = all_mapped (entry_part trees names) (IsScalarEntry rows) (entries_at trees d.place) (λ k q e. scalar_entry k q e)
-    where
-      scalar_entry : (k : ℕ) (q : Place) → slice_get (entries_at trees d.place) k ≡ Some q → HasKind rows (entry_id trees names q).0 IsScalarKind
-      scalar_entry k q e = go (slice_get (types names) (entry_id trees names q).0) refl
-        where
-          lt : (entry_id trees names q).0 < length (types names)
-          lt = id_there trees names q (slice_get_within (types names) id d there) named
-
-          go : (o : Option Declared) → slice_get (types names) (entry_id trees names q).0 ≡ o → HasKind rows (entry_id trees names q).0 IsScalarKind
-          go None f = absurd (no_item (types names) (entry_id trees names q).0 lt f)
-          go (Some other) f =
-              let row = row_of trees names word named u (entry_id trees names q).0 other f in
-              let bare : container_of rows (entry_id trees names q).0 ≡ None = entry_scalar trees names word named u id d there is k q e in
-              (table_row trees names (entry_id trees names q).0 other, row, scalar_there (entry_id trees names q).0 other f (not_container other (ap container_in (sym row) ∙ bare)))
-            where
-              not_container : (other : Declared) → container_by (kind_of trees names (entry_id trees names q).0 other.place) ≡ None → is_container trees other.place ≡ false
-              not_container other h = by (is_container trees other.place) refl
-                where
-                  by : (b : Bool) → is_container trees other.place ≡ b → b ≡ false
-                  by false g = refl
-                  by true g = let no : Some (container_at trees names other.place) ≡ None = rw g at h in absurd cc
-
-  flat_row : (id : ℕ) (d : Declared) → slice_get (types names) id ≡ Some d → IsFlatKind rows (base_of rows id) (kind_of trees names id d.place)
-  flat_row id d there = go (is_container trees d.place) refl
-    where
-      flat_scalar : (base : Option ℕ) (k : Kind) → IsScalarKind k → IsFlatKind rows base k
-      flat_scalar base (kind.Int form spans) s = tt
-      flat_scalar base (kind.Enum form listing) s = tt
-      flat_scalar base (kind.Bool form) s = tt
-      flat_scalar base (kind.Str form) s = absurd s
-      flat_scalar base (kind.Bin n free) s = absurd s
-      flat_scalar base (kind.Arr item n) s = absurd s
-      flat_scalar base (kind.Con c) s = absurd s
-
-      go : (b : Bool) → is_container trees d.place ≡ b → IsFlatKind rows (base_of rows id) (kind_of trees names id d.place)
-      go false is = flat_scalar (base_of rows id) (kind_of trees names id d.place) (scalar_there id d there is)
-      go true is =
-          let row = row_of trees names word named u id d there in
-          let container : container_of rows id ≡ Some (container_at trees names d.place) = ap container_in row ∙ rw is refl in
-          rw is (record { concrete = refl; root = ap base_in row ∙ ap number_of_id (no_base trees names d.place is); entries = entries_scalar id d there container; trailers = refl })
-
-  flat_rows : IsFlatTable rows
-  flat_rows id row e =
-      let r = row_at trees names 0 (types names) id row e id (omega arith) in
-      subst (λ (w : TypeRow). IsFlatKind rows (base_of rows id) w.kind) (sym r.is) (flat_row id r.declared r.there)
-
--- of a sheet without strings and binaries the rows are scalar types and flat containers
-pub table_flat : (trees : List (List Node)) (names : Names) (word : Option (List ℕ)) → names_in trees ≡ Ok names → least (table_breaks trees names word) ≡ None → AllByRecursion (IsNoOctets trees) (elements trees) → IsFlatTable (table_rows trees names)
-table_flat trees names word named none octets = flat_rows trees names word named (unbroken trees names word (least-none (table_breaks trees names word) none)) (of_types (IsNoOctets trees) trees names named octets)

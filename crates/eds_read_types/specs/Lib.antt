@@ -9,6 +9,7 @@ pub mod Listings
 pub mod Places
 pub mod Judging
 pub mod References
+pub mod PartSorts
 pub mod Entries
 pub mod ScalarKinds
 pub mod ReadTypes
@@ -25,7 +26,9 @@ pub mod EmptyType
 pub mod DuplicateEntry
 pub mod Unbroken
 pub mod Numbers
+pub mod PartRows
 pub mod TableRows
+pub mod Used
 pub mod Parts
 pub mod LengthField
 pub mod TableBreaks

@@ -20,6 +20,8 @@ mod limit_chain;
 mod listing;
 mod named_trees;
 mod numbers;
+mod part;
+mod part_sort;
 mod range;
 mod reference;
 mod reference_row;
@@ -32,6 +34,7 @@ mod table_row;
 mod text_form;
 mod unresolved;
 mod unsupported_entry;
+mod used;
 mod wrong_kind;
 
 pub use range::{End, Range};

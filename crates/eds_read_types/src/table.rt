@@ -14,7 +14,8 @@ use crate::named_trees::{NamedTrees, elements, type_places};
 use crate::reference::word_type;
 use crate::rules::least_break;
 use crate::sheet_rows::SheetRows;
-use crate::table_row::{table_rows, used_types};
+use crate::table_row::table_rows;
+use crate::used::used_types;
 use eds_base::{Fail, Memory, Refusal, TypeId};
 use eds_names::Space;
 use eds_tree::Trees;
@@ -26,7 +27,8 @@ use std::alloc::Global;
 pub struct SheetTypes {
     /// A row for each declared type, at its `TypeId`: in the order of files and elements.
     pub table: TypeTable,
-    /// The types that entries name, in the order of types and entries, and then that of the TYPE word.
+    /// The types that parts and arrays name, in the order of types and parts, and then that of the TYPE word. An open binary is none
+    /// of them.
     pub used: Used,
     /// The type that the TYPE word names, where there is a TYPE word.
     pub asked_type: Option<TypeId>,
@@ -39,7 +41,7 @@ fn typed_of(alloc: Global, sheet: &NamedTrees, rows: TypeRows) -> Result<SheetTy
     ensures { IfOk result (λ t. t ≡ typed_of sheet.now.trees.now sheet.now.space.now (option_map (λ w. w.now) sheet.now.asked)) }
 {
     let asked_type = word_type(alloc, sheet)?;
-    let used = used_types(alloc, sheet, asked_type)?;
+    let used = used_types(alloc, &rows, asked_type)?;
     let table = TypeTable::of(alloc, rows)?;
     Ok(SheetTypes {
         table,
