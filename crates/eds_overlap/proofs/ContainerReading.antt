@@ -24,7 +24,7 @@ use Rattle.eds_types.specs.Reading.{Read, Ends, ended, read_to_end}
 use Rattle.eds_types.specs.Rows.{Table, chain, base_of, constraints_of, Placed, placed_entries, placed_trailers, sequence}
 use Rattle.eds_types.proofs.TailSizes.{EntriesPass, only_parts}
 use Rattle.eds_types.specs.Spelling.{Progress, started, SizeFits, ContainerSpells, KindSpells}
-use Rattle.eds_types.specs.Tables.{IsTable}
+use Rattle.eds_types.proofs.Tables.{IsTable}
 use Rattle.eds_types.proofs.AllOf.{All-weaker, All-both, All-front, All-back, All-apply}
 
 module _ (t : Table) (SpellsInner : ℕ → Plain → Bits → Type 0) where

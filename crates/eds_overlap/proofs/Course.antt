@@ -21,7 +21,7 @@ use Rattle.eds_types.specs.Plain.{Plain}
 use Rattle.eds_types.specs.Reading.{Read, Ends, ◌>>=◌, read_entry, read_parts, check_all, holds, candidate_under, stay, nowhere, under, next_of, size_fits, finish, read_own, trailers_up, read_chain, go_on, read_under, read_to_end}
 use Rattle.eds_types.specs.Rows.{Table, chain, is_concrete, constraints_of, Placed, placed_entries, placed_trailers, id_of}
 use Rattle.eds_types.specs.Spelling.{Progress, started}
-use Rattle.eds_types.specs.Tables.{IsTable}
+use Rattle.eds_types.proofs.Tables.{IsTable}
 
 pub bind_assoc : {A B C : Type 0} (r : Result A Fault) (f : A → Result B Fault) (g : B → Result C Fault) → ((r >>= f) >>= g) ≡ (r >>= λ x. f x >>= g)
 bind_assoc (Ok x) f g = refl

@@ -12,7 +12,7 @@ use Rattle.eds_types.specs.Plain.{Plain, Plains, fields, list_of}
 use Rattle.eds_types.specs.Rows.{Table, container_by, container_in, sequence}
 use Rattle.eds_types.specs.Rules.{IsContainer}
 use Rattle.eds_types.specs.Spelling.{started, ContainerSpells, KindSpells, SpellsWithin}
-use Rattle.eds_types.specs.Tables.{IsTable}
+use Rattle.eds_types.proofs.Tables.{IsTable}
 use Rattle.eds_types.proofs.RuleFacts.{table_of, facts_of}
 use Rattle.eds_types.proofs.TableFacts.{Facts}
 use Rattle.eds_types.proofs.TailSizes.{all_entries}

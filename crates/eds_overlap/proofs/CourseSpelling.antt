@@ -17,7 +17,7 @@ use Rattle.eds_types.specs.Fields.{Field, values_of, Holds, IsAtOrUnder, IsCandi
 use Rattle.eds_types.specs.Plain.{Plain}
 use Rattle.eds_types.specs.Rows.{Table, chain, is_concrete, constraints_of, Placed, placed_entries, placed_trailers, sequence}
 use Rattle.eds_types.specs.Spelling.{Progress, started, PartsPass, SizeFits, ContainerSpells}
-use Rattle.eds_types.specs.Tables.{IsTable}
+use Rattle.eds_types.proofs.Tables.{IsTable}
 use Rattle.eds_types.proofs.AllOf.{All-weaker, All-both, All-front, All-back, All-apply}
 
 module _ (t : Table) (SpellsInner : ℕ → Plain → Bits → Type 0) where

@@ -23,7 +23,7 @@ use Rattle.eds_types.specs.Plain.{plain, num}
 use Rattle.eds_types.specs.Rows.{id_of, base_in, base_of, container_in, constraints_in, constraints_of, is_concrete, chain, chain_within, list_has, derived, own_parts, sequence, Placed}
 use Rattle.eds_types.specs.Rules.{IsHollow, IsCounted, IsScale, HoldsCheck, IsTypeSet, TailKeeps, KindKeeps, HasKind, DerivesFrom, ItemsNest, PartKeeps, ConstraintKeeps, KeepsRules}
 use Rattle.eds_types.specs.Sizes.{open_of, size_within}
-use Rattle.eds_types.specs.Tables.{IsTable}
+use Rattle.eds_types.proofs.Tables.{IsTable}
 use Rattle.eds_types.proofs.AllOf.{All-at, All-both, All-front, All-back}
 use Rattle.eds_types.proofs.ByRows.{AllFrom, by_row, chain_past, derived-le, none_hollow, not_hollow}
 use Rattle.eds_types.proofs.ChainLaws.{child_is}

@@ -5,7 +5,10 @@ pub mod ContainerReading
 pub mod Choices
 pub mod ReadingLaws
 pub mod CourseLaws
+pub mod CourseParts
 pub mod Bounds
+pub mod PackBounds
+pub mod Room
 pub mod Theorems
 pub mod Concrete
 pub mod ExampleRules
@@ -18,3 +21,4 @@ pub mod Solutions
 pub mod UnderivedTables
 pub mod Parting
 pub mod Meeting
+pub mod UsedTypes

@@ -9,7 +9,7 @@ use Rattle.eds_types.specs.Rows.{Table, id_of, chain, list_has, entries_of}
 use Rattle.eds_types.specs.Fields.{StartsInEntries}
 use Rattle.eds_types.specs.Reading.{starts_above}
 use Rattle.eds_types.specs.declared.row.Part.{Part}
-use Rattle.eds_types.specs.Tables.{IsTable}
+use Rattle.eds_types.proofs.Tables.{IsTable}
 use Rattle.eds_types.specs.Rules.{KeepsRules}
 use Rattle.eds_types.proofs.ChainLaws.{chain_end, under_is, same_chain}
 use Rattle.eds_types.proofs.ReadingTests.{has_from, has_in, starts_from, starts_in}

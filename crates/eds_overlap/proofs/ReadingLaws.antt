@@ -29,7 +29,7 @@ use Rattle.eds_types.specs.Spelling.{started, KindSpells, SpellsWithin}
 use Rattle.eds_types.specs.Sizes.{open_by, open_in, open_of}
 use Rattle.eds_types.proofs.TableFacts.{Facts}
 use Rattle.eds_types.proofs.TailSizes.{open_to, open_from, all_entries}
-use Rattle.eds_types.specs.Tables.{IsTable, IsItemType, IsIntRow, IsIntKind, IsOneLabel}
+use Rattle.eds_types.proofs.Tables.{IsTable, IsItemType, IsIntRow, IsIntKind, IsOneLabel}
 use Rattle.eds_types.proofs.AllOf.{All-weaker, All-front, All-back, All-pair, All-has, All-unflat, one_of}
 
 module _ (t : Table) (is : IsTable t) (can : Facts t) where

@@ -21,7 +21,7 @@ use Rattle.eds_types.specs.Plain.{Plain}
 use Rattle.eds_types.specs.Reading.{Read, Ends, ◌>>=◌, read_parts, check_all, holds, candidate_under, stay, nowhere, under, next_of, next, size_fits, finish, read_own, trailers_up, read_chain, go_on, read_under, read_to_end}
 use Rattle.eds_types.specs.Rows.{Table, chain, is_concrete, constraints_of, Placed, placed_entries, id_of}
 use Rattle.eds_types.specs.Spelling.{Progress, started, PartPasses}
-use Rattle.eds_types.specs.Tables.{IsTable}
+use Rattle.eds_types.proofs.Tables.{IsTable}
 
 module _ (t : Table) (read : ℕ → Bits → Read Plain) (SpellsInner : ℕ → Plain → Bits → Type 0) (FailsInner : ℕ → Bits → Fault → Type 0) where
   module _ (top : ℕ) (Inv : Progress → Type 0) where

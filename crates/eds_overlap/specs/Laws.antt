@@ -8,11 +8,13 @@ use Rattle.eds_types.specs.Failing.{course, Passes, FailsWithin, FailsAt}
 use Rattle.eds_types.specs.Fields.{values_of, IsAtOrUnder}
 pub use Rattle.eds_types.specs.Laws.{IsThere, OneSize, HasCanonical, OneCanonical, LeastIsLeast, EmptyTypes, PacksOrFails, PackingIsDecided}
 use Rattle.eds_types.specs.Overlap.{IsClear}
-use Rattle.eds_types.specs.Packing.{PackFault, most_bits, PackFailsAt}
+use Rattle.eds_types.specs.LeastSize.{least_within, least_size}
+use Rattle.eds_types.specs.Packing.{PackFault, most_bits, PackFailsWithin, PackFailsAt}
 use Rattle.eds_types.specs.Plain.{Plain, Plains, fields, list_of}
 use Rattle.eds_types.specs.Reading.{Read, read_within}
 use Rattle.eds_types.specs.Rows.{Table, chain, chain_within}
 use Rattle.eds_types.specs.Rules.{IsContainer, KeepsRules}
+use Rattle.eds_types.specs.Sizes.{size_within, type_size}
 use Rattle.eds_types.specs.Spelling.{Progress, started, SpellsWithin, Spells, Canon}
 
 -- ---- of which types the laws speak
@@ -78,6 +80,9 @@ pub record HasRoom (t : Table) : Type 0 where
   pub chains : (n id : ℕ) → 16 ≤ n → chain_within n t id ≡ chain t id
   pub spellings : (n id : ℕ) → 32 ≤ n → (style : Style) (v : Plain) (b : Bits) → SpellsWithin n style t id v b ↔ SpellsWithin 32 style t id v b
   pub faults : (n id : ℕ) → 32 ≤ n → (b : Bits) (g : Fault) → FailsWithin n t id b g ↔ FailsAt t id b g
+  pub packing : (n id : ℕ) → 32 ≤ n → (v : Plain) (g : PackFault) → PackFailsWithin n t id v g ↔ PackFailsWithin 32 t id v g
+  pub least : (n id : ℕ) → 32 ≤ n → least_within n t id ≡ least_size t id
+  pub sizes : (n id : ℕ) → 32 ≤ n → size_within n t id ≡ type_size t id
 
 abbrev pub BoundsSuffice : Type 0
 BoundsSuffice = (t : Table) → KeepsRules t → HasRoom t

@@ -8,6 +8,7 @@ ghost use Rattle.eds_types.specs.Sizes.{open_of};
 ghost use Rattle.eds_overlap.specs.Example.{example, WorkedFrames, WorkedPacking, WorkedTails};
 ghost use Rattle.eds_overlap.specs.Laws.{ReadingIsExact, SpellingIsCourse, OneOutcome, OneReading, FaultsStay, BoundsSuffice, SameValue, PackedIsRead, ReadIsPacked};
 ghost use Rattle.eds_overlap.specs.Underived.{UnderivedAreClear};
+ghost use Rattle.eds_overlap.specs.Used.{UsedAreClear};
 
 pub use eds_types::law::{canonical_spelling, empty_types, least_size, packing_is_decided};
 
@@ -79,4 +80,10 @@ pub fn worked_packing()
 /// Where no container derives from another one, each type but an open binary is clear.
 pub fn underived_are_clear()
     ensures { UnderivedAreClear }
+{}
+
+/// Where no two containers overlap under the used types of a table, among which are all types that it names but open
+/// binaries, each used type and each that is reached from one is clear, open binaries excepted.
+pub fn used_are_clear()
+    ensures { UsedAreClear }
 {}

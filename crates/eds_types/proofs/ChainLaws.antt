@@ -3,7 +3,7 @@ use Rattle.std.proofs.Common.{◌≡◌, ℕ, zero, suc, ◌+◌, ◌<◌, ◌�
 use Rattle.std.proofs.lemmas.List.{length-append}
 use Rattle.eds_bits.specs.Lists.{Has}
 use Rattle.eds_types.specs.Rows.{Table, base_of, chain_before, chain_within, chain}
-use Rattle.eds_types.specs.Tables.{IsTable}
+use Rattle.eds_types.proofs.Tables.{IsTable}
 
 -- a list with a last element, cut at some element
 pub split_last : (cs : List ℕ) (x : ℕ) (xs : List ℕ) (z : ℕ) (ys : List ℕ) → cs ++ x ∷ [] ≡ xs ++ z ∷ ys → ((xs ≡ cs) × (z ≡ x) × (ys ≡ [])) ⊎ ((ws : List ℕ) × (ys ≡ ws ++ x ∷ []) × (cs ≡ xs ++ z ∷ ws))

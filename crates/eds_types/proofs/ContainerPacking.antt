@@ -28,7 +28,7 @@ use Rattle.eds_types.specs.Plain.{Plain, items}
 use Rattle.eds_types.specs.Reading.{holds, candidate_under}
 use Rattle.eds_types.specs.Rows.{Table, chain, container_of, concrete_in, is_concrete, constraints_of, Placed, placed_entries, placed_trailers, sequence, id_of}
 use Rattle.eds_types.specs.Spelling.{Progress, started, PartPasses, PartsPass, SizeFits, ContainerSpells, SpellsWithin}
-use Rattle.eds_types.specs.Tables.{IsTable}
+use Rattle.eds_types.proofs.Tables.{IsTable}
 use Rattle.eds_types.proofs.AllOf.{All-weaker, All-both, All-front, All-back, All-each}
 
 -- ---- what is there

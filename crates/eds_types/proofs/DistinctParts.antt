@@ -6,7 +6,7 @@ use Rattle.std.proofs.lemmas.List.{length-append}
 use Rattle.eds_types.specs.declared.row.Part.{Part}
 use Rattle.eds_types.proofs.ChainLaws.{under_is}
 use Rattle.eds_types.specs.Rows.{Table, chain, entries_of, trailers_of, Placed, placed_from, placed_entries, placed_trailers, sequence}
-use Rattle.eds_types.specs.Tables.{IsTable}
+use Rattle.eds_types.proofs.Tables.{IsTable}
 use Rattle.eds_types.proofs.AllOf.{All-weaker, All-both}
 
 -- R holds of each element and each later one

@@ -21,7 +21,7 @@ use Rattle.eds_types.specs.Rows.{Table, chain, chain_within, chain_before, base_
 use Rattle.eds_types.specs.Rules.{KindKeeps, IsContainer, IsValueOf, HasKind, ItemsNest, IsHollow, DerivesFrom, PartKeeps, ConstraintKeeps, KeepsRules}
 use Rattle.eds_types.specs.Sizes.{open_by, open_in, open_of, tail_of, trailers_along}
 use Rattle.eds_types.specs.Spelling.{Progress, started, PartPasses, PartsPass, ItemsSpell, ContainerSpells, KindSpells, SpellsWithin}
-use Rattle.eds_types.specs.Tables.{IsTable, IsIntRow, IsIntKind}
+use Rattle.eds_types.proofs.Tables.{IsTable, IsIntRow, IsIntKind}
 use Rattle.eds_types.proofs.AllOf.{All-weaker, All-each, All-has, All-flat}
 use Rattle.eds_types.proofs.ChainLaws.{chain_step, chain_front, front_same, split_last}
 use Rattle.eds_types.proofs.LeastBound.{text_bound}

@@ -12,7 +12,7 @@ use Rattle.eds_types.proofs.ChainLaws.{under_is}
 use Rattle.eds_types.specs.Fields.{Field, value_at, fields_in, value_on, number_by, row_at, type_on, number_on, Holds, StartsInEntries}
 use Rattle.eds_types.specs.Plain.{Plain}
 use Rattle.eds_types.specs.Rows.{Table, chain, entries_of, trailers_of, Placed, placed_from, placed_entries, placed_trailers}
-use Rattle.eds_types.specs.Tables.{IsTable}
+use Rattle.eds_types.proofs.Tables.{IsTable}
 use Rattle.eds_types.proofs.AllOf.{All-weaker, All-both}
 
 -- the field is of another part

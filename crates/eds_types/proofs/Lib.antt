@@ -1,3 +1,4 @@
+pub mod Tables
 pub mod ChainSteps
 pub mod Places
 pub mod LeastSizes

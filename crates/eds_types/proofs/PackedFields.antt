@@ -24,7 +24,7 @@ use Rattle.eds_types.specs.Plain.{Plain, num, label, truth, text, bits, items, f
 use Rattle.eds_types.specs.Reading.{candidate_under, holds}
 use Rattle.eds_types.specs.Rows.{Table, id_of, chain, constraints_of, container_of, list_has, Placed, placed_entries, placed_trailers, sequence}
 use Rattle.eds_types.specs.Spelling.{Progress, started, ItemsSpell, KindSpells, PartPasses, PartsPass, SpellsWithin, ContainerSpells}
-use Rattle.eds_types.specs.Tables.{IsTable, IsIntRow, IsIntKind}
+use Rattle.eds_types.proofs.Tables.{IsTable, IsIntRow, IsIntKind}
 use Rattle.eds_types.proofs.AllOf.{All-weaker, All-both, All-front, All-pair, All-each}
 use Rattle.eds_types.proofs.CanonicalSpelling.{parts_before}
 use Rattle.eds_types.proofs.ContainerPacking.{Known, course_is, front, front_all, at_start, built, fields_of, fits_told, sound_of, told_fits}

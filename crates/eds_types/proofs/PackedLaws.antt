@@ -16,7 +16,7 @@ use Rattle.eds_types.specs.Plain.{Plain, fields, list_of}
 use Rattle.eds_types.specs.Rows.{Table, Placed, sequence}
 use Rattle.eds_types.specs.Rules.{KeepsRules}
 use Rattle.eds_types.specs.Spelling.{KindSpells, SpellsWithin, Canon}
-use Rattle.eds_types.specs.Tables.{IsTable, IsPartType, IsItemType}
+use Rattle.eds_types.proofs.Tables.{IsTable, IsPartType, IsItemType}
 use Rattle.eds_types.proofs.AllOf.{All-weaker}
 use Rattle.eds_types.proofs.ContainerPacking.{Known}
 use Rattle.eds_types.proofs.DecidedPacking.{Decided}

@@ -29,7 +29,7 @@ use Rattle.eds_types.specs.Packing.{PackFault, pack_fault_here, ItemPackFails, I
 use Rattle.eds_types.specs.Plain.{Plain, num, bits, items, fields, Plains, list_of, plain}
 use Rattle.eds_types.specs.Rows.{Table, Placed, sequence}
 use Rattle.eds_types.specs.Spelling.{BinHas, ContainerSpells, ItemsSpell, KindSpells, SpellsWithin}
-use Rattle.eds_types.specs.Tables.{IsTable, IsPartType, IsItemType, IsIntRow, IsIntKind}
+use Rattle.eds_types.proofs.Tables.{IsTable, IsPartType, IsItemType, IsIntRow, IsIntKind}
 use Rattle.eds_types.proofs.AllOf.{All-weaker, All-pair}
 use Rattle.eds_types.proofs.ContainerPacking.{Known, container_decided}
 

@@ -19,7 +19,7 @@ use Rattle.eds_types.specs.Reading.{Read, same, expected, number_in, after_numbe
 use Rattle.eds_types.specs.Rows.{Table, Placed}
 use Rattle.eds_types.specs.Spelling.{BinHas, Progress, with_bits, with_value, count_at, ItemsSpell, PartPasses}
 use Rattle.eds_types.specs.Sizes.{tail_of, trailers_size}
-use Rattle.eds_types.specs.Tables.{LengthIsInt, IsIntRow}
+use Rattle.eds_types.proofs.Tables.{LengthIsInt, IsIntRow}
 
 by_same : Plain → Reason → Plain → Bool → Result (Unit {0}) Fault
 by_same v r w b = cond b (Ok tt) (Err (fault_here r))

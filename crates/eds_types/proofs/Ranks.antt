@@ -5,7 +5,7 @@ use Rattle.std.specs.List.{AllByRecursion, flat_map}
 use Rattle.eds_types.specs.declared.row.TypeRow.{TypeRow}
 use Rattle.eds_types.specs.declared.row.Part.{Part}
 use Rattle.eds_types.specs.Rows.{Table, base_of, chain, chain_within, chain_before, entries_of, trailers_of, Placed, placed_from, placed_entries, placed_trailers, sequence}
-use Rattle.eds_types.specs.Tables.{IsTable, IsPartType}
+use Rattle.eds_types.proofs.Tables.{IsTable, IsPartType}
 use Rattle.eds_types.specs.Fields.{IsAtOrUnder}
 use Rattle.eds_types.proofs.AllOf.{All-weaker, All-both, All-front, All-back, All-at, All-flat, All-reverse}
 

@@ -20,7 +20,7 @@ use Rattle.eds_types.specs.Sizes.{open_by, open_in, open_of, tail_of, trailers_a
 use Rattle.eds_types.specs.Fields.{type_by, listed, StartsInEntries}
 use Rattle.eds_types.specs.Rows.{Table, chain, entries_of, trailers_of, constraints_of, Placed, placed_from, placed_entries, placed_trailers, own_parts, sequence}
 use Rattle.eds_types.specs.Rules.{AreDistinct, IsBefore, IsIntBy, IsInt, IsNested, ItemsNest, IsScale, TailKeeps, PartKeeps, KindKeeps, is_length, ConstraintKeeps, KeepsRules}
-use Rattle.eds_types.specs.Tables.{IsTable, IsPartType, IsItemType, IsOneLabel, IsIntRow, IsIntKind, LengthIsInt}
+use Rattle.eds_types.proofs.Tables.{IsTable, IsPartType, IsItemType, IsOneLabel, IsIntRow, IsIntKind, LengthIsInt}
 use Rattle.eds_types.proofs.AllOf.{All-weaker, All-both, All-front, All-back, All-pair, All-at, All-has, All-flat, All-reverse, one_of}
 use Rattle.eds_types.proofs.ChainLaws.{chain_end, under_is}
 use Rattle.eds_types.proofs.DistinctParts.{Pairwise, Apart, placed_in, sequence_apart}

@@ -20,7 +20,7 @@ use Rattle.eds_types.specs.Fields.{Field, values_of, paired, field_of}
 use Rattle.eds_types.specs.Plain.{Plain, num, text, items, fields, list_of}
 use Rattle.eds_types.specs.Rows.{Table, Placed, sequence}
 use Rattle.eds_types.specs.Spelling.{Progress, started, ItemsSpell, PartPasses, PartsPass, ContainerSpells, KindSpells, SpellsWithin}
-use Rattle.eds_types.specs.Tables.{IsIntRow, IsIntKind}
+use Rattle.eds_types.proofs.Tables.{IsIntRow, IsIntKind}
 
 -- ---- a canonical spelling is a spelling
 

@@ -10,7 +10,7 @@ use Rattle.eds_types.specs.Plain.{plain}
 use Rattle.eds_types.specs.Rows.{Table, Placed, sequence}
 use Rattle.eds_types.specs.Rules.{HasKind, IsInt, IsValueOf, HoldsCheck, KindKeeps, is_length}
 use Rattle.eds_types.specs.Sizes.{tail_of, part_size, trailers_along}
-use Rattle.eds_types.specs.Tables.{IsIntRow}
+use Rattle.eds_types.proofs.Tables.{IsIntRow}
 
 -- entries that hold a size or a check have integer types
 abbrev pub IsNumbered : Table → Part → Type 0

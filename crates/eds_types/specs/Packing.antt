@@ -1,8 +1,9 @@
 -- Where packing a value fails, and why.
-use Rattle.std.specs.Prelude.{◌≡◌, ◌≢◌, ℕ, zero, suc, ◌+◌, ◌<◌, min, ℤ, pos, List, [], ◌∷◌, length, false, Option, Some, None, IsSome, ◌⊎◌, if◌then◌else◌, slice_get, IsTrue}
+use Rattle.std.specs.Prelude.{◌≡◌, ◌≢◌, ℕ, zero, suc, ◌+◌, ◌<◌, min, ℤ, pos, List, [], ◌∷◌, length, Bool, false, Option, Some, None, IsSome, ◌⊎◌, if◌then◌else◌, slice_get, IsTrue}
 use Rattle.eds_base.specs.declared.fault.Step.{Step}
 use Rattle.eds_base.specs.declared.fault.Step.TheVariants as step
 use Rattle.eds_base.specs.Spans.{IsWithin}
+use Rattle.eds_base.specs.declared.spans.Span.{Span}
 use Rattle.eds_bits.specs.declared.forms.TextForm.{TextForm}
 use Rattle.eds_bits.specs.Lists.{Has}
 use Rattle.eds_bits.specs.Bits.{Bits, octets_of}
@@ -26,6 +27,7 @@ pub record PackFault : Type 0 where
   pub reason : PackReason
   pub path : List Step
 
+-- the fault of this reason at this path
 abbrev pub pack_fault_at : PackReason → List Step → PackFault
 pack_fault_at why path = record { reason = why; path = path }
 
@@ -54,6 +56,7 @@ module _ (t : Table) (FailsInner : ℕ → Plain → PackFault → Type 0) (fs :
   abbrev pub Tells : ℕ → ℕ → List Plain → Type 0
   Tells y i vs = value_at fs y i ≡ Some (num (pos (length vs)))
 
+  -- where packing a list fails: it is none; or the entry at y, i tells another number; or an item fails
   abbrev pub ListPackFails : ℕ → ℕ → ℕ → Option Plain → PackFault → Type 0
   ListPackFails id y i None g = ⊥
   ListPackFails id y i (Some (num n)) g = g ≡ pack_fault_here reason.WrongKind
@@ -124,25 +127,63 @@ module _ (t : Table) (SpellsInner : ℕ → Plain → Bits → Type 0) (FailsInn
   abbrev pub NoSizeFits : ℕ → List Field → Type 0
   NoSizeFits k fs = (u : Progress) (b : Bits) → PartsPass canonical t SpellsInner started (sequence t k) u b → u.fields ≡ fs → SizeFits u → ⊥
 
-  -- the fields f of k where the type s is packed: not the fields of a container; one that isn't at or under s; an
-  -- abstract one; or else the first station of its own course that they don't pass
-  abbrev pub ContainerPackFails : ℕ → ℕ → List Plain → PackFault → Type 0
-  ContainerPackFails s k f g =
-      ((HasFields t k f → ⊥) × (g ≡ pack_fault_here reason.WrongKind))
-      ⊎ (HasFields t k f × (IsAtOrUnder t s k → ⊥) × (g ≡ pack_fault_at reason.NotDerived (step.Choice (id_of k) ∷ [])))
-      ⊎ (HasFields t k f × IsAtOrUnder t s k × (is_concrete t k ≡ false) × (g ≡ pack_fault_at reason.Abstract (step.Choice (id_of k) ∷ [])))
-      ⊎ (HasFields t k f × IsAtOrUnder t s k × IsTrue (is_concrete t k) × FirstPackFails t FailsInner (paired (sequence t k) f) (NoSizeFits k (paired (sequence t k) f)) k (course t k k) g)
+  -- they aren't the fields of a container
+  abbrev pub HasOtherFields : ℕ → List Plain → PackFault → Type 0
+  HasOtherFields k f g = (HasFields t k f → ⊥) × (g ≡ pack_fault_here reason.WrongKind)
 
-  -- a value of the right kind
+  -- of one that neither is the type s nor derives from it
+  abbrev pub IsNotDerived : ℕ → ℕ → List Plain → PackFault → Type 0
+  IsNotDerived s k f g = HasFields t k f × (IsAtOrUnder t s k → ⊥) × (g ≡ pack_fault_at reason.NotDerived (step.Choice (id_of k) ∷ []))
+
+  -- of one that does, but is abstract
+  abbrev pub IsAbstract : ℕ → ℕ → List Plain → PackFault → Type 0
+  IsAbstract s k f g = HasFields t k f × IsAtOrUnder t s k × (is_concrete t k ≡ false) × (g ≡ pack_fault_at reason.Abstract (step.Choice (id_of k) ∷ []))
+
+  -- the first station of its own course that the fields don't pass
+  abbrev pub OwnCourseFails : ℕ → List Plain → PackFault → Type 0
+  OwnCourseFails k f g = let fs = paired (sequence t k) f in FirstPackFails t FailsInner fs (NoSizeFits k fs) k (course t k k) g
+
+  -- of a concrete one
+  abbrev pub CourseFails : ℕ → ℕ → List Plain → PackFault → Type 0
+  CourseFails s k f g = HasFields t k f × IsAtOrUnder t s k × IsTrue (is_concrete t k) × OwnCourseFails k f g
+
+  -- the fields f of k, where the type s is packed
+  abbrev pub ContainerPackFails : ℕ → ℕ → List Plain → PackFault → Type 0
+  ContainerPackFails s k f g = HasOtherFields k f g ⊎ IsNotDerived s k f g ⊎ IsAbstract s k f g ⊎ CourseFails s k f g
+
+  -- ---- a value of the right kind
+
+  -- a number that isn't of the domain
+  abbrev pub NumberFails : List Span → Plain → PackFault → Type 0
+  NumberFails spans v g = (n : ℤ) × (v ≡ num n) × (IsWithin spans n → ⊥) × (g ≡ pack_fault_here reason.OutOfRange)
+
+  -- a label that isn't listed
+  abbrev pub LabelFails : List (List ℕ × ℤ) → Plain → PackFault → Type 0
+  LabelFails listing v g = (l : List ℕ) × (v ≡ label l) × (listed listing l ≡ None) × (g ≡ pack_fault_here reason.NoLabel)
+
+  -- a text that isn't one of its form, or else is too long
+  abbrev pub TextFails : TextForm → List ℕ → PackFault → Type 0
+  TextFails form s g = ((TextFits form s → ⊥) × (g ≡ pack_fault_here reason.BadText)) ⊎ (TextFits form s × (form.length < length s) × (g ≡ pack_fault_here reason.WrongSize))
+
+  -- bits of another number, or with octets that aren't theirs
+  abbrev pub BinaryFails : ℕ → Bool → Plain → PackFault → Type 0
+  BinaryFails n free v g = (m : ℕ) × (o : List ℕ) × (v ≡ bits m o) × ((BinHas n free m × IsFilled m o) → ⊥) × (g ≡ pack_fault_here reason.WrongSize)
+
+  -- another number of items than n, or else the first item that fails
+  abbrev pub ItemsFail : ℕ → ℕ → List Plain → PackFault → Type 0
+  ItemsFail item n vs g = ((length vs ≢ n) × (g ≡ pack_fault_here reason.WrongSize)) ⊎ ((length vs ≡ n) × ItemPackFails (FailsInner item) 0 vs g)
+
+  -- why a value of the kind's own sort fails
   abbrev pub OfKindFails : ℕ → Kind → Plain → PackFault → Type 0
-  OfKindFails id (kind.Int form spans) v g = (n : ℤ) × (v ≡ num n) × (IsWithin spans n → ⊥) × (g ≡ pack_fault_here reason.OutOfRange)
-  OfKindFails id (kind.Enum form listing) v g = (l : List ℕ) × (v ≡ label l) × (listed listing l ≡ None) × (g ≡ pack_fault_here reason.NoLabel)
+  OfKindFails id (kind.Int form spans) v g = NumberFails spans v g
+  OfKindFails id (kind.Enum form listing) v g = LabelFails listing v g
   OfKindFails id (kind.Bool form) v g = ⊥
-  OfKindFails id (kind.Str form) v g = (s : List ℕ) × (v ≡ text s) × (((TextFits form s → ⊥) × (g ≡ pack_fault_here reason.BadText)) ⊎ (TextFits form s × (form.length < length s) × (g ≡ pack_fault_here reason.WrongSize)))
-  OfKindFails id (kind.Bin n free) v g = (m : ℕ) × (o : List ℕ) × (v ≡ bits m o) × ((BinHas n free m × IsFilled m o) → ⊥) × (g ≡ pack_fault_here reason.WrongSize)
-  OfKindFails id (kind.Arr item n) v g = (vs : Plains) × (v ≡ items vs) × (((length (list_of vs) ≢ n) × (g ≡ pack_fault_here reason.WrongSize)) ⊎ ((length (list_of vs) ≡ n) × ItemPackFails (FailsInner item.0) 0 (list_of vs) g))
+  OfKindFails id (kind.Str form) v g = (s : List ℕ) × (v ≡ text s) × TextFails form s g
+  OfKindFails id (kind.Bin n free) v g = BinaryFails n free v g
+  OfKindFails id (kind.Arr item n) v g = (vs : Plains) × (v ≡ items vs) × ItemsFail item.0 n (list_of vs) g
   OfKindFails id (kind.Con c) v g = (k : ℕ) × (f : Plains) × (v ≡ fields k f) × ContainerPackFails id k (list_of f) g
 
+  -- why a value fails as one of the kind
   abbrev pub KindPackFails : ℕ → Kind → Plain → PackFault → Type 0
   KindPackFails id k v g = ((IsOfKind k v → ⊥) × (g ≡ pack_fault_here reason.WrongKind)) ⊎ OfKindFails id k v g
 

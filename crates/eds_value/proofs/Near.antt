@@ -18,7 +18,7 @@ use Rattle.eds_types.specs.Plain.{Plain}
 use Rattle.eds_types.specs.Rows.{Table, address, chain, list_has, Placed, sequence}
 use Rattle.eds_types.specs.Rules.{KeepsRules}
 use Rattle.eds_types.specs.Fields.{IsAtOrUnder, type_by}
-use Rattle.eds_types.specs.Tables.{IsTable, IsItemType}
+use Rattle.eds_types.proofs.Tables.{IsTable, IsItemType}
 use Rattle.eds_types.proofs.FieldTypes.{IsPlaced, sequence_placed}
 use Rattle.eds_types.proofs.Ranks.{Lower, sequence_lower}
 use Rattle.eds_types.proofs.ReadingTests.{has_from}
