@@ -23,14 +23,13 @@ use Rattle.eds_names.specs.Repeats.{is_among}
 use Rattle.eds_names.specs.LookUp.{Names, AreApart, NamesDiffer, look_up, names_in}
 use Rattle.eds_names.proofs.Differing.{differ}
 use Rattle.eds_types.specs.declared.row.TypeRow.{TypeRow}
-use Rattle.eds_types.specs.declared.row.Kind.{Kind}
 use Rattle.eds_types.specs.declared.row.Kind.TheVariants as kind
 use Rattle.eds_types.specs.declared.row.Container.{Container}
 use Rattle.eds_types.specs.declared.row.Part.{Part}
 use Rattle.eds_types.specs.declared.row.Part.TheVariants as part
 use Rattle.eds_types.specs.Rows.{base_in, base_of, container_by, container_in, container_of, number_of_id, entries_in}
 use Rattle.eds_types.specs.Sizes.{open_of}
-use Rattle.eds_types.specs.Rules.{AreDistinct, IsListing, KindKeeps, HasKind, IsScalarKind, DerivesFrom, IsNested, name_of, KeepsRules}
+use Rattle.eds_types.specs.Rules.{AreDistinct, IsListing, KindKeeps, HasKind, DerivesFrom, IsNested, name_of, KeepsRules}
 use Rattle.eds_read_types.specs.declared.numbers.FormAndDomain.{FormAndDomain}
 use Rattle.eds_read_types.specs.Places.{element, is_element, is_container, is_sub_range, is_number, attribute, own_name, elements, types, type_places}
 use Rattle.eds_read_types.specs.References.{references, row_for, judged_text, judged_by, judged_at, broken_with}
@@ -62,7 +61,7 @@ use Rattle.eds_read_types.proofs.SheetPlaces.{at_one, each-none as nowhere, of_t
 use Rattle.eds_read_types.proofs.Limits.{few_types, length-rows}
 use Rattle.eds_read_types.proofs.LawFacts.{name_apart, enumerated_unbroken}
 use Rattle.eds_read_types.proofs.PlainRules.{EntryKeeps, IsPlainKind, KeepsRow, ArePlainRows, keeps_by_rows}
-use Rattle.eds_read_types.proofs.PartFacts.{rank_by, few_ranks, mapped_there, placed_all, all_mapped, no_item, part_none}
+use Rattle.eds_read_types.proofs.PartFacts.{rank_by, few_ranks, mapped_there, placed_all, part_none}
 use Rattle.eds_read_types.proofs.PartNames.{among_has, names_distinct, padding_keeps}
 use Rattle.eds_read_types.proofs.Found.{id_there}
 use Rattle.eds_read_types.proofs.SortFacts.{sort_named, binary_keeps}
@@ -460,9 +459,13 @@ module _ (trees : List (List Node)) (names : Names) (word : Option (List ℕ)) (
           let r = row_at trees names 0 (types names) id row e id (omega arith) in
           subst (KeepsRow (table_rows trees names) rank id) (sym r.is) (keeps_row id r.declared r.there (ap has_few_entries (sym r.is) ∙ h))
 
--- ---- the law
+-- ---- the laws
 
--- the rows of a sheet that is not refused keep the rules
+-- the rows of a sheet that is not refused are plain
+pub table_plain : (trees : List (List Node)) (names : Names) (word : Option (List ℕ)) → shape_verdict trees ≡ Ok tt → names_in trees ≡ Ok names → least (table_breaks trees names word) ≡ None → ArePlainRows (table_rows trees names)
+table_plain trees names word shaped named none =
+    plain_rows trees names word named (unbroken trees names word (least-none (table_breaks trees names word) none)) (differ trees names named) (few_types trees names shaped named)
+
+-- they keep the rules
 pub table_keeps : (trees : List (List Node)) (names : Names) (word : Option (List ℕ)) → shape_verdict trees ≡ Ok tt → names_in trees ≡ Ok names → least (table_breaks trees names word) ≡ None → KeepsRules (table_rows trees names)
-table_keeps trees names word shaped named none =
-    keeps_by_rows (table_rows trees names) (plain_rows trees names word named (unbroken trees names word (least-none (table_breaks trees names word) none)) (differ trees names named) (few_types trees names shaped named))
+table_keeps trees names word shaped named none = keeps_by_rows (table_rows trees names) (table_plain trees names word shaped named none)
