@@ -9,7 +9,10 @@ mod BaseSteps
 mod NumberSteps
 mod RowSteps
 pub mod SheetPlaces
+pub mod LevelFacts
+pub mod NestingFacts
 mod Unbroken
+pub mod EmptyFacts
 pub mod TableFacts
 pub mod PlainRules
 pub mod PartFacts

@@ -18,11 +18,9 @@ pub mod Unresolved
 pub mod WrongKind
 pub mod BaseCycle
 pub mod LimitChain
-pub mod UnsupportedEntry
 pub mod BadEncoding
 pub mod EmptyRange
 pub mod BadEnumeration
-pub mod EmptyType
 pub mod DuplicateEntry
 pub mod Unbroken
 pub mod Numbers
@@ -30,6 +28,10 @@ pub mod PartRows
 pub mod TableRows
 pub mod Used
 pub mod Parts
+pub mod Nesting
+pub mod TypeCycle
+pub mod LimitNesting
+pub mod EmptyType
 pub mod LengthField
 pub mod TableBreaks
 pub mod TableRead

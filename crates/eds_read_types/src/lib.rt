@@ -17,6 +17,7 @@ mod form;
 pub mod law;
 mod length_field;
 mod limit_chain;
+mod limit_nesting;
 mod listing;
 mod named_trees;
 mod numbers;
@@ -32,8 +33,8 @@ mod sort;
 mod table;
 mod table_row;
 mod text_form;
+mod type_cycle;
 mod unresolved;
-mod unsupported_entry;
 mod used;
 mod wrong_kind;
 

@@ -18,6 +18,7 @@ use crate::table_row::table_rows;
 use crate::used::used_types;
 use eds_base::{Fail, Memory, Refusal, TypeId};
 use eds_names::Space;
+use eds_nesting::{endless_met, families, nesting};
 use eds_tree::Trees;
 use eds_types::{TypeRows, TypeTable, Used};
 use std::alloc::Global;
@@ -50,12 +51,30 @@ fn typed_of(alloc: Global, sheet: &NamedTrees, rows: TypeRows) -> Result<SheetTy
     })
 }
 
+/// The first break of all rules on the types of a sheet, of which the rows are given.
+fn least_of(alloc: Global, graph: &BaseGraph, rows: &TypeRows) -> Result<Option<Refusal>, Memory>
+    requires read { rows.now ≡ table_rows_of graph.now.sheet.now.trees.now graph.now.sheet.now.space.now }
+    ensures { IfOk result (λ r. r ≡ least (table_breaks graph.now.sheet.now.trees.now graph.now.sheet.now.space.now (option_map (λ w. w.now) graph.now.sheet.now.asked))) }
+{
+    let families = families(alloc, rows.as_slice())?;
+    let nesting = nesting(alloc, rows.as_slice(), &families)?;
+    let endless = endless_met(alloc, rows.as_slice(), &families)?;
+    let sheet = SheetRows {
+        graph,
+        rows,
+        families: &families,
+        nesting: &nesting,
+        endless: &endless,
+    };
+    least_break(alloc, &sheet)
+}
+
 #[tactic(auto, unfolding(crate::specs::TableRead::table_read))]
 fn read_graph(alloc: Global, graph: &BaseGraph) -> Result<SheetTypes, Fail<Refusal>>
     ensures { Answers (λ t. t) result (table_read graph.now.sheet.now.trees.now graph.now.sheet.now.space.now (option_map (λ w. w.now) graph.now.sheet.now.asked)) }
 {
     let rows = table_rows(alloc, graph)?;
-    let found = least_break(alloc, &SheetRows { graph, rows: &rows })?;
+    let found = least_of(alloc, graph, &rows)?;
     match found {
         Some(refusal) => Err(Fail::Named(refusal)),
         None => Ok(typed_of(alloc, graph.sheet, rows)?),
@@ -65,9 +84,9 @@ fn read_graph(alloc: Global, graph: &BaseGraph) -> Result<SheetTypes, Fail<Refus
 /// Reads the types of a sheet (CCSDS 876.0-B, data types), of which `space` has the names: their table, those that are used, and
 /// the one that the TYPE word `asked` names, where one is given; or the first rule that is broken, by phase, then by place, then by
 /// number: a reference to a type finds nothing or no type, or the base of a
-/// sub-range is no integer type or sub-range; a type is its own base, more than 16 types are in a chain of bases, or an entry is
-/// a container; a type has no form, an integer type or sub-range no numbers, or an enumerated type no good list of labels; two
-/// entries of a container have one name, or the TYPE word names a container without entries. The elements of the sheet are as they
+/// sub-range is no integer type or sub-range; a type is its own base, more than 16 types are in a chain of bases, a type reaches
+/// itself, or more than 32 types are nested; a type has no form, an integer type or sub-range no numbers, or an enumerated type no good list of labels; two
+/// parts of a container have one name, or a part or the TYPE word names a type without bits. The elements of the sheet are as they
 /// should be, so that there are at most 4,096 types, with at most 32,767 entries each.
 pub fn read_types(
     alloc: Global,
