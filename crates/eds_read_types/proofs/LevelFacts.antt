@@ -25,10 +25,10 @@ ended (suc n) t id e = go (base_of t id) refl (λ base. ended n t base)
 
 -- a type's bases end where its base's do
 pub same_end : (t : Table) (id base : ℕ) → base_of t id ≡ Some base → base_of t (topmost t id) ≡ None → topmost t id ≡ topmost t base
+unfolding base_after
 same_end t id base e none = go (length t) none
   where
     go : (n : ℕ) → base_of t (base_after n t id) ≡ None → base_after n t id ≡ base_after n t base
-    unfolding base_after
     go zero h = let both : Some base ≡ None = sym e ∙ h in cc
     go (suc n) h =
         let is : base_after (suc n) t id ≡ base_after n t base = ap (after_base (base_after n t) id) e in

@@ -17,9 +17,11 @@ pub mod TableFacts
 pub mod PlainRules
 pub mod PartFacts
 pub mod PartNames
+pub mod FaceFacts
 pub mod SortFacts
 pub mod Found
 pub mod ChainFacts
+pub mod Circles
 pub mod NumberFacts
 pub mod TableRules
 pub mod Limits

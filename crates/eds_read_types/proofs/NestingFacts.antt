@@ -141,6 +141,10 @@ module _ (t : Table) (l : HasLevels t) where
     within : one < length t
     is : topmost t one ≡ c
 
+  -- it is, if it is a number
+  abbrev P : ℕ → Type 0
+  P c = c < length t → IsNamed c
+
   module _ (apart : (id : ℕ) → id < length t → is_circular (course_of t id) ≡ false) where
     clear : (id : ℕ) → id < length t → reaches_circle (holding t (families t)) (topmost t id) ≡ false
     clear id lt = not-true (reaches_circle (holding t (families t)) (topmost t id)) (λ e.
@@ -149,9 +153,6 @@ module _ (t : Table) (l : HasLevels t) where
         let within = leads-within (holding t (families t)) p.one p.one circle in
         against p.one circle (named p.one (met-or (holding t (families t)) (topmost t id) p.one (and-left (is_met (holding t (families t)) (topmost t id) p.one) (is_on_circle (holding t (families t)) p.one) p.test)) (omega (arith, within, long))))
       where
-        abbrev P : ℕ → Type 0
-        P c = c < length t → IsNamed c
-
         own : P (topmost t id)
         own h = record { one = id; within = lt; is = refl }
 

@@ -33,5 +33,7 @@ pub mod TypeCycle
 pub mod LimitNesting
 pub mod EmptyType
 pub mod LengthField
+pub mod FaceReferences
+pub mod FaceRules
 pub mod TableBreaks
 pub mod TableRead

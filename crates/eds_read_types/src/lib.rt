@@ -13,6 +13,8 @@ mod element;
 mod empty_range;
 mod empty_type;
 mod entry;
+mod face_reference;
+mod face_rules;
 mod form;
 pub mod law;
 mod length_field;

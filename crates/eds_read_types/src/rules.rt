@@ -14,6 +14,7 @@ use crate::breaks::{PlaceRule, TypeRule, least_over, least_over_types};
 use crate::duplicate_entry::DuplicateEntry;
 use crate::empty_range::{EmptyRange, EmptySubRange};
 use crate::empty_type::{EmptyItem, EmptyPart, EmptyWord};
+use crate::face_rules::{AtFaces, OpenInFace, UnresolvedInFace, WrongKindInFace};
 use crate::length_field::LengthField;
 use crate::limit_chain::LimitChain;
 use crate::limit_nesting::LimitNesting;
@@ -140,7 +141,13 @@ impl<R: ReferenceRule> SheetRule for AtReferences<R> {
 
 // ---- all rules
 
-type References = And<AtReferences<Unresolved>, And<AtReferences<WrongKind>, NoRule>>;
+type References = And<
+    AtReferences<Unresolved>,
+    And<
+        AtReferences<WrongKind>,
+        And<AtFaces<UnresolvedInFace>, And<AtFaces<WrongKindInFace>, NoRule>>,
+    >,
+>;
 
 type Bases = And<
     AtNumbers<BaseCycle>,
@@ -156,7 +163,10 @@ type EmptyType = And<AtRows<AtParts<EmptyPart>>, And<AtRows<EmptyItem>, EmptyWor
 
 type Containers = And<
     EmptyType,
-    And<AtTypes<DuplicateEntry>, And<AtRows<AtParts<LengthField>>, NoRule>>,
+    And<
+        AtTypes<DuplicateEntry>,
+        And<AtRows<AtParts<LengthField>>, And<AtFaces<OpenInFace>, NoRule>>,
+    >,
 >;
 
 type TypeRules = Then<References, Then<Bases, Then<Scalars, Then<Containers, NoRule>>>>;

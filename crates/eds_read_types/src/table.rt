@@ -10,6 +10,7 @@ ghost use Rattle.eds_read_types.specs.TableBreaks.{table_breaks};
 ghost use Rattle.eds_read_types.specs.TableRead.{typed_of, table_read};
 
 use crate::base_graph::{BaseGraph, bases_of, cycles_of};
+use crate::face_reference::push_face_types;
 use crate::named_trees::{NamedTrees, elements, type_places};
 use crate::reference::word_type;
 use crate::rules::least_break;
@@ -28,8 +29,8 @@ use std::alloc::Global;
 pub struct SheetTypes {
     /// A row for each declared type, at its `TypeId`: in the order of files and elements.
     pub table: TypeTable,
-    /// The types that parts and arrays name, in the order of types and parts, and then that of the TYPE word. An open binary is none
-    /// of them.
+    /// The types that parts and arrays name, in the order of types and parts, then that of the TYPE word, and then those that
+    /// parameters, arguments and maps of interfaces name. An open binary is none of them.
     pub used: Used,
     /// The type that the TYPE word names, where there is a TYPE word.
     pub asked_type: Option<TypeId>,
@@ -42,7 +43,8 @@ fn typed_of(alloc: Global, sheet: &NamedTrees, rows: TypeRows) -> Result<SheetTy
     ensures { IfOk result (λ t. t ≡ typed_of sheet.now.trees.now sheet.now.space.now (option_map (λ w. w.now) sheet.now.asked)) }
 {
     let asked_type = word_type(alloc, sheet)?;
-    let used = used_types(alloc, &rows, asked_type)?;
+    let mut used = used_types(alloc, &rows, asked_type)?;
+    push_face_types(alloc, &mut used, sheet)?;
     let table = TypeTable::of(alloc, rows)?;
     Ok(SheetTypes {
         table,
