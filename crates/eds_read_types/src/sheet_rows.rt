@@ -27,16 +27,13 @@ use std::marker::PhantomData;
 pub(crate) struct SheetRows<'a> {
     pub(crate) graph: &'a BaseGraph<'a>,
     pub(crate) rows: &'a TypeRows,
-    /// For each type the family that it belongs to.
-    pub(crate) families: &'a [usize],
     /// For each type where the ways go on which its family holds others.
     pub(crate) nesting: &'a [Course],
     /// For each type whether its family has bases that go in a circle, or reaches one that has.
     pub(crate) endless: &'a [bool],
     ghost read: { rows.now ≡ table_rows graph.now.sheet.now.trees.now graph.now.sheet.now.space.now },
-    ghost grouped: { families.now ≡ families_of rows.now },
-    ghost nested: { nesting.now ≡ nesting_of rows.now families.now },
-    ghost met: { endless.now ≡ endless_met_of rows.now families.now },
+    ghost nested: { nesting.now ≡ nesting_of rows.now (families_of rows.now) },
+    ghost met: { endless.now ≡ endless_met_of rows.now (families_of rows.now) },
 }
 
 impl<'a> SheetRows<'a> {
