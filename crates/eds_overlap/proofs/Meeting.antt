@@ -1,6 +1,6 @@
 -- Which pairs of containers overlap, by their sets.
 use Rattle.std.proofs.Common.{◌≡◌, ℕ, zero, suc, ◌+◌, ◌<◌, ◌≤◌, ℤ, Bool, true, false, cond, List, [], ◌∷◌, ◌++◌, length, map, get_or, take, Option, Some, None, refl, sym, ap, subst, ◌∙◌, arith, inl, inr}
-use Rattle.std.specs.Prelude.{slice_get, ◌⊎◌, IsTrue, IfSome, IfNone}
+use Rattle.std.specs.Prelude.{slice_get, ◌⊎◌, IfSome, IfNone}
 use Rattle.std.proofs.lemmas.Bool.{cases_lt, both_ways}
 use Rattle.std.proofs.lemmas.Option.{slice_get_past}
 use Rattle.std.specs.List.{AllByRecursion}
@@ -12,14 +12,14 @@ use Rattle.eds_bits.specs.Lists.{Has, HasOne}
 use Rattle.eds_types.specs.declared.row.Constraint.{Constraint}
 use Rattle.eds_types.specs.declared.sets.PathSet.{PathSet}
 use Rattle.eds_types.specs.Rows.{Table, id_of, chain, is_concrete, concrete_in, container_in}
-use Rattle.eds_types.specs.Fields.{StartsInEntries, IsAtOrUnder, constraints_along}
+use Rattle.eds_types.specs.Fields.{StartsInEntries, constraints_along}
 use Rattle.eds_types.specs.Domains.{InDomain}
 use Rattle.eds_types.specs.Rules.{KeepsRules}
 use Rattle.eds_types.specs.Overlap.{IsSolution, IsConstrained, Overlapping}
 use Rattle.eds_types.proofs.AllOf.{All-weaker, All-both, All-front, All-back, All-at}
 use Rattle.eds_types.proofs.ChainLaws.{same_chain}
 use Rattle.eds_types.proofs.RuleFacts.{table_of}
-use Rattle.eds_overlap.specs.Pairs.{Steps, IsSolved, AreSets, AllSets, Agrees, ArePartedAt, IsReadThrough, IsFirstWith, IsFirstPair, IsWithinOn, Meets, same_path, set_on, shared}
+use Rattle.eds_overlap.specs.Pairs.{Steps, IsSolved, AreSets, AllSets, Agrees, ArePartedAt, IsFirstWith, IsFirstPair, IsWithinOn, Meets, same_path, set_on, shared}
 use Rattle.eds_overlap.proofs.Solutions.{same_is, on_none, one_later}
 use Rattle.eds_overlap.proofs.Parting.{shared_is}
 
