@@ -4,3 +4,5 @@ pub mod Pairs
 pub mod FirstOverlap
 pub mod Underived
 pub mod Used
+pub mod PathTexts
+pub mod Common
