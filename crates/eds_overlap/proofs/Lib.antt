@@ -24,3 +24,4 @@ pub mod Meeting
 pub mod UsedTypes
 pub mod Gathering
 pub mod CommonNumbers
+pub mod ToldApart

@@ -5,3 +5,4 @@ pub mod Underived
 pub mod Used
 pub mod PathTexts
 pub mod Common
+pub mod Marks

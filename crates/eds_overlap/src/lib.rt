@@ -4,6 +4,7 @@
 mod common;
 mod find;
 pub mod law;
+mod marks;
 mod paths;
 mod sets;
 mod texts;
