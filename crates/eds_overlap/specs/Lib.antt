@@ -7,3 +7,4 @@ pub mod Used
 pub mod PathTexts
 pub mod Common
 pub mod Marks
+pub mod Notes

@@ -85,23 +85,46 @@ fn mark_by(alloc: Global, sets: &[Sets], model: TypeId, id: TypeId) -> Result<Op
     }
 }
 
-// The mark of a container by the model of the one before it, or else by itself.
+// The mark of a container by the model of the one before it, if that is a sibling, or else by itself.
 fn next_mark(
     alloc: Global,
+    table: &TypeTable,
     sets: &[Sets],
     model: Option<TypeId>,
     id: TypeId,
 ) -> Result<Option<Mark>, Memory>
+    requires size { length sets.now ≡ length table.now }
     requires model { IfSome model (λ m. m.0 < length sets.now) }
     requires id { id.0 < length sets.now }
     ensures mark { IfOk result (λ mark. IfSome mark (λ m. HasMark sets.now id.0 m)) }
     ensures model { IfOk result (λ mark. IfSome mark (λ m. m.model.0 < length sets.now)) }
 {
     match model {
-        Some(model) => match mark_by(alloc, sets, model, id)? {
-            Some(mark) => Ok(Some(mark)),
-            None => mark_by(alloc, sets, id, id),
-        },
+        Some(model) => {
+            if table.row(model).base == table.row(id).base {
+                sibling_mark(alloc, sets, model, id)
+            } else {
+                mark_by(alloc, sets, id, id)
+            }
+        }
+        None => mark_by(alloc, sets, id, id),
+    }
+}
+
+// The mark of a container by a sibling, if it has one, or else by itself.
+fn sibling_mark(
+    alloc: Global,
+    sets: &[Sets],
+    model: TypeId,
+    id: TypeId,
+) -> Result<Option<Mark>, Memory>
+    requires model { model.0 < length sets.now }
+    requires id { id.0 < length sets.now }
+    ensures mark { IfOk result (λ mark. IfSome mark (λ m. HasMark sets.now id.0 m)) }
+    ensures model { IfOk result (λ mark. IfSome mark (λ m. m.model.0 < length sets.now)) }
+{
+    match mark_by(alloc, sets, model, id)? {
+        Some(mark) => Ok(Some(mark)),
         None => mark_by(alloc, sets, id, id),
     }
 }
@@ -134,7 +157,7 @@ pub(crate) fn all_marks(
     let mut marks = Items::new(alloc);
     let mut model = None;
     for id in 0..table.len() {
-        let mark = next_mark(alloc, sets, model, TypeId(id))?;
+        let mark = next_mark(alloc, table, sets, model, TypeId(id))?;
         model = model_after(&mark, model);
         marks.push(mark)?;
     }
