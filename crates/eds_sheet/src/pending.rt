@@ -17,8 +17,6 @@ fn is_pending(name: &str) -> bool
 {
     is_among(
         &[
-            "StringDataType",
-            "BinaryDataType",
             "ArrayDataType",
             "FixedValueEntry",
             "PaddingEntry",
@@ -27,7 +25,6 @@ fn is_pending(name: &str) -> bool
             "ErrorControlEntry",
             "ConstraintSet",
             "TrailerEntryList",
-            "DeclaredInterfaceSet",
             "ComponentSet",
             "StateMachineSet",
         ],
