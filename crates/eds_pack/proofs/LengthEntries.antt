@@ -93,7 +93,7 @@ module _ (t : Table) where
     entry_keeps (part.Length name id c0 c1) p e nest keep h =
         let f : LengthEntry = record { container = id_of p.container; place = p.place; id = id; c0 = c0; c1 = c1 } in
         let same : e ≡ f = cc in
-        subst EntryKeeps (sym same) (record { nests = nest; int = keep.0; scale = keep.1 })
+        subst EntryKeeps (sym same) (record { nests = nest.0; int = keep.0; scale = keep.1 })
     entry_keeps (part.Check name id c) p e nest keep h = absurd cc
 
     among_keeps : (ps : List Placed) (e : LengthEntry) → AllByRecursion (λ (p : Placed). PartNests t n p.part) ps → AllByRecursion (λ (p : Placed). PartKeeps t p p.part) ps → Some e ≡ length_among ps → EntryKeeps e

@@ -84,7 +84,7 @@ pub valued_is : (y i : ℕ) (ps : List Part) → valued (placed_from y i ps) ≡
 valued_is y i [] = refl
 valued_is y i (p ∷ ps) = ap (λ n. (if has_value p then 1 else 0) + n) (valued_is y (i + 1) ps)
 
-values_more : (xs ys : List Part) → values_in (xs ++ ys) ≡ values_in xs + values_in ys
+pub values_more : (xs ys : List Part) → values_in (xs ++ ys) ≡ values_in xs + values_in ys
 values_more [] ys = omega arith
 values_more (x ∷ xs) ys = let h = values_more xs ys in let n : ℕ = if has_value x then 1 else 0 in ap (λ m. n + m) h ∙ omega arith
 

@@ -7,7 +7,7 @@ use crate::census::lists_of;
 use crate::slow::{Slow, Spelling, bits_of};
 use eds_base::{Fail, Fault, Memory, TypeId};
 use eds_bits::BitView;
-use eds_pack::{conforms, law, pack, pack_into, packed_bits};
+use eds_pack::{conforms, pack, pack_into, packed_bits};
 use eds_types::{PackReason, TypeTable, Value};
 use eds_unpack::unpack;
 use std::alloc::Global;
@@ -50,7 +50,6 @@ fn fills_room(
     requires known { id.0 < length table.now }
     requires flat { IsFlatTable table.now }
 {
-    law::flat_is_built();
     let mut room = vec![in alloc; 0xAAu8; octets.len()]?;
     let fits = pack_into(table, id, value, room.as_mut_slice()).is_ok()
         && room.as_slice() == octets;
@@ -67,7 +66,6 @@ fn packs(alloc: Global, table: &TypeTable, id: TypeId, value: &Value) -> Result<
     requires known { id.0 < length table.now }
     requires flat { IsFlatTable table.now }
 {
-    law::flat_is_built();
     match pack(alloc, table, id, value) {
         Ok((octets, size)) => Ok(
             conforms(table, id, value)
@@ -92,7 +90,6 @@ fn numbers_amiss(table: &TypeTable, id: TypeId, values: &[Value]) -> u32
     requires known { id.0 < length table.now }
     requires flat { IsFlatTable table.now }
 {
-    law::flat_is_built();
     let mut amiss = 0u32;
     for count in 0..600u32 {
         let number = i128::from(count).wrapping_sub(300);
