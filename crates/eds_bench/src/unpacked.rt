@@ -1,7 +1,7 @@
 //! Packets unpacked by the sheet.
 
 ghost use Rattle.std.specs.Prelude.{◌≡◌, ◌<◌, length};
-ghost use Rattle.eds_types.specs.FlatTables.{IsFlatTable};
+ghost use Rattle.eds_types.specs.Overlap.{IsClear};
 
 use crate::packet_sheet::packet_sheet;
 use crate::sequence::{PACKET_OCTETS, Sequence};
@@ -43,7 +43,7 @@ fn unpack_packet(
     octets: &[u8],
 ) -> Result<Value, Fail<Fault>>
     requires known { id.0 < length table.now }
-    requires flat { IsFlatTable table.now }
+    requires clear { IsClear table.now id.0 }
     requires packet { length octets.now ≡ PACKET_OCTETS }
 {
     let (packet, _) = unpack(alloc, table, id, BitView::new(octets))?;
@@ -58,7 +58,7 @@ fn sum_of_packets(
     count: u32,
 ) -> Result<u64, Fail<Fault>>
     requires known { id.0 < length table.now }
-    requires flat { IsFlatTable table.now }
+    requires clear { IsClear table.now id.0 }
 {
     let mut sequence = Sequence::new();
     let mut sum = Sum::new();

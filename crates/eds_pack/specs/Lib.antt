@@ -1,3 +1,4 @@
+pub mod BuiltTables
 pub mod Choices
 pub mod Counting
 pub mod Defaults

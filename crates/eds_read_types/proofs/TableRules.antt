@@ -23,14 +23,12 @@ use Rattle.eds_names.specs.Repeats.{is_among}
 use Rattle.eds_names.specs.LookUp.{Names, AreApart, NamesDiffer, look_up, names_in}
 use Rattle.eds_names.proofs.Differing.{differ}
 use Rattle.eds_types.specs.declared.row.TypeRow.{TypeRow}
-use Rattle.eds_types.specs.declared.row.Kind.{Kind}
 use Rattle.eds_types.specs.declared.row.Kind.TheVariants as kind
 use Rattle.eds_types.specs.declared.row.Container.{Container}
 use Rattle.eds_types.specs.declared.row.Part.{Part}
 use Rattle.eds_types.specs.Rows.{base_in, base_of, container_by, container_in, container_of, number_of_id, entries_in}
 use Rattle.eds_types.specs.Sizes.{open_of}
-use Rattle.eds_types.specs.FlatTables.{IsScalarEntry, IsFlatKind, IsFlatTable}
-use Rattle.eds_types.specs.Rules.{AreDistinct, IsListing, KindKeeps, HasKind, IsScalarKind, DerivesFrom, IsNested, name_of, KeepsRules}
+use Rattle.eds_types.specs.Rules.{AreDistinct, IsListing, KindKeeps, HasKind, DerivesFrom, IsNested, name_of, KeepsRules}
 use Rattle.eds_read_types.specs.declared.numbers.FormAndDomain.{FormAndDomain}
 use Rattle.eds_read_types.specs.Places.{element, is_element, is_container, is_sub_range, is_number, attribute, own_name, elements, types, type_places}
 use Rattle.eds_read_types.specs.References.{references, row_for, judged_text, judged_by, judged_at, broken_with}
@@ -59,7 +57,7 @@ use Rattle.eds_read_types.proofs.SheetPlaces.{at_one, each-none as nowhere, of_t
 use Rattle.eds_read_types.proofs.Limits.{few_types, length-rows}
 use Rattle.eds_read_types.proofs.LawFacts.{name_apart, enumerated_unbroken}
 use Rattle.eds_read_types.proofs.PlainRules.{EntryKeeps, IsPlainKind, KeepsRow, ArePlainRows, keeps_by_rows}
-use Rattle.eds_read_types.proofs.PartFacts.{rank_by, few_ranks, mapped_there, placed_all, all_mapped, no_item, part_none}
+use Rattle.eds_read_types.proofs.PartFacts.{rank_by, few_ranks, mapped_there, placed_all, part_none}
 use Rattle.eds_read_types.proofs.Found.{id_there}
 use Rattle.eds_read_types.proofs.SortFacts.{sort_named, binary_keeps}
 use Rattle.eds_read_types.proofs.ChainFacts.{each-none, level}
@@ -440,97 +438,13 @@ module _ (trees : List (List Node)) (names : Names) (word : Option (List ℕ)) (
           let r = row_at trees names 0 (types names) id row e id (omega arith) in
           subst (KeepsRow (table_rows trees names) rank id) (sym r.is) (keeps_row id r.declared r.there (ap has_few_entries (sym r.is) ∙ h))
 
--- ---- the law
+-- ---- the laws
 
--- the rows of a sheet that is not refused keep the rules
+-- the rows of a sheet that is not refused are plain
+pub table_plain : (trees : List (List Node)) (names : Names) (word : Option (List ℕ)) → shape_verdict trees ≡ Ok tt → names_in trees ≡ Ok names → least (table_breaks trees names word) ≡ None → ArePlainRows (table_rows trees names)
+table_plain trees names word shaped named none =
+    plain_rows trees names word named (unbroken trees names word (least-none (table_breaks trees names word) none)) (differ trees names named) (few_types trees names shaped named)
+
+-- they keep the rules
 pub table_keeps : (trees : List (List Node)) (names : Names) (word : Option (List ℕ)) → shape_verdict trees ≡ Ok tt → names_in trees ≡ Ok names → least (table_breaks trees names word) ≡ None → KeepsRules (table_rows trees names)
-table_keeps trees names word shaped named none =
-    keeps_by_rows (table_rows trees names) (plain_rows trees names word named (unbroken trees names word (least-none (table_breaks trees names word) none)) (differ trees names named) (few_types trees names shaped named))
-
--- ---- tables that are flat
-
--- a string or a binary
-abbrev pub is_octets : (name : List ℕ) → Bool
-is_octets name = same name (codes "StringDataType") || same name (codes "BinaryDataType")
-
--- the type at a place is none
-abbrev pub IsNoOctets : List (List Node) → Place → Type 0
-IsNoOctets trees at = is_octets (node_name (element trees at)) ≡ false
-
-module _ (trees : List (List Node)) (names : Names) (word : Option (List ℕ)) (named : names_in trees ≡ Ok names) (u : IsUnbroken trees names word) (none : AllByRecursion (IsNoOctets trees) (type_places names)) where
-  abbrev rows : List TypeRow
-  rows = table_rows trees names
-
-  -- a type that is no container is scalar
-  scalar_there : (id : ℕ) (d : Declared) → slice_get (types names) id ≡ Some d → is_container trees d.place ≡ false → IsScalarKind (kind_of trees names id d.place)
-  scalar_there id d there is = rw is (in_tree (slice_get trees d.place.file) (at_one (IsNoOctets trees) (type_places names) none id d.place (place_there (types names) id d there)))
-    where
-      octets_named : (name element : List ℕ) → is_octets element ≡ true → same name element ≡ true → is_octets name ≡ false → ⊥
-      octets_named name element h e f = clash (is_octets name) f (subst (λ n. is_octets n ≡ true) (sym ((bytes_eq-Decides name element).0 e)) h)
-
-      by_sort : (t : List Node) (s : Option Sort) → sort_of (name_at t d.place.node) ≡ s → is_octets (name_at t d.place.node) ≡ false → IsScalarKind (scalar_kind_by s t d.place.node (numbers_of trees (type_places names) (bases_of trees names) id))
-      by_sort t None e f = tt
-      by_sort t (Some sort.Integer) e f = tt
-      by_sort t (Some sort.Enumerated) e f = tt
-      by_sort t (Some sort.Boolean) e f = tt
-      by_sort t (Some sort.Text) e f = absurd (octets_named (name_at t d.place.node) (codes "StringDataType") refl (sort_named (name_at t d.place.node) sort.Text e) f)
-      by_sort t (Some sort.Binary) e f = absurd (octets_named (name_at t d.place.node) (codes "BinaryDataType") refl (sort_named (name_at t d.place.node) sort.Binary e) f)
-      by_sort t (Some sort.Array) e f = tt
-      by_sort t (Some sort.SubRange) e f = tt
-      by_sort t (Some sort.Container) e f = tt
-
-      in_tree : (o : Option (List Node)) → is_octets (node_name (o >>= λ t. slice_get t d.place.node)) ≡ false → IsScalarKind (scalar_kind_in o d.place.node (numbers_of trees (type_places names) (bases_of trees names) id))
-      in_tree None h = tt
-      in_tree (Some t) h = by_sort t (sort_of (name_at t d.place.node)) refl h
-
-  -- the entries of a container are scalar
-  entries_scalar : (id : ℕ) (d : Declared) → slice_get (types names) id ≡ Some d → container_of rows id ≡ Some (container_at trees names d.place) → AllByRecursion (IsScalarEntry rows) (map (entry_part trees names) (entries_at trees d.place))
-  entries_scalar id d there is = all_mapped (entry_part trees names) (IsScalarEntry rows) (entries_at trees d.place) (λ k q e. scalar_entry k q e)
-    where
-      scalar_entry : (k : ℕ) (q : Place) → slice_get (entries_at trees d.place) k ≡ Some q → HasKind rows (entry_id trees names q).0 IsScalarKind
-      scalar_entry k q e = go (slice_get (types names) (entry_id trees names q).0) refl
-        where
-          lt : (entry_id trees names q).0 < length (types names)
-          lt = id_there trees names q (slice_get_within (types names) id d there) named
-
-          go : (o : Option Declared) → slice_get (types names) (entry_id trees names q).0 ≡ o → HasKind rows (entry_id trees names q).0 IsScalarKind
-          go None f = absurd (no_item (types names) (entry_id trees names q).0 lt f)
-          go (Some other) f =
-              let row = row_of trees names word named u (entry_id trees names q).0 other f in
-              let bare : container_of rows (entry_id trees names q).0 ≡ None = entry_scalar trees names word named u id d there is k q e in
-              (table_row trees names (entry_id trees names q).0 other, row, scalar_there (entry_id trees names q).0 other f (not_container other (ap container_in (sym row) ∙ bare)))
-            where
-              not_container : (other : Declared) → container_by (kind_of trees names (entry_id trees names q).0 other.place) ≡ None → is_container trees other.place ≡ false
-              not_container other h = by (is_container trees other.place) refl
-                where
-                  by : (b : Bool) → is_container trees other.place ≡ b → b ≡ false
-                  by false g = refl
-                  by true g = let no : Some (container_at trees names other.place) ≡ None = rw g at h in absurd cc
-
-  flat_row : (id : ℕ) (d : Declared) → slice_get (types names) id ≡ Some d → IsFlatKind rows (base_of rows id) (kind_of trees names id d.place)
-  flat_row id d there = go (is_container trees d.place) refl
-    where
-      flat_scalar : (base : Option ℕ) (k : Kind) → IsScalarKind k → IsFlatKind rows base k
-      flat_scalar base (kind.Int form spans) s = tt
-      flat_scalar base (kind.Enum form listing) s = tt
-      flat_scalar base (kind.Bool form) s = tt
-      flat_scalar base (kind.Str form) s = absurd s
-      flat_scalar base (kind.Bin n free) s = absurd s
-      flat_scalar base (kind.Arr item n) s = absurd s
-      flat_scalar base (kind.Con c) s = absurd s
-
-      go : (b : Bool) → is_container trees d.place ≡ b → IsFlatKind rows (base_of rows id) (kind_of trees names id d.place)
-      go false is = flat_scalar (base_of rows id) (kind_of trees names id d.place) (scalar_there id d there is)
-      go true is =
-          let row = row_of trees names word named u id d there in
-          let container : container_of rows id ≡ Some (container_at trees names d.place) = ap container_in row ∙ rw is refl in
-          rw is (record { concrete = refl; root = ap base_in row ∙ ap number_of_id (no_base trees names d.place is); entries = entries_scalar id d there container; trailers = refl })
-
-  flat_rows : IsFlatTable rows
-  flat_rows id row e =
-      let r = row_at trees names 0 (types names) id row e id (omega arith) in
-      subst (λ (w : TypeRow). IsFlatKind rows (base_of rows id) w.kind) (sym r.is) (flat_row id r.declared r.there)
-
--- of a sheet without strings and binaries the rows are scalar types and flat containers
-pub table_flat : (trees : List (List Node)) (names : Names) (word : Option (List ℕ)) → names_in trees ≡ Ok names → least (table_breaks trees names word) ≡ None → AllByRecursion (IsNoOctets trees) (elements trees) → IsFlatTable (table_rows trees names)
-table_flat trees names word named none octets = flat_rows trees names word named (unbroken trees names word (least-none (table_breaks trees names word) none)) (of_types (IsNoOctets trees) trees names named octets)
+table_keeps trees names word shaped named none = keeps_by_rows (table_rows trees names) (table_plain trees names word shaped named none)

@@ -16,6 +16,7 @@ use Rattle.eds_read_types.specs.UnsupportedEntry.{breaks_flat}
 use Rattle.eds_read_types.specs.BadEncoding.{breaks_encoding}
 use Rattle.eds_read_types.specs.EmptyRange.{breaks_range, breaks_sub_range}
 use Rattle.eds_read_types.specs.BadEnumeration.{breaks_enumeration}
+use Rattle.eds_read_types.specs.EmptyType.{breaks_empty}
 use Rattle.eds_read_types.specs.DuplicateEntry.{breaks_duplicate}
 use Rattle.eds_read_types.specs.LengthField.{breaks_length}
 use Rattle.eds_read_types.specs.TableBreaks.{rules, table_breaks}
@@ -52,6 +53,7 @@ pub record IsUnbroken (trees : List (List Node)) (names : Names) (word : Option 
   pub ranges : breaks_range trees names ≡ []
   pub subs : breaks_sub_range trees names ≡ []
   pub enumerations : breaks_enumeration trees names ≡ []
+  pub empties : breaks_empty trees names word ≡ []
   pub duplicates : breaks_duplicate trees names ≡ []
   pub lengths : breaks_length trees names ≡ []
 
@@ -74,6 +76,7 @@ unbroken trees names word h =
       ranges = scalars.1.0;
       subs = scalars.1.1.0;
       enumerations = scalars.1.1.1.0;
+      empties = containers.0;
       duplicates = containers.1.0;
       lengths = containers.1.1.0;
     }

@@ -19,7 +19,7 @@ use Rattle.eds_tree.specs.ShapeCheck.{unless_broken}
 -- components and state machines
 abbrev pub pending_names : List (List ℕ)
 pending_names = map codes (
-    "StringDataType" ∷ "BinaryDataType" ∷ "ArrayDataType"
+    "ArrayDataType"
     ∷ "FixedValueEntry" ∷ "PaddingEntry" ∷ "ListEntry" ∷ "LengthEntry" ∷ "ErrorControlEntry"
     ∷ "ConstraintSet" ∷ "TrailerEntryList" ∷ "DeclaredInterfaceSet" ∷ "ComponentSet" ∷ "StateMachineSet" ∷ [])
 

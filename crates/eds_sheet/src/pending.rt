@@ -17,8 +17,6 @@ fn is_pending(name: &str) -> bool
 {
     is_among(
         &[
-            "StringDataType",
-            "BinaryDataType",
             "ArrayDataType",
             "FixedValueEntry",
             "PaddingEntry",
