@@ -1,5 +1,5 @@
 -- The number with which a length entry tells a size: nothing wraps.
-use Rattle.std.proofs.Common.{◌≡◌, ℕ, zero, suc, ◌+◌, ◌*◌, ◌/◌, ◌^◌, ◌<◌, ◌≤◌, ℤ, pos, negsuc, neg_ℤ, mul-pos, ◌+ℤ◌, ◌-ℤ◌, ◌*ℤ◌, ◌≤ℤ◌, ◌<ℤ◌, nat_abs, true, false, cond, Option, Some, None, refl, sym, ap, ap₂, subst, ◌∙◌, arith, FitsSigned}
+use Rattle.std.proofs.Common.{◌≡◌, ℕ, zero, suc, ◌+◌, ◌*◌, ◌/◌, ◌^◌, ◌<◌, ◌≤◌, ℤ, pos, negsuc, neg_ℤ, mul-pos, ◌+ℤ◌, ◌-ℤ◌, ◌*ℤ◌, nat_abs, cond, Option, Some, None, refl, sym, ap, ap₂, subst, ◌∙◌, arith, FitsSigned}
 use Rattle.std.specs.Prelude.{int_div, int_rem}
 use Rattle.std.specs.Ordering.{int_eq}
 use Rattle.std.proofs.Math.IntN.{*ℤ_comm}
@@ -7,7 +7,7 @@ use Rattle.std.proofs.Math.Nat.{mul-div_cancel_left}
 use lib.IntN.{+ℤ-neg_ℤ_cancel, +ℤ_comm}
 use Rattle.std.proofs.lemmas.Bool.{false_from_ne_true}
 use Rattle.std.proofs.lemmas.Bool.Decides.{Decides-int_eq}
-use Rattle.std.proofs.lemmas.Int.{ints, to_z-of_z, of_z-to_z, to_z_pos, fits_signed_from_abs, quot-rem, rem_below, quot_is, quot_fits, unsigned_abs-mul}
+use Rattle.std.proofs.lemmas.Int.{ints, to_z-of_z, of_z-to_z, to_z_pos, fits_signed_from_abs, quot-rem, rem_below, quot_fits}
 use mir.Syntax.{w128}
 use mir.Val.{to_z, of_z}
 use Rattle.eds_types.specs.PackedSizes.{told_by}

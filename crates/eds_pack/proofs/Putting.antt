@@ -22,7 +22,7 @@ use Rattle.eds_bits.proofs.FormLaws.{one_canonical}
 use Rattle.eds_bits.proofs.OctetLaws.{length-bits_of}
 use Rattle.eds_codec.specs.Writing.{Written, TextRefused}
 use Rattle.eds_types.specs.Fields.{Field, values_of}
-use Rattle.eds_types.specs.Plain.{Plain, truth, text, bits, items}
+use Rattle.eds_types.specs.Plain.{Plain, truth, text, bits}
 use Rattle.eds_types.specs.Spelling.{ItemsSpell}
 use Rattle.eds_pack.specs.Putting.{IsPut, HasRoom, Writes, TruthSpells, TextSpells, BitsSpell}
 

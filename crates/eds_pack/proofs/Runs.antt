@@ -1,18 +1,17 @@
 -- The parts of a container, written one after the other.
-use Rattle.std.proofs.Common.{◌≡◌, ℕ, ℤ, pos, zero, suc, ◌+◌, ◌-◌, ◌*◌, ◌<◌, ◌≤◌, ◌+ℤ◌, ◌*ℤ◌, List, [], ◌∷◌, ◌++◌, length, map, drop, take, get_or, reverse, Option, Some, None, refl, sym, ap, subst, ◌∙◌, append_assoc, append-nil, arith}
+use Rattle.std.proofs.Common.{◌≡◌, ℕ, ℤ, pos, suc, ◌+◌, ◌-◌, ◌*◌, ◌<◌, ◌≤◌, List, [], ◌∷◌, ◌++◌, length, map, drop, take, get_or, reverse, Option, refl, sym, ap, subst, ◌∙◌, append_assoc, append-nil, arith}
 use Rattle.std.specs.Prelude.{slice_get, IfSome}
-use Rattle.std.specs.List.{AllByRecursion, flat_map}
+use Rattle.std.specs.List.{flat_map}
 use Rattle.std.proofs.Math.Seq.{drop-cons, take-append_seam, take-length, take-suc}
 use Rattle.std.proofs.lemmas.List.{drop-append-le, drop-take, length-append, length-take-le, map-append, reverse-append, take-take}
 use Rattle.eds_base.specs.declared.ids.TypeId.{TypeId}
-use Rattle.eds_bits.specs.Bits.{Bits, bits_of, octets_for, with_piece}
-use Rattle.eds_bits.specs.Scalars.{check_of}
+use Rattle.eds_bits.specs.Bits.{Bits, bits_of, octets_for}
 use Rattle.eds_bits.specs.Style.{canonical}
 use Rattle.eds_bits.proofs.OctetLaws.{length-bits_of, take-bits_of}
 use Rattle.eds_types.specs.declared.row.Part.{Part}
 use Rattle.eds_types.specs.declared.row.Part.TheVariants as part
 use Rattle.eds_types.specs.Fields.{Field, field_of, values_of}
-use Rattle.eds_types.specs.Plain.{Plain, num, items}
+use Rattle.eds_types.specs.Plain.{Plain, items}
 use Rattle.eds_types.specs.Rows.{Table, Placed, id_of, chain, entries_of, trailers_of, placed_from, placed_entries, placed_trailers, sequence}
 use Rattle.eds_types.specs.Rules.{KeepsRules}
 use Rattle.eds_types.specs.Spelling.{Progress, started, ContainerSpells, PartPasses, PartsPass, SpellsWithin}
@@ -122,9 +121,6 @@ module _ (t : Table) (C : ℕ → Plain → Bits → Type 0) (octets : ℕ) (f :
     -- where the parts that are left begin
     pub half_between : (start : ℕ) → start ≤ at → before ≡ between start at old → between start end m ≡ before ++ h.c
     half_between start le is = between_put h.c start at end old m h.put le (omega (arith, long, fits)) ∙ ap (λ z. z ++ h.c) (sym is)
-
-    pub half_later : at ≤ end
-    half_later = omega (arith, (h.put).1)
 
     module _ (P : Bits → Type 0) (more : ℕ) (others : List Part) (n : Next P (before ++ h.c) more others h.d) where
       both : length h.d ≡ length n.one + length n.two

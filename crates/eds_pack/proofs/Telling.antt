@@ -1,12 +1,12 @@
 -- The numbers that the second pass works out.
-use Rattle.std.proofs.Common.{◌≡◌, ℕ, ℤ, pos, ◌+◌, ◌*◌, ◌^◌, ◌<◌, ◌≤◌, ◌+ℤ◌, ◌*ℤ◌, cond, true, List, length, Option, Some, None, Ok, Err, refl, sym, ap, subst, ◌∙◌, arith, FitsSigned, nat_abs}
+use Rattle.std.proofs.Common.{◌≡◌, ℕ, ℤ, pos, ◌^◌, ◌≤◌, ◌+ℤ◌, ◌*ℤ◌, cond, true, List, Option, Some, None, Ok, Err, sym, ap, subst, ◌∙◌, arith, FitsSigned}
 use Rattle.std.specs.Ordering.{int_eq}
 use Rattle.std.proofs.lemmas.Bool.Decides.{Decides-int_eq}
 use Rattle.std.proofs.lemmas.Int.{ints, fits_signed_from_abs}
 use mir.Syntax.{w64}
 use Rattle.eds_bits.specs.Bits.{Bits, octets_for}
 use Rattle.eds_types.specs.Packing.{PackFault}
-use Rattle.eds_types.specs.PackedSizes.{Size, own_size, packed_size_within, told_by}
+use Rattle.eds_types.specs.PackedSizes.{own_size, packed_size_within, told_by}
 use Rattle.eds_types.specs.Plain.{Plain, num}
 use Rattle.eds_types.specs.Rows.{Table}
 use Rattle.eds_types.specs.Rules.{IsScale}

@@ -1,6 +1,5 @@
 -- The default of a type: what a variable without an initial value starts with.
 use Rattle.std.specs.Prelude.{◌≡◌, ℕ, zero, suc, ℤ, pos, ◌≤ℤ◌, List, [], ◌∷◌, ◌++◌, replicate, Bool, false, Some, cond, if◌then◌else◌, slice_get, IsTrue, ◌⊎◌}
-use Rattle.eds_base.specs.declared.ids.TypeId.{TypeId}
 use Rattle.eds_base.specs.declared.spans.Span.{Span}
 use Rattle.eds_base.specs.Spans.{IsWithin}
 use Rattle.eds_bits.specs.Bits.{octets_of}

@@ -1,19 +1,17 @@
-use Rattle.std.proofs.Common.{◌≡◌, ◌+◌, ◌-◌, ◌*◌, ◌<◌, ◌≤◌, ◌++◌, [], get_or, sym, ap, ap₂, subst, ◌∙◌, map, drop, take, length, reverse, refl, arith}
-use Rattle.std.specs.Prelude.{option_map, slice_get}
+use Rattle.std.proofs.Common.{◌+◌, ◌-◌, ◌<◌, ◌≤◌, [], get_or, sym, ap, ap₂, subst, ◌∙◌, map, drop, take, length, reverse, refl, arith}
+use Rattle.std.specs.Prelude.{option_map}
 use Rattle.std.specs.Option.{option_copied}
 use Rattle.std.specs.List.{AllByRecursion}
 use Rattle.std.proofs.lemmas.List.{length-take}
 use Rattle.eds_base.specs.declared.ids.TypeId.{TypeId}
-use Rattle.eds_bits.specs.Bits.{Bits}
 use Rattle.eds_bits.specs.Style.{canonical}
 use Rattle.std.proofs.lemmas.Int.{to_z-of_z}
 use mir.Syntax.{w64}
 use Rattle.eds_types.specs.PackedSizes.{told_by}
 use Rattle.eds_types.specs.Plain.{plain, num, fields, items, plains_of}
-use Rattle.eds_types.specs.Rows.{chain, id_of}
 use Rattle.eds_types.specs.Spelling.{ContainerSpells, ItemsSpell, KindSpells, SpellsWithin}
 use Rattle.eds_pack.specs.Nesting.{IsLow, PartNests}
-use Rattle.eds_pack.specs.Putting.{HasRoom, Writes, FieldsSpell, ListSpells, PartSpells, RunSpells, between, entry_parts, own_octets, trailer_parts}
+use Rattle.eds_pack.specs.Putting.{HasRoom, Writes, FieldsSpell, ListSpells, PartSpells, between, entry_parts, own_octets, trailer_parts}
 use Rattle.eds_pack.specs.Seeking.{values_in}
 use Rattle.eds_pack.proofs.Looking.{one_value, values_few, values_left, values_more}
 use Rattle.eds_pack.proofs.Nested.{items_left}
