@@ -1,17 +1,11 @@
--- Of plain rows packing is built for all types, and each type but an open binary is clear.
-use Rattle.std.proofs.Common.{◌≡◌, ℕ, ◌+◌, List, [], ◌∷◌, slice_get, Option, Some, None, refl, sym, ap, subst}
-use Rattle.std.specs.Prelude.{true, false, IsSome}
+-- Of plain rows packing is built for all types.
+use Rattle.std.proofs.Common.{ℕ, ◌+◌, List, [], ◌∷◌, Option, sym, ap, subst}
 use Rattle.std.specs.List.{AllByRecursion}
-use Rattle.eds_types.specs.declared.row.TypeRow.{TypeRow}
 use Rattle.eds_types.specs.declared.row.Kind.{Kind}
 use Rattle.eds_types.specs.declared.row.Kind.TheVariants as kind
 use Rattle.eds_types.specs.declared.row.Part.{Part}
 use Rattle.eds_types.specs.declared.row.Part.TheVariants as part
-use Rattle.eds_types.specs.Overlap.{IsClear}
-use Rattle.eds_types.specs.Rows.{Table, base_in, base_of, container_by, container_in, Placed, placed_from}
-use Rattle.eds_types.specs.Sizes.{open_of}
-use Rattle.eds_overlap.specs.Underived.{HasNoBases}
-use Rattle.eds_overlap.proofs.UnderivedTables.{underived_are_clear}
+use Rattle.eds_types.specs.Rows.{Table, base_in, base_of, Placed, placed_from}
 use Rattle.eds_pack.specs.BuiltTables.{IsBuiltPart, IsBuiltKind, IsBuiltTable}
 use Rattle.eds_read_types.proofs.PlainRules.{PartFits, EntryKeeps, IsPlainKind, ArePlainRows}
 
@@ -38,26 +32,3 @@ kind_built t rank id base (kind.Con c) h = record { concrete = h.concrete; root 
 
 pub plain_built : (t : Table) → ArePlainRows t → IsBuiltTable t
 plain_built t plain id row e = kind_built t plain.rank id (base_of t id) row.kind (subst (λ base. IsPlainKind t plain.rank id base row.kind) (sym (ap base_in e)) (plain.rows id row e).plain)
-
-never : false ≡ true → ⊥
-never e = cc
-
-root_by : (base : Option ℕ) (k : Kind) → IsBuiltKind base k → IsSome (container_by k) → base ≡ None
-root_by base (kind.Int form spans) b h = absurd (never h)
-root_by base (kind.Enum form listing) b h = absurd (never h)
-root_by base (kind.Bool form) b h = absurd (never h)
-root_by base (kind.Str form) b h = absurd (never h)
-root_by base (kind.Bin n free) b h = absurd (never h)
-root_by base (kind.Arr item n) b h = absurd (never h)
-root_by base (kind.Con c) b h = b.root
-
-built_roots : (t : Table) → IsBuiltTable t → HasNoBases t
-built_roots t built id is = go (slice_get t id) refl is
-  where
-    go : (o : Option TypeRow) → slice_get t id ≡ o → IsSome (container_in o) → base_of t id ≡ None
-    go None e h = absurd (never h)
-    go (Some row) e h = root_by (base_of t id) row.kind (built id row e) h
-
--- no two containers overlap, since none derives from another one
-pub built_clear : (t : Table) → IsBuiltTable t → (id : ℕ) → open_of t id ≡ None → IsClear t id
-built_clear t built = underived_are_clear t (built_roots t built)
