@@ -1,13 +1,15 @@
-//! Unpacks many packets by a sheet, or reads a large text or binary many times, so that those of a second can be counted
-//! from outside.
+//! Unpacks many packets by a sheet and writes them as JSON, or reads a large text or binary many times, so that those of a
+//! second can be counted from outside.
 #![tactic(auto)]
 
+mod json;
 mod letters;
 mod packet_sheet;
 mod sequence;
 mod sum;
 mod unpacked;
 
+use json::json_of;
 use letters::sum_read;
 use std::env;
 use std::process::ExitCode;
@@ -19,13 +21,22 @@ const MOST: u32 = 10_000_000;
 /// What the words after the program's name ask for.
 enum Task {
     Packets(u32),
+    Json(u32),
     Letters(letters::Task),
 }
 
-fn packets_asked(word: &str) -> Option<Task> {
+fn count_of(word: &str) -> Option<u32> {
     let count = word.parse::<u32>().ok()?;
     if 1 <= count && count <= MOST {
-        Some(Task::Packets(count))
+        Some(count)
+    } else {
+        None
+    }
+}
+
+fn json_asked(first: &str, second: &str) -> Option<Task> {
+    if first == "json" {
+        Some(Task::Json(count_of(second)?))
     } else {
         None
     }
@@ -35,14 +46,16 @@ fn task_asked(rt: &HostRuntime) -> Option<Task> {
     let args = env::args(rt).ok()?;
     let mut words = args.skip(1);
     let first = words.next()?;
-    let Some(bits) = words.next() else {
-        return packets_asked(first.as_str());
+    let Some(second) = words.next() else {
+        return Some(Task::Packets(count_of(first.as_str())?));
     };
-    let turns = words.next()?;
+    let Some(turns) = words.next() else {
+        return json_asked(first.as_str(), second.as_str());
+    };
     if words.next().is_some() {
         return None;
     }
-    let task = letters::Task::of(first.as_str(), bits.as_str(), turns.as_str(), MOST)?;
+    let task = letters::Task::of(first.as_str(), second.as_str(), turns.as_str(), MOST)?;
     Some(Task::Letters(task))
 }
 
@@ -50,6 +63,21 @@ fn task_asked(rt: &HostRuntime) -> Option<Task> {
 fn print_packets(rt: &HostRuntime, count: u32) -> ExitCode {
     let printed = match sum_of(rt.alloc(), count) {
         Ok(sum) => println!(rt; "packets {count} sum {sum}"),
+        Err(stop) => {
+            let _ = println!(rt; "{stop}");
+            return ExitCode::FAILURE;
+        }
+    };
+    match printed {
+        Ok(()) => ExitCode::SUCCESS,
+        Err(_) => ExitCode::FAILURE,
+    }
+}
+
+// Prints how many octets the packets' JSON has, and that of the last packet.
+fn print_json(rt: &HostRuntime, count: u32) -> ExitCode {
+    let printed = match json_of(rt.alloc(), count) {
+        Ok(json) => println!(rt; "octets {} last {}", json.octets, json.last.as_str()),
         Err(stop) => {
             let _ = println!(rt; "{stop}");
             return ExitCode::FAILURE;
@@ -75,10 +103,11 @@ fn print_letters(rt: &HostRuntime, task: letters::Task) -> ExitCode {
 fn main(rt: HostRuntime) -> ExitCode {
     match task_asked(&rt) {
         Some(Task::Packets(count)) => print_packets(&rt, count),
+        Some(Task::Json(count)) => print_json(&rt, count),
         Some(Task::Letters(task)) => print_letters(&rt, task),
         None => {
             let _ = println!(rt;
-                "usage: eds_bench COUNT, or binary or text BITS TURNS; counts from 1 to {MOST}"
+                "usage: eds_bench COUNT, json COUNT, or binary or text BITS TURNS; counts from 1 to {MOST}"
             );
             ExitCode::from(2)
         }

@@ -13,6 +13,8 @@ pub mod LevelFacts
 pub mod NestingFacts
 mod Unbroken
 pub mod EmptyFacts
+pub mod ListPlaces
+pub mod ListFieldFacts
 pub mod TableFacts
 pub mod PlainRules
 pub mod PartFacts

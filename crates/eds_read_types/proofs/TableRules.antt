@@ -3,7 +3,7 @@ use Rattle.std.proofs.Common.{◌≡◌, ℕ, zero, suc, ◌+◌, ◌<◌, ◌�
 use Rattle.std.specs.Prelude.{nat_le, codes, not, is_some, Ok, if◌then◌else◌}
 use Rattle.std.specs.List.{AllByRecursion, filter_map, flat_map, list_all}
 use Rattle.std.proofs.Common.{leb-true}
-use Rattle.std.proofs.lemmas.Bool.{and_parts}
+use Rattle.std.proofs.lemmas.Bool.{and_parts, le-leb}
 use Rattle.std.proofs.lemmas.List.{length-map}
 use Rattle.std.proofs.lemmas.Option.{slice_get-map, slice_get_within}
 use Rattle.std.proofs.lemmas.Slice.Eq.{bytes_eq-Decides}
@@ -34,7 +34,7 @@ use Rattle.eds_graph.specs.Ways.{is_circular}
 use Rattle.eds_graph.specs.Search.{Has as is_one_of}
 use Rattle.eds_graph.proofs.Tests.{has-left}
 use Rattle.eds_nesting.specs.Families.{types_of, types_in}
-use Rattle.eds_types.specs.Rules.{AreDistinct, IsListing, KindKeeps, HasKind, DerivesFrom, IsNested, name_of, KeepsRules}
+use Rattle.eds_types.specs.Rules.{AreDistinct, IsListing, KindKeeps, HasKind, DerivesFrom, IsNested, IsCounted, name_of, KeepsRules}
 use Rattle.eds_read_types.specs.declared.numbers.FormAndDomain.{FormAndDomain}
 use Rattle.eds_read_types.specs.Places.{element, is_element, is_container, is_sub_range, is_number, attribute, own_name, elements, types, type_places}
 use Rattle.eds_read_types.specs.References.{references, row_for, judged_text, judged_by, judged_at, broken_with}
@@ -42,7 +42,8 @@ use Rattle.eds_read_types.specs.ReadTypes.{id_of, id_found}
 use Rattle.eds_read_types.specs.declared.part_sort.PartSort.{PartSort}
 use Rattle.eds_read_types.specs.declared.part_sort.PartSort.TheVariants as sorts
 use Rattle.eds_read_types.specs.Entries.{sort_at, entries_at, named_among}
-use Rattle.eds_read_types.specs.PartRows.{entry_id, padding_bits, unread, plain_part, part_by, part_at}
+use Rattle.eds_read_types.specs.ListFields.{field_place}
+use Rattle.eds_read_types.specs.PartRows.{entry_id, padding_bits, unread, plain_part, type_number, list_part, part_by, part_at}
 use Rattle.eds_read_types.specs.Forms.{int_form_of, bool_form_of}
 use Rattle.eds_read_types.specs.Listings.{listing_of}
 use Rattle.eds_read_types.specs.Bases.{base_named, base_found, bases_of}
@@ -61,6 +62,7 @@ use Rattle.eds_read_types.specs.Nesting.{course_of, meets_base_cycle}
 use Rattle.eds_read_types.specs.TypeCycle.{type_cycle_at}
 use Rattle.eds_read_types.specs.LimitNesting.{is_too_deep, nesting_at}
 use Rattle.eds_read_types.specs.EmptyType.{may_be_empty, is_empty_entry, empty_part_at}
+use Rattle.eds_read_types.specs.ListField.{is_told, list_field_at}
 use Rattle.eds_read_types.specs.LengthField.{untold_by, length_field_at}
 use Rattle.eds_read_types.specs.declared.reference_row.Wanted.TheVariants.{NumberType}
 use Rattle.eds_read_types.proofs.NoBreaks.{least-none, append-none, types-apart, no_repeats}
@@ -74,6 +76,7 @@ use Rattle.eds_read_types.proofs.PartNames.{among_has, names_distinct, padding_k
 use Rattle.eds_read_types.proofs.LevelFacts.{HasLevels}
 use Rattle.eds_read_types.proofs.NestingFacts.{no_base_cycle, rank as rank_in, few_ranks, nested, base_ranks, part_named}
 use Rattle.eds_read_types.proofs.EmptyFacts.{has_bits, solid}
+use Rattle.eds_read_types.proofs.ListFieldFacts.{counted}
 use Rattle.eds_read_types.proofs.Found.{id_there, number_there}
 use Rattle.eds_read_types.proofs.SortFacts.{sort_named, binary_keeps}
 use Rattle.eds_read_types.proofs.ChainFacts.{over-none, each-none, unmet, level}
@@ -225,7 +228,7 @@ no_base trees names at is = go (base_found trees names at) refl
 
 -- ---- the rows of a sheet
 
-module _ (trees : List (List Node)) (names : Names) (word : Option (List ℕ)) (named : names_in trees ≡ Ok names) (u : IsUnbroken trees names word) where
+module _ (trees : List (List Node)) (names : Names) (word : Option (List ℕ)) (named : names_in trees ≡ Ok names) (small : length (types names) ≤ 4096) (u : IsUnbroken trees names word) where
   -- what the reference of a type finds is of the wanted kind
   fitting : AllByRecursion (λ at. judged_at (wrong_kind_at trees names) trees at ≡ []) (type_places names)
   fitting = of_types (λ at. judged_at (wrong_kind_at trees names) trees at ≡ []) trees names named (nowhere (judged_at (wrong_kind_at trees names) trees) (elements trees) u.kinds)
@@ -298,31 +301,45 @@ module _ (trees : List (List Node)) (names : Names) (word : Option (List ℕ)) (
   entry_there q id d there = subst (λ n. (entry_id trees names q).0 < n) (sym (length-rows trees names 0 (types names))) (id_there trees names q (slice_get_within (types names) id d there) named)
 
   -- a part of a container's row, and the element that it was read from
-  part_there : (id : ℕ) (d : Declared) → container_of (table_rows trees names) id ≡ Some (container_at trees names d.place) → (k : ℕ) (q : Place) → slice_get (entries_at trees d.place) k ≡ Some q
-      → slice_get (entries_in (container_of (table_rows trees names) id)) k ≡ Some (part_at trees names q)
-  part_there id d is k q e = ap (λ c. slice_get (entries_in c) k) is ∙ (slice_get-map (part_at trees names) (entries_at trees d.place) k ∙ ap (option_map (part_at trees names)) e)
+  part_there : (id : ℕ) (d : Declared) → container_of (table_rows trees names) id ≡ Some (container_at trees names id d.place) → (k : ℕ) (q : Place) → slice_get (entries_at trees d.place) k ≡ Some q
+      → slice_get (entries_in (container_of (table_rows trees names) id)) k ≡ Some (part_at trees names id (entries_at trees d.place) q)
+  part_there id d is k q e = ap (λ c. slice_get (entries_in c) k) is ∙ (slice_get-map (part_at trees names id (entries_at trees d.place)) (entries_at trees d.place) k ∙ ap (option_map (part_at trees names id (entries_at trees d.place))) e)
 
-  container_is : (id : ℕ) (d : Declared) → slice_get (types names) id ≡ Some d → is_container trees d.place ≡ true → container_of (table_rows trees names) id ≡ Some (container_at trees names d.place)
+  container_is : (id : ℕ) (d : Declared) → slice_get (types names) id ≡ Some d → is_container trees d.place ≡ true → container_of (table_rows trees names) id ≡ Some (container_at trees names id d.place)
   container_is id d there con = ap container_in (row_of id d there) ∙ rw con refl
+
+  -- where a part's type is no open binary and has bits
+  solid_type : (id : ℕ) → open_of (table_rows trees names) id ≡ None → may_be_empty (table_rows trees names) id ≡ false → IsSolid (table_rows trees names) id × (open_of (table_rows trees names) id ≡ None)
+  solid_type id closed_type bits = (solid (table_rows trees names) id (has_bits (table_rows trees names) id bits).0, closed_type)
+
+  no_open : (o : Option ℕ) (at : Place) → untold_by at o ≡ [] → o ≡ None
+  no_open None at h = refl
+  no_open (Some n) at h = absurd cc
 
   -- the type of an entry has bits, and is no open binary
   entry_solid : (id : ℕ) (d : Declared) → slice_get (types names) id ≡ Some d → is_container trees d.place ≡ true → (k : ℕ) (q : Place) → slice_get (entries_at trees d.place) k ≡ Some q → sort_at trees q ≡ Some sorts.Entry
       → IsSolid (table_rows trees names) (entry_id trees names q).0 × (open_of (table_rows trees names) (entry_id trees names q).0 ≡ None)
   entry_solid id d there con k q e s =
       let place = place_there (types names) id d there in
-      let part = part_there id d (container_is id d there con) k q e ∙ ap (λ s. Some (part_by s trees names q)) s in
+      let part = part_there id d (container_is id d there con) k q e ∙ ap (λ s. Some (part_by s trees names id (entries_at trees d.place) q)) s in
       let open_none = no_open (open_of (table_rows trees names) (entry_id trees names q).0) q (part_none length_field_at trees names u.lengths id d.place place k (plain_part trees names q) part q e) in
       let bits = full (open_of (table_rows trees names) (entry_id trees names q).0) (may_be_empty (table_rows trees names) (entry_id trees names q).0) open_none
       (unmet (is_empty_entry (table_rows trees names) (entry_id trees names q).0) _ (part_none empty_part_at trees names u.empty_parts id d.place place k (plain_part trees names q) part q e)) in
-      (solid (table_rows trees names) (entry_id trees names q).0 (has_bits (table_rows trees names) (entry_id trees names q).0 bits).0, open_none)
+      solid_type (entry_id trees names q).0 open_none bits
     where
-      no_open : (o : Option ℕ) (at : Place) → untold_by at o ≡ [] → o ≡ None
-      no_open None at h = refl
-      no_open (Some n) at h = absurd cc
-
       full : (o : Option ℕ) (empty : Bool) → o ≡ None → (not (is_some o) && empty) ≡ false → empty ≡ false
       full None empty e h = h
       full (Some n) empty e h = cc
+
+  -- and the type of a list's items
+  list_solid : (id : ℕ) (d : Declared) → slice_get (types names) id ≡ Some d → is_container trees d.place ≡ true → (k : ℕ) (q : Place) → slice_get (entries_at trees d.place) k ≡ Some q → sort_at trees q ≡ Some sorts.List
+      → IsSolid (table_rows trees names) (entry_id trees names q).0 × (open_of (table_rows trees names) (entry_id trees names q).0 ≡ None)
+  list_solid id d there con k q e s =
+      let place = place_there (types names) id d there in
+      let part = part_there id d (container_is id d there con) k q e ∙ ap (λ s. Some (part_by s trees names id (entries_at trees d.place) q)) s in
+      let open_none = no_open (open_of (table_rows trees names) (entry_id trees names q).0) q (part_none length_field_at trees names u.lengths id d.place place k (list_part trees names id (entries_at trees d.place) q) part q e) in
+      let bits = unmet (may_be_empty (table_rows trees names) (entry_id trees names q).0) _ (part_none empty_part_at trees names u.empty_parts id d.place place k (list_part trees names id (entries_at trees d.place) q) part q e) in
+      solid_type (entry_id trees names q).0 open_none bits
 
   -- padding keeps its size, and has no type
   pad_keeps : (id k n : ℕ) → 1 ≤ n → n ≤ 524288 → EntryKeeps (table_rows trees names) rank (record { container = id; place = k; part = part.Pad n })
@@ -332,10 +349,10 @@ module _ (trees : List (List Node)) (names : Names) (word : Option (List ℕ)) (
   unread_keeps id k = pad_keeps id k 8 (lit≤ tt) (lit≤ tt)
 
   -- what a part names, its container names
-  holds_part : (id : ℕ) (d : Declared) → is_container trees d.place ≡ true → (k : ℕ) (q : Place) → slice_get (entries_at trees d.place) k ≡ Some q → (x : ℕ) → type_by (Some (part_at trees names q)) ≡ Some x → is_one_of (types_in (table_row trees names id d).kind) x
+  holds_part : (id : ℕ) (d : Declared) → is_container trees d.place ≡ true → (k : ℕ) (q : Place) → slice_get (entries_at trees d.place) k ≡ Some q → (x : ℕ) → type_by (Some (part_at trees names id (entries_at trees d.place) q)) ≡ Some x → is_one_of (types_in (table_row trees names id d).kind) x
   holds_part id d con k q e x h =
-      let there = slice_get-map (part_at trees names) (entries_at trees d.place) k ∙ ap (option_map (part_at trees names)) e in
-      rw con (has-left (types_of (map (part_at trees names) (entries_at trees d.place))) (types_of []) x (part_named (map (part_at trees names) (entries_at trees d.place)) k (part_at trees names q) there x h))
+      let there = slice_get-map (part_at trees names id (entries_at trees d.place)) (entries_at trees d.place) k ∙ ap (option_map (part_at trees names id (entries_at trees d.place))) e in
+      rw con (has-left (types_of (map (part_at trees names id (entries_at trees d.place)) (entries_at trees d.place))) (types_of []) x (part_named (map (part_at trees names id (entries_at trees d.place)) (entries_at trees d.place)) k (part_at trees names id (entries_at trees d.place) q) there x h))
 
   plain_keeps : (id : ℕ) (d : Declared) → slice_get (types names) id ≡ Some d → is_container trees d.place ≡ true → (k : ℕ) (q : Place) → slice_get (entries_at trees d.place) k ≡ Some q → sort_at trees q ≡ Some sorts.Entry
       → EntryKeeps (table_rows trees names) rank (record { container = id; place = k; part = plain_part trees names q })
@@ -345,8 +362,8 @@ module _ (trees : List (List Node)) (names : Names) (word : Option (List ℕ)) (
         nests = λ inner same_type. nests inner same_type;
       }
     where
-      here : part_at trees names q ≡ plain_part trees names q
-      here = ap (λ s. part_by s trees names q) s
+      here : part_at trees names id (entries_at trees d.place) q ≡ plain_part trees names q
+      here = ap (λ s. part_by s trees names id (entries_at trees d.place) q) s
 
       nests : (inner : ℕ) → type_by (Some (plain_part trees names q)) ≡ Some inner → IsNested (table_rows trees names) rank id inner
       nests inner same_type =
@@ -354,40 +371,78 @@ module _ (trees : List (List Node)) (names : Names) (word : Option (List ℕ)) (
           let lt = subst (λ n. n < length (table_rows trees names)) is (entry_there q id d there) in
           nested (table_rows trees names) levels circleless id (table_row trees names id d) (row_of id d there) inner lt (holds_part id d con k q e inner (ap (λ p. type_by (Some p)) here ∙ same_type))
 
+  -- the number of items is told by an entry before the list
+  list_counted : (id : ℕ) (d : Declared) → slice_get (types names) id ≡ Some d → is_container trees d.place ≡ true → (k : ℕ) (q : Place) → slice_get (entries_at trees d.place) k ≡ Some q → sort_at trees q ≡ Some sorts.List
+      → IsCounted (table_rows trees names) (record { container = id; place = k; part = list_part trees names id (entries_at trees d.place) q }) (type_number id).0 (field_place trees (entries_at trees d.place) q)
+  list_counted id d there con k q e s =
+      let place = place_there (types names) id d there in
+      let container = container_is id d there con in
+      let part = part_there id d container k q e ∙ ap (λ s. Some (part_by s trees names id (entries_at trees d.place) q)) s in
+      let own = slice_get-map (part_at trees names id (entries_at trees d.place)) (entries_at trees d.place) k ∙ (ap (option_map (part_at trees names id (entries_at trees d.place))) e ∙ ap (λ s. Some (part_by s trees names id (entries_at trees d.place) q)) s) in
+      let told = met (is_told (table_rows trees names) id (field_place trees (entries_at trees d.place) q) k) _ (part_none list_field_at trees names u.list_fields id d.place place k (list_part trees names id (entries_at trees d.place) q) part q e) in
+      let root = ap base_in (row_of id d there) ∙ ap number_of_id (no_base trees names d.place con) in
+      subst (λ y. IsCounted (table_rows trees names) (record { container = id; place = k; part = list_part trees names id (entries_at trees d.place) q }) y (field_place trees (entries_at trees d.place) q)) (sym (number_is (slice_get_within (types names) id d there)))
+      (counted (table_rows trees names) id (container_at trees names id d.place) root container refl (field_place trees (entries_at trees d.place) q) k (list_part trees names id (entries_at trees d.place) q) own told)
+    where
+      met : (b : Bool) (r : Refusal) → (if b then [] else r ∷ []) ≡ [] → b ≡ true
+      met true r h = refl
+      met false r h = absurd cc
+
+      number_is : id < length (types names) → (type_number id).0 ≡ id
+      number_is lt = let low : nat_le id 4294967295 ≡ true = le-leb id 4294967295 (omega (arith, lt, small)) in rw low refl
+
+  list_keeps : (id : ℕ) (d : Declared) → slice_get (types names) id ≡ Some d → is_container trees d.place ≡ true → (k : ℕ) (q : Place) → slice_get (entries_at trees d.place) k ≡ Some q → sort_at trees q ≡ Some sorts.List
+      → EntryKeeps (table_rows trees names) rank (record { container = id; place = k; part = list_part trees names id (entries_at trees d.place) q })
+  list_keeps id d there con k q e s =
+      let full = list_solid id d there con k q e s in
+      record {
+        fits = (full.0, full.1, list_counted id d there con k q e s);
+        nests = λ inner same_type. nests inner same_type;
+      }
+    where
+      here : part_at trees names id (entries_at trees d.place) q ≡ list_part trees names id (entries_at trees d.place) q
+      here = ap (λ s. part_by s trees names id (entries_at trees d.place) q) s
+
+      nests : (inner : ℕ) → type_by (Some (list_part trees names id (entries_at trees d.place) q)) ≡ Some inner → IsNested (table_rows trees names) rank id inner
+      nests inner same_type =
+          let is : (entry_id trees names q).0 ≡ inner = cc in
+          let lt = subst (λ n. n < length (table_rows trees names)) is (entry_there q id d there) in
+          nested (table_rows trees names) levels circleless id (table_row trees names id d) (row_of id d there) inner lt (holds_part id d con k q e inner (ap (λ p. type_by (Some p)) here ∙ same_type))
+
   part_keeps : (id : ℕ) (d : Declared) → slice_get (types names) id ≡ Some d → is_container trees d.place ≡ true → (k : ℕ) (q : Place) → slice_get (entries_at trees d.place) k ≡ Some q
-      → EntryKeeps (table_rows trees names) rank (record { container = id; place = k; part = part_at trees names q })
+      → EntryKeeps (table_rows trees names) rank (record { container = id; place = k; part = part_at trees names id (entries_at trees d.place) q })
   part_keeps id d there con k q e = go (sort_at trees q) refl
     where
-      go : (s : Option PartSort) → sort_at trees q ≡ s → EntryKeeps (table_rows trees names) rank (record { container = id; place = k; part = part_by s trees names q })
+      go : (s : Option PartSort) → sort_at trees q ≡ s → EntryKeeps (table_rows trees names) rank (record { container = id; place = k; part = part_by s trees names id (entries_at trees d.place) q })
       go None s = unread_keeps id k
       go (Some sorts.Entry) s = plain_keeps id d there con k q e s
       go (Some sorts.FixedValue) s = unread_keeps id k
       go (Some sorts.Padding) s = let size = padding_keeps trees q in pad_keeps id k (padding_bits trees q) size.0 size.1
-      go (Some sorts.List) s = unread_keeps id k
+      go (Some sorts.List) s = list_keeps id d there con k q e s
       go (Some sorts.Length) s = unread_keeps id k
       go (Some sorts.ErrorControl) s = unread_keeps id k
 
-  entry_keeps : (id : ℕ) (d : Declared) → slice_get (types names) id ≡ Some d → is_container trees d.place ≡ true → (k : ℕ) (p : Part) → slice_get (map (part_at trees names) (entries_at trees d.place)) k ≡ Some p → EntryKeeps (table_rows trees names) rank (record { container = id; place = k; part = p })
+  entry_keeps : (id : ℕ) (d : Declared) → slice_get (types names) id ≡ Some d → is_container trees d.place ≡ true → (k : ℕ) (p : Part) → slice_get (map (part_at trees names id (entries_at trees d.place)) (entries_at trees d.place)) k ≡ Some p → EntryKeeps (table_rows trees names) rank (record { container = id; place = k; part = p })
   entry_keeps id d there con k p e =
-      let q = mapped_there (part_at trees names) (entries_at trees d.place) k p e in
+      let q = mapped_there (part_at trees names id (entries_at trees d.place)) (entries_at trees d.place) k p e in
       subst (λ part. EntryKeeps (table_rows trees names) rank (record { container = id; place = k; part = part })) q.2 (part_keeps id d there con k q.0 q.1)
 
   container_row : (id : ℕ) (d : Declared) → slice_get (types names) id ≡ Some d → is_container trees d.place ≡ true → length (entries_at trees d.place) ≤ 32767
-      → KeepsRow (table_rows trees names) rank id (record { name = d.name; base = base_found trees names d.place; kind = kind.Con (container_at trees names d.place) })
+      → KeepsRow (table_rows trees names) rank id (record { name = d.name; base = base_found trees names d.place; kind = kind.Con (container_at trees names id d.place) })
   container_row id d there is few =
       let place = place_there (types names) id d there in
       let rootless = no_base trees names d.place is in
       let differ : repeats trees [] (named_among trees (entries_at trees d.place)) ≡ [] = rw is at (each-none (duplicates_at trees names) (type_places names) u.duplicates id d.place place) in
       record {
-        kind_keeps = (subst (λ n. n ≤ 32767) (sym (length-map (entries_at trees d.place) (part_at trees names))) few, lit≤ tt);
+        kind_keeps = (subst (λ n. n ≤ 32767) (sym (length-map (entries_at trees d.place) (part_at trees names id (entries_at trees d.place)))) few, lit≤ tt);
         derives = λ base e. absurd (no_other base e rootless);
         plain = record {
           concrete = refl;
           root = ap number_of_id rootless;
           bare = refl;
           trailers = refl;
-          entries = placed_all (EntryKeeps (table_rows trees names) rank) id 0 (map (part_at trees names) (entries_at trees d.place)) (λ k p e i same_place. subst (λ n. EntryKeeps (table_rows trees names) rank (record { container = id; place = n; part = p })) (to_sum k i same_place) (entry_keeps id d there is k p e));
-          names = names_distinct trees names (entries_at trees d.place) (no_repeats trees [] (named_among trees (entries_at trees d.place)) differ).1;
+          entries = placed_all (EntryKeeps (table_rows trees names) rank) id 0 (map (part_at trees names id (entries_at trees d.place)) (entries_at trees d.place)) (λ k p e i same_place. subst (λ n. EntryKeeps (table_rows trees names) rank (record { container = id; place = n; part = p })) (to_sum k i same_place) (entry_keeps id d there is k p e));
+          names = names_distinct trees names id (entries_at trees d.place) (entries_at trees d.place) (no_repeats trees [] (named_among trees (entries_at trees d.place)) differ).1;
         };
       }
     where
@@ -469,8 +524,8 @@ module _ (trees : List (List Node)) (names : Names) (word : Option (List ℕ)) (
     where
       go : (b : Bool) → is_container trees d.place ≡ b → KeepsRow (table_rows trees names) rank id (table_row trees names id d)
       go true is =
-          let short : nat_le (length (map (part_at trees names) (entries_at trees d.place))) 32767 ≡ true = rw is at few in
-          rw is (container_row id d there is (subst (λ n. n ≤ 32767) (length-map (entries_at trees d.place) (part_at trees names)) (leb-true _ 32767 short)))
+          let short : nat_le (length (map (part_at trees names id (entries_at trees d.place)) (entries_at trees d.place))) 32767 ≡ true = rw is at few in
+          rw is (container_row id d there is (subst (λ n. n ≤ 32767) (length-map (entries_at trees d.place) (part_at trees names id (entries_at trees d.place))) (leb-true _ 32767 short)))
       go false is = scalar_row id d there is
 
   plain_rows : NamesDiffer names.declared → are_few (table_rows trees names) ≡ true → ArePlainRows (table_rows trees names)
@@ -502,7 +557,9 @@ module _ (trees : List (List Node)) (names : Names) (word : Option (List ℕ)) (
 -- the rows of a sheet that is not refused are plain
 pub table_plain : (trees : List (List Node)) (names : Names) (word : Option (List ℕ)) → shape_verdict trees ≡ Ok tt → names_in trees ≡ Ok names → least (table_breaks trees names word) ≡ None → ArePlainRows (table_rows trees names)
 table_plain trees names word shaped named none =
-    plain_rows trees names word named (unbroken trees names word (least-none (table_breaks trees names word) none)) (differ trees names named) (few_types trees names shaped named)
+    let few = few_types trees names shaped named in
+    let small = leb-true _ 4096 (and_parts (nat_le (length (table_rows trees names)) 4096) (list_all has_few_entries (table_rows trees names)) few).0 in
+    plain_rows trees names word named (subst (λ n. n ≤ 4096) (length-rows trees names 0 (types names)) small) (unbroken trees names word (least-none (table_breaks trees names word) none)) (differ trees names named) few
 
 -- they keep the rules
 pub table_keeps : (trees : List (List Node)) (names : Names) (word : Option (List ℕ)) → shape_verdict trees ≡ Ok tt → names_in trees ≡ Ok names → least (table_breaks trees names word) ≡ None → KeepsRules (table_rows trees names)

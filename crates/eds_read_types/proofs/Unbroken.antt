@@ -20,6 +20,7 @@ use Rattle.eds_read_types.specs.BadEnumeration.{breaks_enumeration}
 use Rattle.eds_read_types.specs.EmptyType.{empty_part_at, empty_item_at, empty_word}
 use Rattle.eds_read_types.specs.Parts.{at_rows, at_parts}
 use Rattle.eds_read_types.specs.DuplicateEntry.{breaks_duplicate}
+use Rattle.eds_read_types.specs.ListField.{breaks_list_field}
 use Rattle.eds_read_types.specs.LengthField.{breaks_length}
 use Rattle.eds_read_types.specs.TableBreaks.{rules, table_breaks}
 use Rattle.eds_read_types.proofs.NoBreaks.{append-none}
@@ -60,6 +61,7 @@ pub record IsUnbroken (trees : List (List Node)) (names : Names) (word : Option 
   pub empty_items : at_rows empty_item_at trees names ≡ []
   pub empties : empty_word trees names word ≡ []
   pub duplicates : breaks_duplicate trees names ≡ []
+  pub list_fields : breaks_list_field trees names ≡ []
   pub lengths : breaks_length trees names ≡ []
 
 pub unbroken : (trees : List (List Node)) (names : Names) (word : Option (List ℕ)) → table_breaks trees names word ≡ [] → IsUnbroken trees names word
@@ -88,5 +90,6 @@ unbroken trees names word h =
       empty_items = further.0;
       empties = further.1;
       duplicates = containers.1.0;
-      lengths = containers.1.1.0;
+      list_fields = containers.1.1.0;
+      lengths = containers.1.1.1.0;
     }

@@ -24,6 +24,7 @@ pub mod BadEnumeration
 pub mod DuplicateEntry
 pub mod Unbroken
 pub mod Numbers
+pub mod ListFields
 pub mod PartRows
 pub mod TableRows
 pub mod Used
@@ -32,6 +33,7 @@ pub mod Nesting
 pub mod TypeCycle
 pub mod LimitNesting
 pub mod EmptyType
+pub mod ListField
 pub mod LengthField
 pub mod FaceReferences
 pub mod FaceRules

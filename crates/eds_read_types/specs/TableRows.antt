@@ -27,9 +27,9 @@ use Rattle.eds_read_types.specs.Numbers.{form_or_wide, truth_or_octet, text_or_o
 
 -- ---- containers
 
--- the container at a place, which has entries alone
-abbrev pub container_at : List (List Node) → Names → Place → Container
-container_at trees names at = record { hidden = false; constraints = []; entries = map (part_at trees names) (entries_at trees at); trailers = [] }
+-- the container at a place, of which the number among all types is given; it has entries alone
+abbrev pub container_at : List (List Node) → Names → ℕ → Place → Container
+container_at trees names id at = record { hidden = false; constraints = []; entries = map (part_at trees names id (entries_at trees at)) (entries_at trees at); trailers = [] }
 
 -- ---- types
 
@@ -59,7 +59,7 @@ scalar_kind_in (Some t) n numbers = scalar_kind t n numbers
 -- what the type at a place is, of which the number among all types is given
 abbrev pub kind_of : List (List Node) → Names → ℕ → Place → Kind
 kind_of trees names id at =
-    if is_container trees at then kind.Con (container_at trees names at) else
+    if is_container trees at then kind.Con (container_at trees names id at) else
     scalar_kind_in (slice_get trees at.file) at.node (numbers_of trees (type_places names) (bases_of trees names) id)
 
 -- a declared type as a row

@@ -90,7 +90,7 @@ fn is_given(name: Option<&str>) -> bool
 }
 
 /// Whether a part has a name: padding has none, and a fixed value may do without.
-fn has_name(trees: &[Tree], at: Place) -> bool
+pub(crate) fn has_name(trees: &[Tree], at: Place) -> bool
     ensures { result ≡ has_name_in trees.now at }
 {
     match sort_at(trees, at) {

@@ -19,6 +19,7 @@ use crate::length_field::LengthField;
 use crate::limit_chain::LimitChain;
 use crate::limit_nesting::LimitNesting;
 use crate::reference::{ReferenceRule, least_over_references};
+use crate::rule_list_field::ListField;
 use crate::sheet_rows::{AtParts, RowRule, SheetRows, least_over_rows};
 use crate::type_cycle::TypeCycle;
 use crate::unresolved::Unresolved;
@@ -165,7 +166,10 @@ type Containers = And<
     EmptyType,
     And<
         AtTypes<DuplicateEntry>,
-        And<AtRows<AtParts<LengthField>>, And<AtFaces<OpenInFace>, NoRule>>,
+        And<
+            AtRows<AtParts<ListField>>,
+            And<AtRows<AtParts<LengthField>>, And<AtFaces<OpenInFace>, NoRule>>,
+        >,
     >,
 >;
 

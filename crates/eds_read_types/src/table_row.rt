@@ -10,6 +10,7 @@ use crate::base_graph::{BaseGraph, base_found};
 use crate::element::{is_container, tree_at};
 use crate::entry::entries_at;
 use crate::form::{bool_form_of, int_form_of};
+use crate::list_field::Fields;
 use crate::listing::listing_of;
 use crate::named_trees::NamedTrees;
 use crate::numbers::{FormAndDomain, form_or_wide, numbers_of, text_or_octet, truth_or_octet};
@@ -23,13 +24,19 @@ use eds_types::{Constraints, Container, Kind, Parts, TypeRow, TypeRows};
 use std::alloc::Global;
 
 /// The container at a place, which has entries alone.
-fn container_at(alloc: Global, sheet: &NamedTrees, at: Place) -> Result<Container, Memory>
-    ensures { IfOk result (λ c. c ≡ container_by sheet.now.trees.now sheet.now.space.now at) }
+fn container_at(
+    alloc: Global,
+    sheet: &NamedTrees,
+    id: usize,
+    at: Place,
+) -> Result<Container, Memory>
+    ensures { IfOk result (λ c. c ≡ container_by sheet.now.trees.now sheet.now.space.now id at) }
 {
     let places = entries_at(alloc, sheet.trees, at)?;
+    let fields = Fields::of(alloc, sheet.trees, &places)?;
     let mut entries = Parts::new(alloc);
     for entry in &places {
-        let part = part_at(alloc, sheet, *entry)?;
+        let part = part_at(alloc, sheet, id, &fields, *entry)?;
         entries.push(part)?;
     }
     Ok(Container {
@@ -99,7 +106,7 @@ fn kind_of(alloc: Global, graph: &BaseGraph, id: usize, at: Place) -> Result<Kin
 {
     let sheet = graph.sheet;
     if is_container(sheet.trees, at) {
-        let container = container_at(alloc, sheet, at)?;
+        let container = container_at(alloc, sheet, id, at)?;
         Ok(Kind::Con(container))
     } else {
         let numbers = numbers_in_table(alloc, graph, id)?;
