@@ -5,14 +5,13 @@
 
 PROGRAM (by default crates/eds_bench/out/eds_bench) reads them with eds_codec, and bench/texts.rs with nothing but Rust's
 std; it is built here by `rustc -O`. Both print what they read adds up to, and have to agree. The time of one turn is that
-of TURNS turns less that of one, each the least wall time of some runs, in which the two programs take turns.
+of TURNS turns less that of one, each the least processor time of some runs, in which the two programs take turns.
 """
 
 import os
 import subprocess
 import sys
 import tempfile
-import time
 
 SIZE = 65_536
 TURNS = 20_000
@@ -27,10 +26,14 @@ def build(folder):
 
 
 def run(program, words):
-    """The wall time of a run, in seconds, and the line that it prints."""
-    start = time.perf_counter()
-    done = subprocess.run([program, *words], stdout=subprocess.PIPE, check=True, text=True)
-    return time.perf_counter() - start, done.stdout
+    """The processor time of a run, in seconds, and the line that it prints."""
+    with subprocess.Popen([program, *words], stdout=subprocess.PIPE, text=True) as process:
+        line = process.stdout.read()
+        _, status, used = os.wait4(process.pid, 0)
+        process.returncode = os.waitstatus_to_exitcode(status)
+    if process.returncode != 0:
+        sys.exit(f"{program} {' '.join(words)} ended with {process.returncode}")
+    return used.ru_utime + used.ru_stime, line
 
 
 def least(programs, kind, bits, turns):

@@ -3,7 +3,6 @@ use Rattle.std.specs.Prelude.{ℕ, ◌<◌, length}
 use Rattle.std.specs.Option.{option_map_or}
 use Rattle.eds_types.specs.Rows.{Table}
 use Rattle.eds_types.specs.Overlap.{IsClear}
-use Rattle.eds_pack.specs.BuiltTables.{IsBuiltTable}
 use Rattle.eds_sheet.specs.declared.sheet.Sheet.{Sheet}
 use Rattle.eds_cmd.specs.declared.target.Target.{Target}
 
@@ -20,8 +19,7 @@ type_in t = record { table = t.table.now; id = t.id.0 }
 abbrev pub type_of : Sheet → TypeIn
 type_of sheet = record { table = sheet.table; id = option_map_or (λ id. id.0) sheet.word 0 }
 
--- the type is there and clear, in a table of types for all of which packing is built
+-- the type is there, and clear
 pub record IsKnown (type : TypeIn) : Type 0 where
   pub there : type.id < length type.table
   pub clear : IsClear type.table type.id
-  pub built : IsBuiltTable type.table

@@ -1,4 +1,3 @@
-pub mod BuiltTables
 pub mod Choices
 pub mod Counting
 pub mod Defaults

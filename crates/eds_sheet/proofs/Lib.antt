@@ -3,5 +3,4 @@ pub mod Stages
 pub mod FilesLemmas
 pub mod CompiledLaws
 pub mod NoBases
-pub mod BuiltSheets
 pub mod SoundSheets

@@ -14,19 +14,16 @@ use Rattle.eds_types.specs.Rows.{Table}
 use Rattle.eds_types.specs.Sizes.{open_of}
 use Rattle.eds_overlap.specs.Underived.{HasNoBases}
 use Rattle.eds_overlap.proofs.UnderivedTables.{underived_are_clear}
-use Rattle.eds_pack.specs.BuiltTables.{IsBuiltTable}
 use Rattle.eds_read_types.specs.declared.table.SheetTypes.{SheetTypes}
 use Rattle.eds_read_types.specs.TableRead.{table_read}
-use Rattle.eds_read_types.specs.TableRows.{table_rows}
 use Rattle.eds_read_types.proofs.TableFacts.{table_unbroken, table_word, table_closed}
-use Rattle.eds_read_types.proofs.TableRules.{table_keeps, table_plain}
+use Rattle.eds_read_types.proofs.TableRules.{table_keeps}
 use Rattle.eds_generic.specs.Sheets.{face_verdict}
 use Rattle.eds_sheet.specs.declared.sheet.Sheet.{Sheet}
 use Rattle.eds_sheet.specs.Files.{trees_in}
 use Rattle.eds_sheet.specs.Pending.{pending_verdict}
 use Rattle.eds_sheet.specs.Compiled.{sheet_of, compiled_trees, compiled}
 use Rattle.eds_sheet.proofs.NoBases.{no_bases}
-use Rattle.eds_sheet.proofs.BuiltSheets.{plain_built}
 use Rattle.eds_sheet.specs.Laws.{IsSound, SheetsAreSound}
 
 -- where two steps give an answer, the first gives one too, and the second gives it from that
@@ -43,10 +40,8 @@ typed-sound trees word names typed shaped built named read =
     let unbroken = table_unbroken trees names word typed read in
     let known = table_word trees names word typed read in
     let roots : HasNoBases typed.table = subst (λ (t : SheetTypes). HasNoBases t.table) unbroken.1 (no_bases trees names named built) in
-    let all : IsBuiltTable typed.table = subst (λ (t : SheetTypes). IsBuiltTable t.table) unbroken.1 (plain_built (table_rows trees names) (table_plain trees names word shaped named unbroken.0)) in
     record {
       rules = subst (λ (t : SheetTypes). KeepsRules t.table) unbroken.1 (table_keeps trees names word shaped named unbroken.0);
-      built = all;
       named = known.0;
       clear = clear_word typed.table roots typed.asked_type (table_closed trees names word typed read);
       asked = known.1;

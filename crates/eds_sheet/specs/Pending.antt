@@ -20,7 +20,7 @@ use Rattle.eds_tree.specs.ShapeCheck.{unless_broken}
 abbrev pub pending_names : List (List ℕ)
 pending_names = map codes (
     "ArrayDataType"
-    ∷ "FixedValueEntry" ∷ "PaddingEntry" ∷ "ListEntry" ∷ "LengthEntry" ∷ "ErrorControlEntry"
+    ∷ "FixedValueEntry" ∷ "PaddingEntry" ∷ "LengthEntry" ∷ "ErrorControlEntry"
     ∷ "ConstraintSet" ∷ "TrailerEntryList" ∷ "ComponentSet" ∷ "StateMachineSet" ∷ [])
 
 abbrev pub is_pending : (name : List ℕ) → Bool

@@ -20,7 +20,6 @@ fn is_pending(name: &str) -> bool
             "ArrayDataType",
             "FixedValueEntry",
             "PaddingEntry",
-            "ListEntry",
             "LengthEntry",
             "ErrorControlEntry",
             "ConstraintSet",

@@ -4,7 +4,6 @@ ghost use Rattle.std.specs.Prelude.{◌≡◌, ◌≤◌, ◌<◌, ◌^◌, leng
 ghost use Rattle.std.specs.List.{All};
 ghost use Rattle.eds_base.specs.Answering.{Answers};
 ghost use Rattle.eds_types.specs.Overlap.{IsClear};
-ghost use Rattle.eds_pack.specs.BuiltTables.{IsBuiltTable};
 ghost use Rattle.eds_sheet.specs.Compiled.{is_container as container, counts_of as counted, compiled};
 
 use crate::files::{Files, read_trees};
@@ -111,7 +110,6 @@ pub fn compile(alloc: Global, files: &Files, extra: Option<&str>) -> Result<Shee
     ensures word { IfOk result (λ s. IfSome s.word (λ id. id.0 < length s.table)) }
     ensures asked { IfOk result (λ s. is_some s.word ≡ is_some extra.entry) }
     ensures clear { IfOk result (λ s. IfSome s.word (λ id. IsClear s.table id.0)) }
-    ensures built { IfOk result (λ s. IsBuiltTable s.table) }
 {
     sheet_of(alloc, files, extra)
 }

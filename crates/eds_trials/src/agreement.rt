@@ -2,7 +2,6 @@
 
 ghost use Rattle.std.specs.Prelude.{◌<◌, length};
 ghost use Rattle.eds_types.specs.Overlap.{IsClear};
-ghost use Rattle.eds_pack.specs.BuiltTables.{IsBuiltTable};
 
 use crate::census::lists_of;
 use crate::slow::{Slow, Spelling, bits_of};
@@ -49,7 +48,6 @@ fn fills_room(
     octets: &[u8],
 ) -> Result<bool, Memory>
     requires known { id.0 < length table.now }
-    requires built { IsBuiltTable table.now }
 {
     let mut room = vec![in alloc; 0xAAu8; octets.len()]?;
     let fits = pack_into(table, id, value, room.as_mut_slice()).is_ok()
@@ -65,7 +63,6 @@ fn fills_room(
 // Whether the value is packed into its canonical spelling.
 fn packs(alloc: Global, table: &TypeTable, id: TypeId, value: &Value) -> Result<bool, Memory>
     requires known { id.0 < length table.now }
-    requires built { IsBuiltTable table.now }
 {
     match pack(alloc, table, id, value) {
         Ok((octets, size)) => Ok(
@@ -89,7 +86,6 @@ fn has_number(values: &[Value], number: i128) -> bool {
 // How many small numbers pack and are none of the values, or don't and are one.
 fn numbers_amiss(table: &TypeTable, id: TypeId, values: &[Value]) -> u32
     requires known { id.0 < length table.now }
-    requires built { IsBuiltTable table.now }
 {
     let mut amiss = 0u32;
     for count in 0..600u32 {
@@ -159,7 +155,6 @@ pub(crate) fn agreement(
 ) -> Result<Packing, Memory>
     requires known { id.0 < length table.now }
     requires clear { IsClear table.now id.0 }
-    requires built { IsBuiltTable table.now }
 {
     let slow = Slow::of_rows(alloc, table.rows(), Spelling::Any);
     let values = slow.values(id)?;

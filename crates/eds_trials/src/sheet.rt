@@ -3,7 +3,6 @@
 ghost use Rattle.std.specs.Prelude.{◌≡◌, ◌<◌, ◌^◌, length, IfOk, IfSome, IsSomeAnd};
 ghost use Rattle.std.specs.List.{All};
 ghost use Rattle.eds_types.specs.Overlap.{IsClear};
-ghost use Rattle.eds_pack.specs.BuiltTables.{IsBuiltTable};
 
 use eds_base::{Fail, Items, Memory, Octets, Refusal};
 use eds_sheet::{Files, Sheet, compile};
@@ -33,7 +32,6 @@ fn files_of(alloc: Global, text: &str) -> Result<Files, Memory>
 pub(crate) fn sheet_of(alloc: Global, text: &str, name: &str) -> Result<Sheet, Fail<Refusal>>
     ensures word { IfOk result (λ sheet. IsSomeAnd sheet.word (λ id. id.0 < length sheet.table)) }
     ensures clear { IfOk result (λ sheet. IfSome sheet.word (λ id. IsClear sheet.table id.0)) }
-    ensures built { IfOk result (λ sheet. IsBuiltTable sheet.table) }
 {
     let files = files_of(alloc, text)?;
     compile(alloc, &files, Some(name))
