@@ -59,6 +59,7 @@ AllConform t (id ∷ ids) (v ∷ vs) = Conforms t id v × AllConform t ids vs
 abbrev pub variable_types : ComponentPlan → List ℕ
 variable_types c = map (λ (x : VarPlan). x.id.0) c.variables
 
+-- the types of an activity's arguments
 abbrev pub argument_types : Activity → List ℕ
 argument_types a = map (λ (p : List ℕ × TypeId). (p.1).0) a.arguments
 
@@ -79,6 +80,7 @@ pub data Item : Type 0 where
   statement : List Plain → Stmt → Item
   turn : (variable : ℕ) (number last step : ℤ) → List Plain → List Stmt → Item
 
+-- statements with the arguments that they see, to be done
 abbrev pub items_of : List Plain → List Stmt → List Item
 items_of args ss = map (statement args) ss
 
@@ -95,6 +97,7 @@ pub record Ended : Type 0 where
 
 -- ---- operands
 
+-- the number that a value is, if it is one
 abbrev pub number_of : Option Plain → Option ℤ
 number_of None = None
 number_of (Some (num n)) = Some n
@@ -117,6 +120,7 @@ abbrev pub nth : List Plain → Result ℕ ℕ → Option Plain
 nth vs (Ok n) = slice_get vs n
 nth vs (Err n) = None
 
+-- the value of an entry of a container
 abbrev pub field_of : Table → Plain → TypeId × ℕ → Option Plain
 field_of t (num n) p = None
 field_of t (label l) p = None
@@ -137,10 +141,12 @@ abbrev pub put_back : ℕ → List Plain → ℕ → Option Plain → Option Pla
 put_back k vs n None = None
 put_back k vs n (Some v) = Some (fields k (plains_of (slice_set vs n v)))
 
+-- the fields with one of them changed, if it is there
 abbrev pub changed : ℕ → List Plain → Result ℕ ℕ → (Plain → Option Plain) → Option Plain
 changed k vs (Err n) change = None
 changed k vs (Ok n) change = put_back k vs n (option_and_then change (slice_get vs n))
 
+-- the value with one of its entries changed
 abbrev pub with_field : Table → Plain → TypeId × ℕ → (Plain → Option Plain) → Option Plain
 with_field t (num n) p change = None
 with_field t (label l) p change = None
@@ -185,11 +191,13 @@ abbrev mutual
   same_values (plains.more v vs) (plains.more w ws) = if same_value v w then same_values vs ws else false
   same_values vs ws = false
 
+-- both are numbers, and the test holds of them
 abbrev pub both_ordered : (ℤ → ℤ → Bool) → Option ℤ → Option ℤ → Bool
 both_ordered test None b = false
 both_ordered test (Some m) None = false
 both_ordered test (Some m) (Some n) = test m n
 
+-- whether a relation holds of two values
 abbrev pub compared : Relation → Plain → Plain → Bool
 compared Equal v w = same_value v w
 compared NotEqual v w = not (same_value v w)
@@ -228,6 +236,7 @@ is_within step number last = if int_lt step (pos 0) then int_le last number else
 abbrev pub turns : ℕ → ℤ → ℤ → ℤ → List Plain → List Stmt → List Item
 turns x number last step args body = if is_within step number last then turn x number last step args body ∷ [] else []
 
+-- an iteration begins, from one number to another
 abbrev pub iterating : ℕ → Option ℤ → Option ℤ → ℤ → List Plain → List Stmt → World → Started
 iterating x None last step args body w = halts OutOfRange
 iterating x (Some n) None step args body w = halts OutOfRange
@@ -239,6 +248,7 @@ iterating x (Some n) (Some last) step args body w = goes (turns x n last step ar
 abbrev pub is_calculable : ℤ → Bool
 is_calculable n = int_le (neg_ℤ (pos (2 ^ 127))) n && int_lt n (pos (2 ^ 127))
 
+-- an operator on two numbers
 abbrev pub applied : MathOp → ℤ → ℤ → ℤ
 applied Add m n = m +ℤ n
 applied Subtract m n = m -ℤ n
@@ -249,15 +259,18 @@ abbrev pub with_number : List ℤ → Option ℤ → Option (List ℤ)
 with_number numbers None = None
 with_number numbers (Some n) = Some (n ∷ numbers)
 
+-- an operator on the last two numbers
 abbrev pub with_operator : MathOp → List ℤ → Option (List ℤ)
 with_operator o [] = None
 with_operator o (n ∷ []) = None
 with_operator o (n ∷ m ∷ numbers) = if is_calculable (applied o m n) then Some (applied o m n ∷ numbers) else None
 
+-- one item of a calculation
 abbrev pub with_item : Table → List Plain → List Plain → MathItem → List ℤ → Option (List ℤ)
 with_item t args vars (math.Operand a) numbers = with_number numbers (number_of (value_of t args vars a))
 with_item t args vars (math.Operator o) numbers = with_operator o numbers
 
+-- items of a calculation, one after the other
 abbrev pub with_items : Table → List Plain → List Plain → List MathItem → Option (List ℤ) → Option (List ℤ)
 with_items t args vars [] numbers = numbers
 with_items t args vars (i ∷ is) None = None
@@ -291,6 +304,7 @@ is_carried Up Out = true
 is_carried Up InOut = true
 is_carried Up Notify = true
 
+-- the types of the arguments that a command carries in a way
 abbrev pub carried_of : Way → List Argument → List ℕ
 carried_of way [] = []
 carried_of way (a ∷ as') = if is_carried way a.mode then a.id.0 ∷ carried_of way as' else carried_of way as'
@@ -309,6 +323,7 @@ carried op.Val way (Some (member.Command name args)) = []
 
 -- ---- transactions
 
+-- the transaction is among those under way
 abbrev pub waits : List Outstanding → ℕ → ℕ → ℕ → Bool
 waits [] end member name = false
 waits (q ∷ qs) end member name = if q.face == end && (q.member == member && q.name == name) then true else waits qs end member name
@@ -321,6 +336,7 @@ begun true end member (Some name) qs = if waits qs end member name then qs else 
 
 -- ---- starting
 
+-- a value put before others, where all are there
 abbrev pub put_first : Option Plain → Option (List Plain) → Option (List Plain)
 put_first None vs = None
 put_first (Some v) vs = option_map (λ us. v ∷ us) vs
@@ -349,6 +365,7 @@ module _ (packs : ℕ → Plain → Bool) where
   entering body None w = halts BadArgument
   entering body (Some args) w = goes (items_of args body) w
 
+  -- an activity called with these arguments
   abbrev pub calling : Option Activity → List (Option Plain) → World → Started
   calling None vs w = halts BadArgument
   calling (Some a) vs w = entering (stmts a.body) (arguments_of (argument_types a) vs) w
@@ -358,6 +375,7 @@ module _ (packs : ℕ → Plain → Bool) where
   emitting p q None w = halts BadArgument
   emitting p q (Some vs) w = goes [] (record w { waiting = q; sent = w.sent ++ p vs ∷ [] })
 
+  -- a primitive sent at an end
   abbrev pub sending : Op → (end member : ℕ) → Option ℕ → Option EndPlan → List (Option Plain) → World → Started
   sending o end member name None vs w = halts BadArgument
   sending o end member name (Some e) vs w = emitting (primitive w.component end member (way_of e) o) (begun e.required end member name w.waiting) (arguments_of (carried o (way_of e) (slice_get e.instance.members member)) vs) w

@@ -83,6 +83,7 @@ OnHalted (Halted h) P = P
 abbrev pub turn_item : Turn → List Plain → List Stmt → Item
 turn_item t args body = turn t.at t.number t.last t.step args body
 
+-- the turns that are left of an iteration, if there is one
 abbrev pub turn_items : Option Turn → List Plain → List Stmt → List Item
 turn_items None args body = []
 turn_items (Some t) args body = turn_item t args body ∷ []
@@ -91,6 +92,7 @@ turn_items (Some t) args body = turn_item t args body ∷ []
 abbrev pub this_turn : Turn → List Plain → List Stmt → List Item
 this_turn t args body = turns t.at t.number t.last t.step args body
 
+-- the turns that are left
 abbrev pub next_turns : Turn → List Plain → List Stmt → List Item
 next_turns t args body = turns t.at (t.number +ℤ t.step) t.last t.step args body
 
@@ -109,8 +111,10 @@ pub record Runs (t : Table) (number : ℕ) (c : ComponentPlan) (a : Activity) (a
 
 -- ---- sequences
 
+-- the entries of some types, one after the other
 abbrev pub entries_along : Table → List TypeId → List Placed
 entries_along t ids = flat_map (λ (id : TypeId). placed_entries t id.0) ids
 
+-- the trailers of some types, one after the other
 abbrev pub trailers_along : Table → List TypeId → List Placed
 trailers_along t ids = flat_map (λ (id : TypeId). placed_trailers t id.0) ids

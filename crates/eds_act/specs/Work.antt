@@ -20,6 +20,7 @@ use Rattle.eds_act.specs.declared.event.Event.{Event}
 use Rattle.eds_act.specs.Does.{Item, statement, items_of}
 use Rattle.eds_act.specs.Running.{turn_item, Leads, world}
 
+-- what a task still does
 abbrev pub task_items : List Plain → Task → List Item
 task_items args (task.Statements body) = items_of args (stmts body.now)
 task_items args (task.Turn t body) = turn_item t args (stmts body.now) ∷ []
@@ -28,6 +29,7 @@ task_items args (task.Turn t body) = turn_item t args (stmts body.now) ∷ []
 abbrev pub tasks_items : List Plain → List Task → List Item
 tasks_items args ts = flat_map (task_items args) (reverse ts)
 
+-- what is done next
 abbrev pub next_item : List Plain → Next → Item
 next_item args (next.Statement s) = statement args (stmt s.now)
 next_item args (next.Turn t body) = turn_item t args (stmts body.now)
@@ -39,6 +41,7 @@ taken_items args (Some n) ts = next_item args n ∷ tasks_items args ts
 
 -- ---- activities that are being run
 
+-- what a call still does
 abbrev pub frame_items : Frame → List Item
 frame_items f = tasks_items (map plain f.arguments.items) f.tasks.items
 
@@ -48,6 +51,7 @@ frames_items fs = flat_map frame_items (reverse fs)
 
 -- ---- steps
 
+-- how a step ends
 abbrev pub end_of : Step → ActEnd
 end_of step.Goes = Done
 end_of (step.Calls f) = Done

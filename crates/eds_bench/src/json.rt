@@ -74,7 +74,7 @@ pub(crate) fn json_of(alloc: Global, count: u32) -> Result<PacketJson, Stop> {
         Err(Fail::Named(_)) => return Err(Stop::Refused),
         Err(Fail::Memory) => return Err(Stop::Memory),
     };
-    let id = match sheet.word {
+    let id = match sheet.asked_type {
         Some(id) => id,
         None => unreachable!(),
     };

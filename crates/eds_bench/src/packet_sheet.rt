@@ -97,8 +97,8 @@ fn sheet_files(alloc: Global) -> Result<Files, Memory>
 
 /// The sheet, with the type of the packets as its word.
 pub(crate) fn packet_sheet(alloc: Global) -> Result<Sheet, Fail<Refusal>>
-    ensures packet { IfOk result (λ sheet. IsSomeAnd sheet.word (λ id. id.0 < length sheet.table)) }
-    ensures clear { IfOk result (λ sheet. IfSome sheet.word (λ id. IsClear sheet.table id.0)) }
+    ensures packet { IfOk result (λ sheet. IsSomeAnd sheet.asked_type (λ id. id.0 < length sheet.table)) }
+    ensures clear { IfOk result (λ sheet. IfSome sheet.asked_type (λ id. IsClear sheet.table id.0)) }
 {
     let files = sheet_files(alloc)?;
     compile(alloc, &files, Some(PACKET_TYPE))

@@ -172,7 +172,7 @@ module _ (laws : ValueLaws) (type : TypeIn) (is : IsReadable type.table type.id)
 
 -- the type that a word names in a sheet can be read
 word_readable : (word : List ℕ) (sheet : Sheet) → IsSound (Some word) sheet → IsReadable (type_of sheet).table (type_of sheet).id
-word_readable word sheet s = go sheet.word s.asked s.named s.clear
+word_readable word sheet s = go sheet.asked_type s.asked s.named s.clear
   where
     id_of : Option TypeId → ℕ
     id_of w = option_map_or (λ id. id.0) w 0

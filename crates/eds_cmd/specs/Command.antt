@@ -24,6 +24,7 @@ pub record CommandWords : Type 0 where
 abbrev pub job_words : Job → JobWords
 job_words j = record { verb = j.verb; type_name = j.type_name.now; input = j.input.now }
 
+-- a command by its words alone
 abbrev pub words_of : Command → CommandWords
 words_of c = record { job = option_map job_words c.job; sheets = c.sheets.now }
 

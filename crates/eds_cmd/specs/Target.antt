@@ -17,7 +17,7 @@ type_in t = record { table = t.table.now; id = t.id.0 }
 
 -- the type that a command names, which compiling a sheet has found; the first one where it names none
 abbrev pub type_of : Sheet → TypeIn
-type_of sheet = record { table = sheet.table; id = option_map_or (λ id. id.0) sheet.word 0 }
+type_of sheet = record { table = sheet.table; id = option_map_or (λ id. id.0) sheet.asked_type 0 }
 
 -- the type is there, and clear
 pub record IsKnown (type : TypeIn) : Type 0 where

@@ -114,9 +114,9 @@ fn sheet_by(
     requires few { length files.now ≤ SHEETS }
     requires short { All (λ file. length file < 2 ^ 32) files.now }
     ensures answer { Answers (λ s. s) result (or_refused (compiled files.now (option_map (λ w. w.now) type_name.entry))) }
-    ensures word { IfOk result (λ s. IfSome s.word (λ id. id.0 < length s.table)) }
-    ensures clear { IfOk result (λ s. IfSome s.word (λ id. IsClear s.table id.0)) }
-    ensures given { IfOk result (λ s. is_some s.word ≡ is_some type_name.entry) }
+    ensures word { IfOk result (λ s. IfSome s.asked_type (λ id. id.0 < length s.table)) }
+    ensures clear { IfOk result (λ s. IfSome s.asked_type (λ id. IsClear s.table id.0)) }
+    ensures given { IfOk result (λ s. is_some s.asked_type ≡ is_some type_name.entry) }
 {
     match compile(alloc, files, type_name) {
         Ok(sheet) => Ok(sheet),
@@ -130,9 +130,9 @@ fn sheet_for<S: Shelf>(alloc: Global, command: &Command<'_>, shelf: &mut S) -> R
     requires { length command.now.sheets.now ≤ SHEETS }
     ensures told { (files : Files) → S.files shelf.old ≡ Some files
         → Comes (λ s. s) result (accepted files (words_of command.now)) }
-    ensures word { IfOk result (λ s. IfSome s.word (λ id. id.0 < length s.table)) }
-    ensures clear { IfOk result (λ s. IfSome s.word (λ id. IsClear s.table id.0)) }
-    ensures given { IfOk result (λ s. is_some s.word ≡ is_some command.now.job) }
+    ensures word { IfOk result (λ s. IfSome s.asked_type (λ id. id.0 < length s.table)) }
+    ensures clear { IfOk result (λ s. IfSome s.asked_type (λ id. IsClear s.table id.0)) }
+    ensures given { IfOk result (λ s. is_some s.asked_type ≡ is_some command.now.job) }
     ensures files { S.files shelf.new ≡ S.files shelf.old }
     ensures calm { (other : List ℕ) → S.faults shelf.old other ≤ S.faults shelf.new other }
     ensures cause { IfErr result (λ ended. OnUnread ended
@@ -179,8 +179,8 @@ fn run_job<S: Shelf>(
     sheet: &Sheet,
     shelf: &mut S,
 ) -> Result<String, Ended>
-    requires word { IsSomeAnd sheet.now.word (λ id. id.0 < length sheet.now.table) }
-    requires clear { IfSome sheet.now.word (λ id. IsClear sheet.now.table id.0) }
+    requires word { IsSomeAnd sheet.now.asked_type (λ id. id.0 < length sheet.now.table) }
+    requires clear { IfSome sheet.now.asked_type (λ id. IsClear sheet.now.table id.0) }
     ensures told { (files : Files) → S.files shelf.old ≡ Some files
         → CommandEndsAs string_bytes (DoesBy (Some (job_words job.now)) files sheet.now) result }
     ensures calm { (other : List ℕ) → S.faults shelf.old other ≤ S.faults shelf.new other }
@@ -199,9 +199,9 @@ fn report_for<S: Shelf>(
     sheet: &Sheet,
     shelf: &mut S,
 ) -> Result<String, Ended>
-    requires word { IfSome sheet.now.word (λ id. id.0 < length sheet.now.table) }
-    requires clear { IfSome sheet.now.word (λ id. IsClear sheet.now.table id.0) }
-    requires given { is_some sheet.now.word ≡ is_some job }
+    requires word { IfSome sheet.now.asked_type (λ id. id.0 < length sheet.now.table) }
+    requires clear { IfSome sheet.now.asked_type (λ id. IsClear sheet.now.table id.0) }
+    requires given { is_some sheet.now.asked_type ≡ is_some job }
     ensures told { (files : Files) → S.files shelf.old ≡ Some files
         → CommandEndsAs string_bytes (DoesBy (option_map job_words job.entry) files sheet.now) result }
     ensures calm { (other : List ℕ) → S.faults shelf.old other ≤ S.faults shelf.new other }

@@ -16,10 +16,10 @@ pub struct Target<'a> {
 
 /// The type that a command names.
 pub fn target_of(sheet: &Sheet) -> Target<'_>
-    requires { IsSomeAnd sheet.now.word (λ id. id.0 < length sheet.now.table) }
+    requires { IsSomeAnd sheet.now.asked_type (λ id. id.0 < length sheet.now.table) }
     ensures { type_in result ≡ type_of sheet.now }
 {
-    match sheet.word {
+    match sheet.asked_type {
         Some(id) => Target {
             table: &sheet.table,
             id,

@@ -52,9 +52,6 @@ kept-has p (x ∷ xs) a h = go (p x) refl h (λ r. kept-has p xs a r)
 -- ---- one step
 
 module _ (g : List (List ℕ)) where
-
-
-
   children-back : (b : ℕ) → b < length g → children (reversed g) b ≡ parents g b
   children-back b h =
       let long : length (reversed g) ≡ length g = length-map-range_with_len (parents g) 0 (length g) in

@@ -14,14 +14,17 @@ abbrev pub state_by : Option State → State
 state_by None = Done (Ends 1)
 state_by (Some s) = s
 
+-- the state of a number; one past the end is done
 abbrev pub state : List State → ℕ → State
 state states a = state_by (slice_get states a)
 
+-- all that is asked of the number is known
 abbrev pub is_done : State → Bool
 is_done New = false
 is_done (Open p) = false
 is_done (Done c) = true
 
+-- the course that a state tells
 abbrev pub course_in : State → Course
 course_in New = ToCircle
 course_in (Open p) = ToCircle
@@ -35,6 +38,7 @@ join (Ends n) OnCircle = ToCircle
 join (Ends n) ToCircle = ToCircle
 join (Ends n) (Ends m) = Ends (larger n (suc m))
 
+-- the course of a number by those of what it leads to
 abbrev pub join_all : List State → Course → List ℕ → Course
 join_all states known [] = known
 join_all states known (a ∷ rest) = join_all states (join known (course_in (state states a))) rest
@@ -60,10 +64,12 @@ pub record Segment : Type 0 where
   -- whether they were seen to lie on a circle
   pub circle : Bool
 
+-- the numbers of all segments
 abbrev pub members_of : List Segment → List ℕ
 members_of [] = []
 members_of (s ∷ below) = s.members ++ members_of below
 
+-- what all segments still wait for
 abbrev pub waiting_of : List Segment → List ℕ
 waiting_of [] = []
 waiting_of (s ∷ below) = s.waiting ++ waiting_of below
@@ -72,6 +78,7 @@ waiting_of (s ∷ below) = s.waiting ++ waiting_of below
 abbrev pub part_of : Segment → List Segment → Part
 part_of s below = record { first = length (members_of below); waiting = length (waiting_of below); circle = s.circle }
 
+-- the parts of all segments
 abbrev pub parts_of : List Segment → List Part
 parts_of [] = []
 parts_of (s ∷ below) = part_of s below ∷ parts_of below
@@ -91,6 +98,7 @@ module _ (g : List (List ℕ)) (states : List State) where
     pub seen : (a b : ℕ) → Has s.members a → Has (children g a) b → IsSeen above s b
     pub some : (members_of below ≡ []) ⊎ (0 < length s.members)
 
+  -- the segments are cut from the numbers above
   abbrev pub AreSegments : List ℕ → List Segment → Type 0
   AreSegments above [] = Unit {0}
   AreSegments above (s ∷ below) = IsSegment above s below × AreSegments (s.members ++ above) below
@@ -127,6 +135,7 @@ fresh (l ∷ ls) (New ∷ states) = (2 + length l) + fresh ls states
 fresh (l ∷ ls) (Open p ∷ states) = fresh ls states
 fresh (l ∷ ls) (Done c ∷ states) = fresh ls states
 
+-- how many steps the search may still take
 abbrev pub left_over : List (List ℕ) → List State → List ℕ → List Part → ℕ
 left_over g states waiting parts = (length waiting + length parts) + fresh g states
 

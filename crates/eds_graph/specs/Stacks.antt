@@ -1,6 +1,7 @@
 -- Lists whose first item is on top.
 use Rattle.std.specs.Prelude.{List, [], ◌∷◌, Option, Some, None}
 
+-- the item on top of a stack
 abbrev pub top : {A : Type 0} → List A → Option A
 top [] = None
 top (x ∷ xs) = Some x

@@ -58,6 +58,7 @@ unfoldable pub has_way : ℕ → List (List ℕ) → ℕ → Bool
 has_way zero g a = true
 has_way (suc n) g a = list_any (has_way n g) (children g a)
 
+-- the larger of two numbers
 abbrev pub larger : ℕ → ℕ → ℕ
 larger a b = if nat_lt a b then b else a
 
@@ -77,27 +78,33 @@ height g a = tall (suc (suc (length g))) g a
 
 -- ---- all numbers at once
 
+-- where the ways from a number go on
 abbrev pub course : List (List ℕ) → ℕ → Course
 course g a = if is_on_circle g a then OnCircle else if reaches_circle g a then ToCircle else Ends (height g a)
 
+-- the same of all numbers
 abbrev pub all_courses : List (List ℕ) → List Course
 all_courses g = map (course g) (range_with_len 0 (length g))
 
+-- for each number whether it is reached from some
 abbrev pub all_reached : List (List ℕ) → List ℕ → List Bool
 all_reached g from = map (is_reached g from) (range_with_len 0 (length g))
 
 -- ---- what is read off a number's course
 
+-- the number leads to itself
 abbrev pub is_circular : Course → Bool
 is_circular OnCircle = true
 is_circular ToCircle = false
 is_circular (Ends n) = false
 
+-- the number leads to itself, or to one that does
 abbrev pub is_endless : Course → Bool
 is_endless OnCircle = true
 is_endless ToCircle = true
 is_endless (Ends n) = false
 
+-- the longest way has more numbers than a limit, or no end
 abbrev pub is_deeper : ℕ → Course → Bool
 is_deeper limit OnCircle = true
 is_deeper limit ToCircle = true

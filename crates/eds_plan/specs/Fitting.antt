@@ -47,6 +47,7 @@ AreAlike t a (kind.Arr i m) b (kind.Arr j n) = a ≡ b
 AreAlike t a (kind.Con c) b (kind.Con d) = IsAtOrUnder t a b ⊎ IsAtOrUnder t b a
 AreAlike t a k b l = ⊥
 
+-- values of the two types may stand for each other
 pub record FitTogether (t : Table) (a b : ℕ) : Type 0 where
   pub one : TypeRow
   pub other : TypeRow
@@ -54,10 +55,12 @@ pub record FitTogether (t : Table) (a b : ℕ) : Type 0 where
   pub other_is : slice_get t b ≡ Some other
   pub alike : AreAlike t a one.kind b other.kind
 
+-- an integer kind or a sub-range
 abbrev pub IsNumeric : Kind → Type 0
 IsNumeric (kind.Int f s) = Unit {0}
 IsNumeric k = ⊥
 
+-- the type is of numbers
 abbrev pub IsNumberType : Table → ℕ → Type 0
 IsNumberType t id = (row : TypeRow) × (slice_get t id ≡ Some row) × IsNumeric row.kind
 
@@ -81,6 +84,7 @@ module _ (t : Table) (Conforms : ℕ → Plain → Type 0) (vars args : List ℕ
   OperandsFit (id ∷ ids) [] = ⊥
   OperandsFit (id ∷ ids) (a ∷ as') = OperandFits id a × OperandsFit ids as'
 
+  -- the value is a number
   abbrev pub IsNumberValue : Plain → Type 0
   IsNumberValue v = (n : ℤ) × (v ≡ num n)
 
@@ -100,6 +104,7 @@ module _ (t : Table) (Conforms : ℕ → Plain → Type 0) (vars args : List ℕ
   BothFit (source.Variable x path) b = (id : ℕ) × HasType vars x path id × OperandFits id b
   BothFit (source.Argument i path) b = (id : ℕ) × HasType args i path id × OperandFits id b
 
+  -- a relation that asks for an order
   abbrev pub IsOrder : Relation → Type 0
   IsOrder Equal = ⊥
   IsOrder NotEqual = ⊥
@@ -126,9 +131,11 @@ module _ (t : Table) (Conforms : ℕ → Plain → Type 0) (vars args : List ℕ
   -- ---- statements, where Calls says which activities have which types of arguments, and Carries what a member carries
 
   module _ (Calls : ℕ → List ℕ → Type 0) (Carries : ℕ → ℕ → Op → List ℕ → Type 0) where
+    -- the target has the type
     abbrev pub TargetHas : Target → ℕ → Type 0
     TargetHas x id = HasType vars x.variable x.path id
 
+    -- an operand that may be there
     abbrev pub list_of_option : Option Operand → List Operand
     list_of_option None = []
     list_of_option (Some a) = a ∷ []
@@ -149,6 +156,7 @@ module _ (t : Table) (Conforms : ℕ → Plain → Type 0) (vars args : List ℕ
 
 -- ---- components
 
+-- the types of a member are there
 abbrev pub MemberKnown : Table → Option Member → Type 0
 MemberKnown t None = Unit {0}
 MemberKnown t (Some (member.Parameter name id read_only)) = id.0 < length t

@@ -45,6 +45,7 @@ all_breaks files word = judged_first (reading_breaks files) (breaks_where_read (
 
 -- ---- the sheet
 
+-- the row is a container's
 abbrev pub is_container : TypeRow → Bool
 is_container row = is_some (container_in (Some row))
 
@@ -57,8 +58,9 @@ counts_of names typed = record {
   components = count_by (λ d. is_comp d.item) names.declared;
 }
 
+-- the sheet of its names and types
 abbrev pub sheet_of : Names → SheetTypes → Sheet
-sheet_of names typed = record { table = typed.table; word = typed.asked_type; counts = counts_of names typed }
+sheet_of names typed = record { table = typed.table; asked_type = typed.asked_type; counts = counts_of names typed }
 
 -- the sheet of some trees, or the first of the rules that they break, judged in their order
 abbrev pub compiled_trees : List (List Node) → (word : Option (List ℕ)) → Result Sheet Refusal

@@ -8,9 +8,9 @@ use Rattle.eds_sheet.specs.Compiled.{compiled}
 -- The table keeps the rules on types; where a word was given, the type that it names is in the table, and is clear.
 pub record IsSound (word : Option (List ℕ)) (sheet : Sheet) : Type 0 where
   pub rules : KeepsRules sheet.table
-  pub named : IfSome sheet.word (λ id. id.0 < length sheet.table)
-  pub clear : IfSome sheet.word (λ id. IsClear sheet.table id.0)
-  pub asked : is_some sheet.word ≡ is_some word
+  pub named : IfSome sheet.asked_type (λ id. id.0 < length sheet.table)
+  pub clear : IfSome sheet.asked_type (λ id. IsClear sheet.table id.0)
+  pub asked : is_some sheet.asked_type ≡ is_some word
 
 -- so is every sheet that is compiled
 abbrev pub SheetsAreSound : Type 0

@@ -23,6 +23,7 @@ pending_names = map codes (
     ∷ "FixedValueEntry" ∷ "PaddingEntry" ∷ "LengthEntry" ∷ "ErrorControlEntry"
     ∷ "ConstraintSet" ∷ "TrailerEntryList" ∷ "ComponentSet" ∷ "StateMachineSet" ∷ [])
 
+-- the element is one of these
 abbrev pub is_pending : (name : List ℕ) → Bool
 is_pending name = is_among pending_names name
 
@@ -48,6 +49,7 @@ pending_attribute name held = if same name (codes "ContainerDataType") then pend
 abbrev pub pending_word : List Node → ℕ → Option (List ℕ)
 pending_word t node = word_or (is_pending (name_at t node)) (name_at t node) (pending_attribute (name_at t node) (attributes_at t node))
 
+-- what of an element breaks the rule
 abbrev pub breaks_pending : Judgement
 breaks_pending file t link = refusal_if Unsupported file link.node (pending_word t link.node)
 

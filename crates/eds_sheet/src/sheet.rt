@@ -30,7 +30,7 @@ pub struct Counts {
 #[derive(Drop)]
 pub struct Sheet {
     pub table: TypeTable,
-    pub word: Option<TypeId>,
+    pub asked_type: Option<TypeId>,
     pub counts: Counts,
 }
 
@@ -82,8 +82,8 @@ fn sheet_of(alloc: Global, files: &Files, extra: Option<&str>) -> Result<Sheet, 
     requires few { length files.now ≤ 64 }
     requires short { All (λ octets. length octets < 2 ^ 32) files.now }
     ensures sheet { Answers (λ s. s) result (compiled files.now (option_map (λ w. w.now) extra.entry)) }
-    ensures word { IfOk result (λ s. IfSome s.word (λ id. id.0 < length s.table)) }
-    ensures asked { IfOk result (λ s. is_some s.word ≡ is_some extra.entry) }
+    ensures word { IfOk result (λ s. IfSome s.asked_type (λ id. id.0 < length s.table)) }
+    ensures asked { IfOk result (λ s. is_some s.asked_type ≡ is_some extra.entry) }
 {
     let trees = read_trees(alloc, files)?;
     shape_check(alloc, &trees)?;
@@ -94,7 +94,7 @@ fn sheet_of(alloc: Global, files: &Files, extra: Option<&str>) -> Result<Sheet, 
     let counts = counts_of(&space, &typed)?;
     Ok(Sheet {
         table: typed.table,
-        word: typed.asked_type,
+        asked_type: typed.asked_type,
         counts,
     })
 }
@@ -107,9 +107,9 @@ pub fn compile(alloc: Global, files: &Files, extra: Option<&str>) -> Result<Shee
     requires few { length files.now ≤ 64 }
     requires short { All (λ octets. length octets < 2 ^ 32) files.now }
     ensures sheet { Answers (λ s. s) result (compiled files.now (option_map (λ w. w.now) extra.entry)) }
-    ensures word { IfOk result (λ s. IfSome s.word (λ id. id.0 < length s.table)) }
-    ensures asked { IfOk result (λ s. is_some s.word ≡ is_some extra.entry) }
-    ensures clear { IfOk result (λ s. IfSome s.word (λ id. IsClear s.table id.0)) }
+    ensures word { IfOk result (λ s. IfSome s.asked_type (λ id. id.0 < length s.table)) }
+    ensures asked { IfOk result (λ s. is_some s.asked_type ≡ is_some extra.entry) }
+    ensures clear { IfOk result (λ s. IfSome s.asked_type (λ id. IsClear s.table id.0)) }
 {
     sheet_of(alloc, files, extra)
 }

@@ -30,8 +30,8 @@ fn files_of(alloc: Global, text: &str) -> Result<Files, Memory>
 
 /// The sheet of one file, with the type of a name as its word.
 pub(crate) fn sheet_of(alloc: Global, text: &str, name: &str) -> Result<Sheet, Fail<Refusal>>
-    ensures word { IfOk result (λ sheet. IsSomeAnd sheet.word (λ id. id.0 < length sheet.table)) }
-    ensures clear { IfOk result (λ sheet. IfSome sheet.word (λ id. IsClear sheet.table id.0)) }
+    ensures word { IfOk result (λ sheet. IsSomeAnd sheet.asked_type (λ id. id.0 < length sheet.table)) }
+    ensures clear { IfOk result (λ sheet. IfSome sheet.asked_type (λ id. IsClear sheet.table id.0)) }
 {
     let files = files_of(alloc, text)?;
     compile(alloc, &files, Some(name))

@@ -111,7 +111,7 @@ impl<'a> Trial<'a> {
             Err(Fail::Named(_)) => return Ok(Outcome::Refused),
             Err(Fail::Memory) => return Err(Memory),
         };
-        let Some(id) = sheet.word else {
+        let Some(id) = sheet.asked_type else {
             return Ok(Outcome::Refused);
         };
         let found = census(alloc, sheet.table.rows(), id, self.bits)?;
