@@ -1,8 +1,10 @@
 //! Reads packets of twenty entries with a reader that was written by hand for them, and nothing but std.
 //!
 //!   packets COUNT
+//!   packets json COUNT
 //!
-//! COUNT is 1 to 10,000,000. The last line that is printed is `packets COUNT sum SUM`.
+//! COUNT is 1 to 10,000,000. The last line that is printed is `packets COUNT sum SUM`; with `json`, each packet is written as
+//! JSON too, and the last line is `octets OCTETS last TEXT`, of all texts and of the last one.
 //!
 //! A packet has 32 octets. Bits are numbered from the most significant of the first octet on; numbers are big-endian
 //! where nothing else is said.
@@ -38,6 +40,7 @@
 
 use std::env;
 use std::fmt;
+use std::fmt::Write;
 use std::process::ExitCode;
 
 const MOST_PACKETS: u32 = 10_000_000;
@@ -114,13 +117,17 @@ impl Grouping {
         }
     }
 
-    fn letter(self) -> u8 {
+    fn label(self) -> &'static str {
         match self {
-            Grouping::Continuation => b'C',
-            Grouping::First => b'F',
-            Grouping::Last => b'L',
-            Grouping::Unsegmented => b'U',
+            Grouping::Continuation => "CONTINUATION",
+            Grouping::First => "FIRST",
+            Grouping::Last => "LAST",
+            Grouping::Unsegmented => "UNSEGMENTED",
         }
+    }
+
+    fn letter(self) -> u8 {
+        self.label().as_bytes()[0]
     }
 }
 
@@ -143,13 +150,17 @@ impl Mode {
         }
     }
 
-    fn letter(self) -> u8 {
+    fn label(self) -> &'static str {
         match self {
-            Mode::Off => b'O',
-            Mode::Idle => b'I',
-            Mode::Nominal => b'N',
-            Mode::Safe => b'S',
+            Mode::Off => "OFF",
+            Mode::Idle => "IDLE",
+            Mode::Nominal => "NOMINAL",
+            Mode::Safe => "SAFE",
         }
+    }
+
+    fn letter(self) -> u8 {
+        self.label().as_bytes()[0]
     }
 }
 
@@ -269,6 +280,40 @@ impl Housekeeping {
             self.errors.into(),
         ]
     }
+
+    /// The packet as JSON, without spaces and with its members in byte order.
+    fn text(&self) -> Result<String, fmt::Error> {
+        let mut text = String::with_capacity(128);
+        write!(
+            text,
+            "{{\"$type\":\"Bench/Housekeeping\",\"apid\":{},\"bias\":{},\"count\":{},\"drift\":{}\
+             ,\"duty\":{},\"errors\":{},\"fraction\":{},\"grouping\":\"{}\",\"has_second\":{}\
+             ,\"heater\":{},\"is_command\":{},\"load\":{},\"mode\":\"{}\",\"orbit\":{}\
+             ,\"position\":{},\"pressure\":{},\"seconds\":{},\"temperature\":{},\"valve\":{}\
+             ,\"version\":{}}}",
+            self.apid,
+            self.bias,
+            self.count,
+            self.drift,
+            self.duty,
+            self.errors,
+            self.fraction,
+            self.grouping.label(),
+            self.has_second,
+            self.heater,
+            self.is_command,
+            self.load,
+            self.mode.label(),
+            self.orbit,
+            self.position,
+            self.pressure,
+            self.seconds,
+            self.temperature,
+            self.valve,
+            self.version,
+        )?;
+        Ok(text)
+    }
 }
 
 fn sum_of(count: u32) -> Result<u64, Unreadable> {
@@ -283,24 +328,53 @@ fn sum_of(count: u32) -> Result<u64, Unreadable> {
     Ok(sum)
 }
 
-fn count_asked() -> Option<u32> {
-    let mut words = env::args().skip(1);
-    let count = words.next()?.parse().ok()?;
-    if words.next().is_none() && (1..=MOST_PACKETS).contains(&count) {
-        Some(count)
+/// How many octets the texts of so many packets have, and the last text.
+fn texts_of(count: u32) -> Result<(usize, String), Unreadable> {
+    let mut sequence = Sequence::new();
+    let mut octets = 0;
+    let mut last = String::new();
+    for _ in 0..count {
+        let packet = Housekeeping::read(&sequence.next_packet())?;
+        last = packet.text().expect("a text takes all that is written");
+        octets += last.len();
+    }
+    Ok((octets, last))
+}
+
+/// How many packets, and whether they are written as JSON.
+fn asked() -> Option<(u32, bool)> {
+    let words: Vec<String> = env::args().skip(1).collect();
+    let (word, json) = match words.as_slice() {
+        [count] => (count, false),
+        [word, count] if word == "json" => (count, true),
+        _ => return None,
+    };
+    let count = word.parse().ok()?;
+    if (1..=MOST_PACKETS).contains(&count) {
+        Some((count, json))
     } else {
         None
     }
 }
 
+fn line_for(count: u32, json: bool) -> Result<String, Unreadable> {
+    if json {
+        let (octets, last) = texts_of(count)?;
+        Ok(format!("octets {octets} last {last}"))
+    } else {
+        let sum = sum_of(count)?;
+        Ok(format!("packets {count} sum {sum}"))
+    }
+}
+
 fn main() -> ExitCode {
-    let Some(count) = count_asked() else {
-        println!("usage: packets COUNT, 1 to {MOST_PACKETS}");
+    let Some((count, json)) = asked() else {
+        println!("usage: packets [json] COUNT, 1 to {MOST_PACKETS}");
         return ExitCode::from(2);
     };
-    match sum_of(count) {
-        Ok(sum) => {
-            println!("packets {count} sum {sum}");
+    match line_for(count, json) {
+        Ok(line) => {
+            println!("{line}");
             ExitCode::SUCCESS
         }
         Err(cause) => {

@@ -1,38 +1,66 @@
-//! Unpacks many packets by a sheet, so that those of a second can be counted from outside.
+//! Unpacks many packets by a sheet and writes them as JSON, or reads a large text or binary many times, so that those of a
+//! second can be counted from outside.
 #![tactic(auto)]
 
+mod json;
+mod letters;
 mod packet_sheet;
 mod sequence;
 mod sum;
 mod unpacked;
 
+use json::json_of;
+use letters::sum_read;
 use std::env;
 use std::process::ExitCode;
 use unpacked::sum_of;
 
-const MOST_PACKETS: u32 = 10_000_000;
+/// The most packets or turns of a run.
+const MOST: u32 = 10_000_000;
 
-// The number that is the one word after the program's name.
-fn count_asked(rt: &HostRuntime) -> Option<u32> {
-    let args = env::args(rt).ok()?;
-    let mut words = args.skip(1);
-    let word = words.next()?;
-    if words.next().is_some() {
-        return None;
-    }
-    let count = word.as_str().parse::<u32>().ok()?;
-    if 1 <= count && count <= MOST_PACKETS {
+/// What the words after the program's name ask for.
+enum Task {
+    Packets(u32),
+    Json(u32),
+    Letters(letters::Task),
+}
+
+fn count_of(word: &str) -> Option<u32> {
+    let count = word.parse::<u32>().ok()?;
+    if 1 <= count && count <= MOST {
         Some(count)
     } else {
         None
     }
 }
 
-fn main(rt: HostRuntime) -> ExitCode {
-    let Some(count) = count_asked(&rt) else {
-        let _ = println!(rt; "usage: eds_bench COUNT, 1 to {MOST_PACKETS}");
-        return ExitCode::from(2);
+fn json_asked(first: &str, second: &str) -> Option<Task> {
+    if first == "json" {
+        Some(Task::Json(count_of(second)?))
+    } else {
+        None
+    }
+}
+
+fn task_asked(rt: &HostRuntime) -> Option<Task> {
+    let args = env::args(rt).ok()?;
+    let mut words = args.skip(1);
+    let first = words.next()?;
+    let Some(second) = words.next() else {
+        return Some(Task::Packets(count_of(first.as_str())?));
     };
+    let Some(turns) = words.next() else {
+        return json_asked(first.as_str(), second.as_str());
+    };
+    if words.next().is_some() {
+        return None;
+    }
+    let task = letters::Task::of(first.as_str(), second.as_str(), turns.as_str(), MOST)?;
+    Some(Task::Letters(task))
+}
+
+// Prints what the packets add up to.
+fn print_packets(rt: &HostRuntime, count: u32) -> ExitCode {
     let printed = match sum_of(rt.alloc(), count) {
         Ok(sum) => println!(rt; "packets {count} sum {sum}"),
         Err(stop) => {
@@ -43,5 +71,45 @@ fn main(rt: HostRuntime) -> ExitCode {
     match printed {
         Ok(()) => ExitCode::SUCCESS,
         Err(_) => ExitCode::FAILURE,
+    }
+}
+
+// Prints how many octets the packets' JSON has, and that of the last packet.
+fn print_json(rt: &HostRuntime, count: u32) -> ExitCode {
+    let printed = match json_of(rt.alloc(), count) {
+        Ok(json) => println!(rt; "octets {} last {}", json.octets, json.last.as_str()),
+        Err(stop) => {
+            let _ = println!(rt; "{stop}");
+            return ExitCode::FAILURE;
+        }
+    };
+    match printed {
+        Ok(()) => ExitCode::SUCCESS,
+        Err(_) => ExitCode::FAILURE,
+    }
+}
+
+// Prints what is read adds up to.
+fn print_letters(rt: &HostRuntime, task: letters::Task) -> ExitCode {
+    let Ok(sum) = sum_read(rt.alloc(), task) else {
+        return ExitCode::FAILURE;
+    };
+    match println!(rt; "turns {} sum {sum}", task.turns()) {
+        Ok(()) => ExitCode::SUCCESS,
+        Err(_) => ExitCode::FAILURE,
+    }
+}
+
+fn main(rt: HostRuntime) -> ExitCode {
+    match task_asked(&rt) {
+        Some(Task::Packets(count)) => print_packets(&rt, count),
+        Some(Task::Json(count)) => print_json(&rt, count),
+        Some(Task::Letters(task)) => print_letters(&rt, task),
+        None => {
+            let _ = println!(rt;
+                "usage: eds_bench COUNT, json COUNT, or binary or text BITS TURNS; counts from 1 to {MOST}"
+            );
+            ExitCode::from(2)
+        }
     }
 }

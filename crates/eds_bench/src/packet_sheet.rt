@@ -1,8 +1,8 @@
 //! The sheet of the packets: one container of twenty scalar entries, in 32 octets.
 
-ghost use Rattle.std.specs.Prelude.{◌≡◌, ◌<◌, ◌^◌, length, IfOk, IsSomeAnd};
+ghost use Rattle.std.specs.Prelude.{◌≡◌, ◌<◌, ◌^◌, length, IfOk, IfSome, IsSomeAnd};
 ghost use Rattle.std.specs.List.{All};
-ghost use Rattle.eds_types.specs.FlatTables.{IsFlatTable};
+ghost use Rattle.eds_types.specs.Overlap.{IsClear};
 
 use eds_base::{Fail, Items, Memory, Octets, Refusal};
 use eds_sheet::{Files, Sheet, compile};
@@ -98,7 +98,7 @@ fn sheet_files(alloc: Global) -> Result<Files, Memory>
 /// The sheet, with the type of the packets as its word.
 pub(crate) fn packet_sheet(alloc: Global) -> Result<Sheet, Fail<Refusal>>
     ensures packet { IfOk result (λ sheet. IsSomeAnd sheet.word (λ id. id.0 < length sheet.table)) }
-    ensures flat { IfOk result (λ sheet. IsFlatTable sheet.table) }
+    ensures clear { IfOk result (λ sheet. IfSome sheet.word (λ id. IsClear sheet.table id.0)) }
 {
     let files = sheet_files(alloc)?;
     compile(alloc, &files, Some(PACKET_TYPE))

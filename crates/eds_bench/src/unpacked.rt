@@ -1,7 +1,10 @@
 //! Packets unpacked by the sheet.
 
-ghost use Rattle.std.specs.Prelude.{◌≡◌, ◌<◌, length};
-ghost use Rattle.eds_types.specs.FlatTables.{IsFlatTable};
+ghost use Rattle.std.specs.Prelude.{◌≡◌, ◌<◌, IfOk, length};
+ghost use Rattle.eds_bits.specs.Bits.{Bits};
+ghost use Rattle.eds_types.specs.Overlap.{IsClear};
+ghost use Rattle.eds_types.specs.Plain.{plain};
+ghost use Rattle.eds_types.specs.Spelling.{Spells};
 
 use crate::packet_sheet::packet_sheet;
 use crate::sequence::{PACKET_OCTETS, Sequence};
@@ -24,6 +27,16 @@ pub(crate) enum Stop {
     Memory,
 }
 
+impl Stop {
+    /// Why a packet is not read.
+    pub(crate) fn of(fail: Fail<Fault>) -> Stop {
+        match fail {
+            Fail::Named(_) => Stop::Unreadable,
+            Fail::Memory => Stop::Memory,
+        }
+    }
+}
+
 impl fmt::Display for Stop {
     fn fmt<W: fmt::Write>(&self, f: &mut fmt::Formatter<W>) -> fmt::Result {
         f.write_str(match self {
@@ -34,17 +47,18 @@ impl fmt::Display for Stop {
     }
 }
 
-// The value of the octets of a packet.
+/// The value of the octets of a packet.
 #[tactic(auto, using(crate::proofs::Views::packets_are_short))]
-fn unpack_packet(
+pub(crate) fn unpack_packet(
     alloc: Global,
     table: &TypeTable,
     id: TypeId,
     octets: &[u8],
 ) -> Result<Value, Fail<Fault>>
     requires known { id.0 < length table.now }
-    requires flat { IsFlatTable table.now }
+    requires clear { IsClear table.now id.0 }
     requires packet { length octets.now ≡ PACKET_OCTETS }
+    ensures { IfOk result (λ v. (bits : Bits) × Spells table.now id.0 (plain v) bits) }
 {
     let (packet, _) = unpack(alloc, table, id, BitView::new(octets))?;
     Ok(packet)
@@ -58,7 +72,7 @@ fn sum_of_packets(
     count: u32,
 ) -> Result<u64, Fail<Fault>>
     requires known { id.0 < length table.now }
-    requires flat { IsFlatTable table.now }
+    requires clear { IsClear table.now id.0 }
 {
     let mut sequence = Sequence::new();
     let mut sum = Sum::new();
@@ -83,7 +97,6 @@ pub(crate) fn sum_of(alloc: Global, count: u32) -> Result<u64, Stop> {
     };
     match sum_of_packets(alloc, &sheet.table, id, count) {
         Ok(sum) => Ok(sum),
-        Err(Fail::Named(_)) => Err(Stop::Unreadable),
-        Err(Fail::Memory) => Err(Stop::Memory),
+        Err(fail) => Err(Stop::of(fail)),
     }
 }

@@ -15,8 +15,8 @@ use Rattle.eds_overlap.specs.Laws.{IsReadable, IsThere, OneCanonical, OneOutcome
 use Rattle.eds_sheet.specs.declared.sheet.Sheet.{Sheet}
 use Rattle.eds_sheet.specs.Compiled.{compiled}
 use Rattle.eds_sheet.specs.Laws.{IsSound, SheetsAreSound}
-use Rattle.eds_overlap.proofs.UnderivedTables.{flat_clear}
 use Rattle.eds_types.specs.Failing.{FailsAt, fault_at}
+use Rattle.eds_types.specs.Overlap.{IsClear}
 use Rattle.eds_types.specs.Packing.{PackFailsAt, PackFault, most_bits, pack_fault_at}
 use Rattle.eds_types.specs.Plain.{Plain}
 use Rattle.eds_types.specs.Spelling.{Canon, Spells}
@@ -172,11 +172,14 @@ module _ (laws : ValueLaws) (type : TypeIn) (is : IsReadable type.table type.id)
 
 -- the type that a word names in a sheet can be read
 word_readable : (word : List ℕ) (sheet : Sheet) → IsSound (Some word) sheet → IsReadable (type_of sheet).table (type_of sheet).id
-word_readable word sheet s = readable sheet.table (type_of sheet).id s.rules (flat_clear sheet.table s.flat (type_of sheet).id) (go sheet.word s.asked s.named)
+word_readable word sheet s = go sheet.word s.asked s.named s.clear
   where
-    go : (w : Option TypeId) → is_some w ≡ true → IfSome w (λ id. id.0 < length sheet.table) → option_map_or (λ id. id.0) w 0 < length sheet.table
-    go (Some id) asked named = named
-    go None asked named = absurd (cc asked)
+    id_of : Option TypeId → ℕ
+    id_of w = option_map_or (λ id. id.0) w 0
+
+    go : (w : Option TypeId) → is_some w ≡ true → IfSome w (λ id. id.0 < length sheet.table) → IfSome w (λ id. IsClear sheet.table id.0) → IsReadable sheet.table (id_of w)
+    go (Some id) asked named clear = readable sheet.table id.0 s.rules clear named
+    go None asked named clear = absurd (cc asked)
 
 -- an accepted sheet is sound
 accepted_sound : SheetsAreSound → (files : Files) (c : CommandWords) (sheet : Sheet) → accepted files c ≡ Ok sheet → IsSound (type_name_of c) sheet

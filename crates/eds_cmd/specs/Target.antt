@@ -1,8 +1,8 @@
 -- The type that a command names, among those of its sheet.
-use Rattle.std.specs.Prelude.{◌≡◌, ℕ, ◌<◌, length}
+use Rattle.std.specs.Prelude.{ℕ, ◌<◌, length}
 use Rattle.std.specs.Option.{option_map_or}
 use Rattle.eds_types.specs.Rows.{Table}
-use Rattle.eds_types.specs.FlatTables.{IsFlatTable}
+use Rattle.eds_types.specs.Overlap.{IsClear}
 use Rattle.eds_sheet.specs.declared.sheet.Sheet.{Sheet}
 use Rattle.eds_cmd.specs.declared.target.Target.{Target}
 
@@ -19,7 +19,7 @@ type_in t = record { table = t.table.now; id = t.id.0 }
 abbrev pub type_of : Sheet → TypeIn
 type_of sheet = record { table = sheet.table; id = option_map_or (λ id. id.0) sheet.word 0 }
 
--- the type is there, in a table of scalar types and flat containers
+-- the type is there, and clear
 pub record IsKnown (type : TypeIn) : Type 0 where
   pub there : type.id < length type.table
-  pub flat : IsFlatTable type.table
+  pub clear : IsClear type.table type.id

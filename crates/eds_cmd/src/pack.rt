@@ -11,7 +11,7 @@ use crate::report::bits_report;
 use crate::stop::{Stop, pack_fault, value_fault};
 use crate::target::Target;
 use eds_base::Fail;
-use eds_pack::{law, pack};
+use eds_pack::pack;
 use eds_types::Value;
 use eds_value::from_json;
 use std::alloc::Global;
@@ -34,7 +34,6 @@ fn packed_value(alloc: Global, target: &Target<'_>, value: &Value) -> Result<Str
     requires { IsKnown (type_in target.now) }
     ensures { EndsAs string_bytes (PacksValue (type_in target.now) (plain value.now)) result }
 {
-    law::flat_is_built();
     match pack(alloc, target.table, target.id, value) {
         Ok((octets, size)) => {
             let text = hex::encode(alloc, octets.as_slice())?;

@@ -5,7 +5,7 @@ ghost use Rattle.std.specs.List.{Contains};
 ghost use Rattle.eds_base.specs.Answering.{Answers};
 ghost use Rattle.eds_io.specs.Counts.{HasRisen};
 ghost use Rattle.eds_io.specs.Files.{Files};
-ghost use Rattle.eds_types.specs.FlatTables.{IsFlatTable};
+ghost use Rattle.eds_types.specs.Overlap.{IsClear};
 ghost use Rattle.eds_sheet.specs.Compiled.{compiled};
 ghost use Rattle.eds_cmd.specs.Answer.{AnswersFew, DoesBy, IsReached, IsReachedSheet, Works, accepted, input_for as input_of, or_refused, sheet_file as sheet_of_name, sheet_files as sheets_of_names, whole_file as whole, within_report as within_limit};
 ghost use Rattle.eds_cmd.specs.Command.{ReadsFile, job_words, words_of};
@@ -115,7 +115,7 @@ fn sheet_by(
     requires short { All (λ file. length file < 2 ^ 32) files.now }
     ensures answer { Answers (λ s. s) result (or_refused (compiled files.now (option_map (λ w. w.now) type_name.entry))) }
     ensures word { IfOk result (λ s. IfSome s.word (λ id. id.0 < length s.table)) }
-    ensures flat { IfOk result (λ s. IsFlatTable s.table) }
+    ensures clear { IfOk result (λ s. IfSome s.word (λ id. IsClear s.table id.0)) }
     ensures given { IfOk result (λ s. is_some s.word ≡ is_some type_name.entry) }
 {
     match compile(alloc, files, type_name) {
@@ -131,7 +131,7 @@ fn sheet_for<S: Shelf>(alloc: Global, command: &Command<'_>, shelf: &mut S) -> R
     ensures told { (files : Files) → S.files shelf.old ≡ Some files
         → Comes (λ s. s) result (accepted files (words_of command.now)) }
     ensures word { IfOk result (λ s. IfSome s.word (λ id. id.0 < length s.table)) }
-    ensures flat { IfOk result (λ s. IsFlatTable s.table) }
+    ensures clear { IfOk result (λ s. IfSome s.word (λ id. IsClear s.table id.0)) }
     ensures given { IfOk result (λ s. is_some s.word ≡ is_some command.now.job) }
     ensures files { S.files shelf.new ≡ S.files shelf.old }
     ensures calm { (other : List ℕ) → S.faults shelf.old other ≤ S.faults shelf.new other }
@@ -180,7 +180,7 @@ fn run_job<S: Shelf>(
     shelf: &mut S,
 ) -> Result<String, Ended>
     requires word { IsSomeAnd sheet.now.word (λ id. id.0 < length sheet.now.table) }
-    requires flat { IsFlatTable sheet.now.table }
+    requires clear { IfSome sheet.now.word (λ id. IsClear sheet.now.table id.0) }
     ensures told { (files : Files) → S.files shelf.old ≡ Some files
         → CommandEndsAs string_bytes (DoesBy (Some (job_words job.now)) files sheet.now) result }
     ensures calm { (other : List ℕ) → S.faults shelf.old other ≤ S.faults shelf.new other }
@@ -200,7 +200,7 @@ fn report_for<S: Shelf>(
     shelf: &mut S,
 ) -> Result<String, Ended>
     requires word { IfSome sheet.now.word (λ id. id.0 < length sheet.now.table) }
-    requires flat { IsFlatTable sheet.now.table }
+    requires clear { IfSome sheet.now.word (λ id. IsClear sheet.now.table id.0) }
     requires given { is_some sheet.now.word ≡ is_some job }
     ensures told { (files : Files) → S.files shelf.old ≡ Some files
         → CommandEndsAs string_bytes (DoesBy (option_map job_words job.entry) files sheet.now) result }

@@ -1,4 +1,6 @@
 pub mod Faces
+pub mod Names
+pub mod Stops
 pub mod Pairs
 pub mod Members
 pub mod Cycles
@@ -8,3 +10,4 @@ pub mod Reading
 pub mod Every
 pub mod EachOnce
 pub mod Sameness
+pub mod Sheets

@@ -7,6 +7,7 @@ mod every;
 mod face;
 mod found;
 mod gather;
+mod generic_names;
 pub mod law;
 mod members;
 mod name_rule;
@@ -14,8 +15,10 @@ mod pair;
 mod read;
 mod resolving;
 mod rules;
+mod sheet;
 
 pub use every::judge_faces;
 pub use face::{Base, Face, Faces, Generic, Mapped, OwnArgument, OwnMember, Source};
 pub use read::read_faces;
 pub use resolving::resolve_face;
+pub use sheet::{bases_of, check_faces, resolve};

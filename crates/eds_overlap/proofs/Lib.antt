@@ -18,7 +18,12 @@ pub mod WhatIsRead
 pub mod TailReading
 pub mod ExamplePacking
 pub mod Solutions
+pub mod LeastInAll
+pub mod FirstPairs
 pub mod UnderivedTables
 pub mod Parting
 pub mod Meeting
 pub mod UsedTypes
+pub mod Gathering
+pub mod CommonNumbers
+pub mod ToldApart

@@ -1,10 +1,16 @@
 //! Containers whose values can't be told apart, and the laws that hold where there are none.
 #![tactic(auto)]
 
+mod common;
 mod find;
 pub mod law;
+mod marks;
+mod note;
 mod paths;
 mod sets;
+mod texts;
 
+pub use common::Common;
 pub use find::{Overlap, find_overlap};
+pub use note::overlap_refusal;
 pub use sets::solution_sets;

@@ -43,11 +43,11 @@ along_last f front d = ap (flat_map f) (reverse-append front (d ∷ []))
 
 -- ---- a sequence
 
-by_number : (f : ℕ → List Placed) (xs : List ℕ) → flat_map (λ (id : TypeId). f id.0) (map id_of xs) ≡ flat_map f xs
+pub by_number : (f : ℕ → List Placed) (xs : List ℕ) → flat_map (λ (id : TypeId). f id.0) (map id_of xs) ≡ flat_map f xs
 by_number f [] = refl
 by_number f (x ∷ xs) = ap (λ b. f x ++ b) (by_number f xs)
 
-reverse_map : (xs : List ℕ) → reverse (map id_of xs) ≡ map id_of (reverse xs)
+pub reverse_map : (xs : List ℕ) → reverse (map id_of xs) ≡ map id_of (reverse xs)
 reverse_map [] = refl
 reverse_map (x ∷ xs) = reverse-append (id_of x ∷ []) (map id_of xs) ∙ ap (λ ys. ys ++ id_of x ∷ []) (reverse_map xs) ∙ sym (map-append id_of (reverse xs) (x ∷ [])) ∙ ap (map id_of) (sym (reverse-append (x ∷ []) xs))
 

@@ -1,15 +1,19 @@
 //! Packing: the canonical bits of a value, or where and why it has none.
 #![tactic(auto)]
 
+mod choice;
+mod constraint;
 mod fail;
-pub mod law;
+mod fields;
 mod leaf;
+mod length;
 mod octets;
 mod plain;
 mod room;
 mod seek;
 mod size;
 mod tally;
+mod told;
 mod whole;
 mod write;
 

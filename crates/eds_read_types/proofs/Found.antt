@@ -15,7 +15,7 @@ use Rattle.eds_names.proofs.Numbering.{type-rows}
 use Rattle.eds_read_types.specs.Places.{types}
 use Rattle.eds_read_types.specs.ReadTypes.{id_of, id_found}
 use Rattle.eds_read_types.specs.Entries.{type_named}
-use Rattle.eds_read_types.specs.TableRows.{entry_id, id_or_first}
+use Rattle.eds_read_types.specs.PartRows.{entry_id, id_or_first}
 
 module _ (trees : List (List Node)) (names : Names) (named : names_in trees ≡ Ok names) where
   row_there : (name : List ℕ) (id : TypeId) → item_named names.declared name ≡ Some (item.Sort id) → id.0 < length (types names)
@@ -37,7 +37,7 @@ module _ (trees : List (List Node)) (names : Names) (named : names_in trees ≡ 
   unfolding look_up
   found_there at text id e = first_there (candidates (around_at names at) text) id e
 
-  number_there : (at : Place) (reference : Option (List ℕ)) (id : TypeId) → id_found names at reference ≡ Some id → id.0 < length (types names)
+  pub number_there : (at : Place) (reference : Option (List ℕ)) (id : TypeId) → id_found names at reference ≡ Some id → id.0 < length (types names)
   number_there at None id e = absurd cc
   number_there at (Some text) id e = go (look_up names at text) refl e
     where

@@ -9,13 +9,21 @@ mod BaseSteps
 mod NumberSteps
 mod RowSteps
 pub mod SheetPlaces
+pub mod LevelFacts
+pub mod NestingFacts
 mod Unbroken
+pub mod EmptyFacts
+pub mod ListPlaces
+pub mod ListFieldFacts
 pub mod TableFacts
 pub mod PlainRules
 pub mod PartFacts
+pub mod PartNames
+pub mod FaceFacts
 pub mod SortFacts
 pub mod Found
 pub mod ChainFacts
+pub mod Circles
 pub mod NumberFacts
 pub mod TableRules
 pub mod Limits

@@ -40,10 +40,12 @@ use Rattle.eds_names.specs.LookUp.{Names, duplicates, names_of, unless, names_in
 use Rattle.eds_types.specs.Rows.{container_by, entries_in}
 use Rattle.eds_read_types.proofs.SheetPlaces.{Standing, link_of, links}
 use Rattle.eds_read_types.specs.Places.{element, is_element, in_file, held, is_container, is_type, types, type_places}
-use Rattle.eds_read_types.specs.Entries.{entries_at}
+use Rattle.eds_read_types.specs.PartSorts.{part_sort_of}
+use Rattle.eds_read_types.specs.Entries.{is_part, parts_held, entries_at}
+use Rattle.eds_read_types.specs.PartRows.{part_at}
 use Rattle.eds_read_types.specs.Bases.{bases_of}
 use Rattle.eds_read_types.specs.Numbers.{numbers_of}
-use Rattle.eds_read_types.specs.TableRows.{entry_part, scalar_kind_by, scalar_kind_in, kind_of as kind_at, table_row, rows_from, table_rows, has_few_entries, are_few}
+use Rattle.eds_read_types.specs.TableRows.{scalar_kind_by, scalar_kind_in, kind_of as kind_at, table_row, rows_from, table_rows, has_few_entries, are_few}
 use Rattle.eds_read_types.specs.declared.sort.Sort.{Sort}
 use Rattle.eds_read_types.specs.declared.sort.Sort.TheVariants as sort
 use Rattle.eds_read_types.specs.Sorts.{sort_of}
@@ -293,9 +295,17 @@ record IsJudged (t : List Node) (link : Link) : Type 0 where
 abbrev named : List Node → List ℕ → ℕ → List ℕ
 named t name n = filter (is_named t name) (children_at t n)
 
+-- an element is a part of a container
+abbrev names_part : List Node → ℕ → Bool
+names_part t n = is_some (part_sort_of (name_at t n))
+
+-- the parts that an element holds
+abbrev parts_below : List Node → ℕ → List ℕ
+parts_below t n = filter (names_part t) (children_at t n)
+
 -- the entries of a container
 abbrev entries : List Node → ℕ → List ℕ
-entries t n = flat_map (named t (codes "Entry")) (named t (codes "EntryList") n)
+entries t n = flat_map (parts_below t) (named t (codes "EntryList") n)
 
 -- a type stands in a set of types, and a container has few entries
 record IsSound (t : List Node) (link : Link) : Type 0 where
@@ -377,11 +387,11 @@ fewer-kept p (x ∷ xs) = go (p x) refl (fewer-kept p xs)
     go false e h = rw e (omega (arith, h))
 
 -- what one list holds
-few_entries : (t : List Node) (most : ℕ) (lists : List ℕ) → drop 1 lists ≡ [] → AllByRecursion (λ n. length (children_at t n) ≤ most) lists → length (flat_map (named t (codes "Entry")) lists) ≤ most
+few_entries : (t : List Node) (most : ℕ) (lists : List ℕ) → drop 1 lists ≡ [] → AllByRecursion (λ n. length (children_at t n) ≤ most) lists → length (flat_map (parts_below t) lists) ≤ most
 few_entries t most [] e h = omega arith
 few_entries t most (n ∷ []) e h =
-    let kept = fewer-kept (is_named t (codes "Entry")) (children_at t n) in
-    let only = append-nil (named t (codes "Entry") n) in
+    let kept = fewer-kept (names_part t) (children_at t n) in
+    let only = append-nil (parts_below t n) in
     rw only (omega (arith, kept, h.0))
 few_entries t most (n ∷ m ∷ lists) e h = absurd (cc)
 
@@ -450,7 +460,7 @@ all-passing q (x ∷ xs) = go (q x) refl (all-passing q xs)
 few_at_end : (t : List Node) (link : Link) → IsPlaced t 1 link → same (name_at t link.node) (codes "ContainerDataType") ≡ true → length (entries t link.node) ≤ 32767
 few_at_end t link p e =
     let none = no_lists t link p (same-is (name_at t link.node) (codes "ContainerDataType") e) (named t (codes "EntryList") link.node) (all-passing (is_named t (codes "EntryList")) (children_at t link.node)) in
-    subst (λ lists. length (flat_map (named t (codes "Entry")) lists) ≤ 32767) (sym none) (omega arith)
+    subst (λ lists. length (flat_map (parts_below t) lists) ≤ 32767) (sym none) (omega arith)
 
 few_above : (t : List Node) (link : Link) → is_some (shape_at t link) ≡ true → IsJudged t link → AllByRecursion (λ c. IsJudged t (child_link link c)) (children_of t link.node)
     → same (name_at t link.node) (codes "ContainerDataType") ≡ true → length (entries t link.node) ≤ 32767
@@ -465,7 +475,7 @@ few_above t link k j h e = go (shape_at t link) refl k j.children
         let one = one_list t link s (same-is (name_at t link.node) (codes "ContainerDataType") e) known u (supported_children t link cs h) in
         let few = all-weaker (λ c. IsJudged t (child_link link c)) (λ c. length (children_at t c) ≤ 32767) (λ c i. few-there (children_at t c) 32767 i.few) cs h in
         let kept = all-kept (λ c. length (children_at t c) ≤ 32767) (λ c. is_member (codes "EntryList") (name_at t c)) cs few in
-        subst (λ lists. length (flat_map (named t (codes "Entry")) lists) ≤ 32767) (sym (lists_counted t link.node)) (few_entries t 32767 (members_of t (codes "EntryList") cs) one kept)
+        subst (λ lists. length (flat_map (parts_below t) lists) ≤ 32767) (sym (lists_counted t link.node)) (few_entries t 32767 (members_of t (codes "EntryList") cs) one kept)
 
 -- ---- all elements of a file
 
@@ -728,26 +738,31 @@ place file n = record { file = file; node = n }
 
 -- the elements of a file among those of a sheet
 module _ (trees : List (List Node)) (file : ℕ) (t : List Node) (there : slice_get trees file ≡ Some t) where
-  held_among : (name : List ℕ) (n : ℕ) (cs : List ℕ) → filter (is_element trees name) (map (in_file (place file n)) cs) ≡ map (place file) (filter (is_named t name) cs)
-  held_among name n [] = refl
-  held_among name n (c ∷ cs) = go (is_named t name c) refl (held_among name n cs)
+  among : (p : Place → Bool) (q : ℕ → Bool) → ((c : ℕ) → p (place file c) ≡ q c) → (n : ℕ) (cs : List ℕ) → filter p (map (in_file (place file n)) cs) ≡ map (place file) (filter q cs)
+  among p q same_test n [] = refl
+  among p q same_test n (c ∷ cs) = go (q c) refl (among p q same_test n cs)
     where
-      go : (b : Bool) → is_named t name c ≡ b → filter (is_element trees name) (map (in_file (place file n)) cs) ≡ map (place file) (filter (is_named t name) cs)
-          → filter (is_element trees name) (map (in_file (place file n)) (c ∷ cs)) ≡ map (place file) (filter (is_named t name) (c ∷ cs))
-      go true e rest = let same_test : is_element trees name (place file c) ≡ true = rw there e in rw (same_test, e) (ap (λ ps. place file c ∷ ps) rest)
-      go false e rest = let same_test : is_element trees name (place file c) ≡ false = rw there e in rw (same_test, e) rest
+      go : (b : Bool) → q c ≡ b → filter p (map (in_file (place file n)) cs) ≡ map (place file) (filter q cs) → filter p (map (in_file (place file n)) (c ∷ cs)) ≡ map (place file) (filter q (c ∷ cs))
+      go true e rest = let test : p (place file c) ≡ true = same_test c ∙ e in rw (test, e) (ap (λ ps. place file c ∷ ps) rest)
+      go false e rest = let test : p (place file c) ≡ false = same_test c ∙ e in rw (test, e) rest
+
+  children_there : (n : ℕ) → node_children (element trees (place file n)) ≡ children_at t n
+  children_there n = rw there refl
 
   held_in : (name : List ℕ) (n : ℕ) → held trees name (place file n) ≡ map (place file) (named t name n)
-  held_in name n = let cs : node_children (element trees (place file n)) ≡ children_at t n = rw there refl in rw cs (held_among name n (children_at t n))
+  held_in name n = let cs = children_there n in rw cs (among (is_element trees name) (is_named t name) (λ c. rw there refl) n (children_at t n))
 
-  held_in_all : (name : List ℕ) (ns : List ℕ) → length (flat_map (held trees name) (map (place file) ns)) ≡ length (flat_map (named t name) ns)
-  held_in_all name [] = refl
-  held_in_all name (n ∷ ns) =
-      let first : length (held trees name (place file n)) ≡ length (named t name n) = ap length (held_in name n) ∙ length-map (named t name n) (place file) in
-      length-append (held trees name (place file n)) (flat_map (held trees name) (map (place file) ns)) ∙ (rw (first, held_in_all name ns) (sym (length-append (named t name n) (flat_map (named t name) ns))))
+  parts_in_file : (n : ℕ) → parts_held trees (place file n) ≡ map (place file) (parts_below t n)
+  parts_in_file n = let cs = children_there n in rw cs (among (is_part trees) (names_part t) (λ c. rw there refl) n (children_at t n))
+
+  parts_in_all : (ns : List ℕ) → length (flat_map (parts_held trees) (map (place file) ns)) ≡ length (flat_map (parts_below t) ns)
+  parts_in_all [] = refl
+  parts_in_all (n ∷ ns) =
+      let first : length (parts_held trees (place file n)) ≡ length (parts_below t n) = ap length (parts_in_file n) ∙ length-map (parts_below t n) (place file) in
+      length-append (parts_held trees (place file n)) (flat_map (parts_held trees) (map (place file) ns)) ∙ (rw (first, parts_in_all ns) (sym (length-append (parts_below t n) (flat_map (parts_below t) ns))))
 
   entries_counted : (n : ℕ) → length (entries_at trees (place file n)) ≡ length (entries t n)
-  entries_counted n = ap (λ lists. length (flat_map (held trees (codes "Entry")) lists)) (held_in (codes "EntryList") n) ∙ held_in_all (codes "Entry") (named t (codes "EntryList") n)
+  entries_counted n = ap (λ lists. length (flat_map (parts_held trees) lists)) (held_in (codes "EntryList") n) ∙ parts_in_all (named t (codes "EntryList") n)
 
 -- the container at a place has few entries
 abbrev HasFew : List (List Node) → Place → Type 0
@@ -812,7 +827,7 @@ few_row : (trees : List (List Node)) (names : Names) (id : ℕ) (d : Declared) �
 few_row trees names id d h = go (is_container trees d.place) refl
   where
     go : (b : Bool) → is_container trees d.place ≡ b → has_few_entries (table_row trees names id d) ≡ true
-    go true e = rw e (rw (length-map (entries_at trees d.place) (entry_part trees names)) (le-leb (length (entries_at trees d.place)) 32767 (h e)))
+    go true e = rw e (rw (length-map (entries_at trees d.place) (part_at trees names id (entries_at trees d.place))) (le-leb (length (entries_at trees d.place)) 32767 (h e)))
     go false e = subst (λ c. nat_le (length (entries_in c)) 32767 ≡ true) (sym (no_container trees names id d.place e)) refl
 
 few_rows : (trees : List (List Node)) (names : Names) (n : ℕ) (ds : List Declared) → AllByRecursion (λ (d : Declared). HasFew trees d.place) ds → list_all has_few_entries (rows_from trees names n ds) ≡ true

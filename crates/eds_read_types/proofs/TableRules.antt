@@ -1,9 +1,9 @@
 -- The rows of a sheet that breaks no rule on types keep the rules of a table.
-use Rattle.std.proofs.Common.{◌≡◌, ℕ, zero, suc, ◌+◌, ◌<◌, ◌≤◌, Bool, true, false, ◌||◌, List, [], ◌∷◌, ◌++◌, length, map, slice_get, option_map, Option, Some, None, refl, sym, ap, subst, ◌∙◌, arith, lit≤}
-use Rattle.std.specs.Prelude.{nat_le, codes, not, Ok, if◌then◌else◌}
+use Rattle.std.proofs.Common.{◌≡◌, ℕ, zero, suc, ◌+◌, ◌<◌, ◌≤◌, Bool, true, false, ◌||◌, ◌&&◌, List, [], ◌∷◌, ◌++◌, length, map, slice_get, option_map, Option, Some, None, refl, sym, ap, subst, ◌∙◌, arith, lit≤}
+use Rattle.std.specs.Prelude.{nat_le, codes, not, is_some, Ok, if◌then◌else◌}
 use Rattle.std.specs.List.{AllByRecursion, filter_map, flat_map, list_all}
 use Rattle.std.proofs.Common.{leb-true}
-use Rattle.std.proofs.lemmas.Bool.{and_parts}
+use Rattle.std.proofs.lemmas.Bool.{and_parts, le-leb}
 use Rattle.std.proofs.lemmas.List.{length-map}
 use Rattle.std.proofs.lemmas.Option.{slice_get-map, slice_get_within}
 use Rattle.std.proofs.lemmas.Slice.Eq.{bytes_eq-Decides}
@@ -23,24 +23,32 @@ use Rattle.eds_names.specs.Repeats.{is_among}
 use Rattle.eds_names.specs.LookUp.{Names, AreApart, NamesDiffer, look_up, names_in}
 use Rattle.eds_names.proofs.Differing.{differ}
 use Rattle.eds_types.specs.declared.row.TypeRow.{TypeRow}
-use Rattle.eds_types.specs.declared.row.Kind.{Kind}
 use Rattle.eds_types.specs.declared.row.Kind.TheVariants as kind
 use Rattle.eds_types.specs.declared.row.Container.{Container}
 use Rattle.eds_types.specs.declared.row.Part.{Part}
+use Rattle.eds_types.specs.declared.row.Part.TheVariants as part
 use Rattle.eds_types.specs.Rows.{base_in, base_of, container_by, container_in, container_of, number_of_id, entries_in}
 use Rattle.eds_types.specs.Sizes.{open_of}
-use Rattle.eds_types.specs.FlatTables.{IsScalarEntry, IsFlatKind, IsFlatTable}
-use Rattle.eds_types.specs.Rules.{AreDistinct, IsListing, KindKeeps, HasKind, IsScalarKind, DerivesFrom, IsNested, name_of, KeepsRules}
+use Rattle.eds_types.specs.Fields.{type_by}
+use Rattle.eds_graph.specs.Ways.{is_circular}
+use Rattle.eds_graph.specs.Search.{Has as is_one_of}
+use Rattle.eds_graph.proofs.Tests.{has-left}
+use Rattle.eds_nesting.specs.Families.{types_of, types_in}
+use Rattle.eds_types.specs.Rules.{AreDistinct, IsListing, KindKeeps, HasKind, DerivesFrom, IsNested, IsCounted, name_of, KeepsRules}
 use Rattle.eds_read_types.specs.declared.numbers.FormAndDomain.{FormAndDomain}
 use Rattle.eds_read_types.specs.Places.{element, is_element, is_container, is_sub_range, is_number, attribute, own_name, elements, types, type_places}
 use Rattle.eds_read_types.specs.References.{references, row_for, judged_text, judged_by, judged_at, broken_with}
 use Rattle.eds_read_types.specs.ReadTypes.{id_of, id_found}
-use Rattle.eds_read_types.specs.Entries.{entries_at}
+use Rattle.eds_read_types.specs.declared.part_sort.PartSort.{PartSort}
+use Rattle.eds_read_types.specs.declared.part_sort.PartSort.TheVariants as sorts
+use Rattle.eds_read_types.specs.Entries.{sort_at, entries_at, named_among}
+use Rattle.eds_read_types.specs.ListFields.{field_place}
+use Rattle.eds_read_types.specs.PartRows.{entry_id, padding_bits, unread, plain_part, type_number, list_part, part_by, part_at}
 use Rattle.eds_read_types.specs.Forms.{int_form_of, bool_form_of}
 use Rattle.eds_read_types.specs.Listings.{listing_of}
-use Rattle.eds_read_types.specs.Bases.{base_found, bases_of}
+use Rattle.eds_read_types.specs.Bases.{base_named, base_found, bases_of}
 use Rattle.eds_read_types.specs.Numbers.{form_or_wide, numbers_of}
-use Rattle.eds_read_types.specs.TableRows.{entry_id, entry_part, container_at, scalar_kind_by, scalar_kind_in, kind_of, table_row, rows_from, table_rows, has_few_entries, are_few}
+use Rattle.eds_read_types.specs.TableRows.{container_at, scalar_kind_by, scalar_kind_in, kind_of, table_row, rows_from, table_rows, has_few_entries, are_few}
 use Rattle.eds_read_types.specs.TableBreaks.{table_breaks}
 use Rattle.eds_read_types.specs.DuplicateEntry.{repeats, duplicates_at}
 use Rattle.eds_read_types.specs.declared.sort.Sort.{Sort}
@@ -50,7 +58,11 @@ use Rattle.eds_read_types.specs.ScalarKinds.{breaks_in, breaks_at}
 use Rattle.eds_read_types.specs.BadEncoding.{encoding_breaks}
 use Rattle.eds_read_types.specs.BadEnumeration.{enumeration_breaks}
 use Rattle.eds_read_types.specs.WrongKind.{kind_by, wrong_kind_by, wrong_kind_at}
-use Rattle.eds_read_types.specs.UnsupportedEntry.{unsupported_by, unsupported_entry_at}
+use Rattle.eds_read_types.specs.Nesting.{course_of, meets_base_cycle}
+use Rattle.eds_read_types.specs.TypeCycle.{type_cycle_at}
+use Rattle.eds_read_types.specs.LimitNesting.{is_too_deep, nesting_at}
+use Rattle.eds_read_types.specs.EmptyType.{may_be_empty, is_empty_entry, empty_part_at}
+use Rattle.eds_read_types.specs.ListField.{is_told, list_field_at}
 use Rattle.eds_read_types.specs.LengthField.{untold_by, length_field_at}
 use Rattle.eds_read_types.specs.declared.reference_row.Wanted.TheVariants.{NumberType}
 use Rattle.eds_read_types.proofs.NoBreaks.{least-none, append-none, types-apart, no_repeats}
@@ -58,11 +70,16 @@ use Rattle.eds_read_types.proofs.Unbroken.{IsUnbroken, unbroken}
 use Rattle.eds_read_types.proofs.SheetPlaces.{at_one, each-none as nowhere, of_types}
 use Rattle.eds_read_types.proofs.Limits.{few_types, length-rows}
 use Rattle.eds_read_types.proofs.LawFacts.{name_apart, enumerated_unbroken}
-use Rattle.eds_read_types.proofs.PlainRules.{EntryKeeps, IsPlainKind, KeepsRow, ArePlainRows, keeps_by_rows}
-use Rattle.eds_read_types.proofs.PartFacts.{rank_by, few_ranks, mapped_there, placed_all, all_mapped, no_item, part_none}
-use Rattle.eds_read_types.proofs.Found.{id_there}
+use Rattle.eds_read_types.proofs.PlainRules.{IsSolid, EntryKeeps, IsPlainKind, KeepsRow, ArePlainRows, keeps_by_rows}
+use Rattle.eds_read_types.proofs.PartFacts.{mapped_there, placed_all, no_item, part_none}
+use Rattle.eds_read_types.proofs.PartNames.{among_has, names_distinct, padding_keeps}
+use Rattle.eds_read_types.proofs.LevelFacts.{HasLevels}
+use Rattle.eds_read_types.proofs.NestingFacts.{no_base_cycle, rank as rank_in, few_ranks, nested, base_ranks, part_named}
+use Rattle.eds_read_types.proofs.EmptyFacts.{has_bits, solid}
+use Rattle.eds_read_types.proofs.ListFieldFacts.{counted}
+use Rattle.eds_read_types.proofs.Found.{id_there, number_there}
 use Rattle.eds_read_types.proofs.SortFacts.{sort_named, binary_keeps}
-use Rattle.eds_read_types.proofs.ChainFacts.{each-none, level}
+use Rattle.eds_read_types.proofs.ChainFacts.{over-none, each-none, unmet, level}
 use Rattle.eds_read_types.proofs.NumberFacts.{HasNumbers, base_there, base_is_sub, few_levels, less_levels, domains, derives_from}
 
 all_there : (p : TypeRow → Bool) (rows : List TypeRow) → list_all p rows ≡ true → (k : ℕ) (row : TypeRow) → slice_get rows k ≡ Some row → p row ≡ true
@@ -79,13 +96,6 @@ true_or false = refl
 
 -- ---- names
 
-among_has : (xs : List (List ℕ)) (x : List ℕ) → Has xs x → is_among xs x ≡ true
-among_has xs x h = ap (λ ys. is_among ys x) h.is ∙ stands h.before h.after
-  where
-    stands : (before after : List (List ℕ)) → is_among (before ++ x ∷ after) x ≡ true
-    stands [] after = rw ((bytes_eq-Decides x x).1 refl) refl
-    stands (y ∷ before) after = rw (stands before after) (true_or (same x y))
-
 apart-distinct : (xs : List (List ℕ)) → AreApart xs → AreDistinct xs
 apart-distinct [] h = tt
 apart-distinct (x ∷ xs) h = (λ has. clash (is_among xs x) h.0 (among_has xs x has), apart-distinct xs h.1)
@@ -93,12 +103,12 @@ apart-distinct (x ∷ xs) h = (λ has. clash (is_among xs x) h.0 (among_has xs x
 -- ---- rows
 
 -- a row at a number, with what it is declared by
-record IsRowAt (trees : List (List Node)) (names : Names) (ds : List Declared) (k id : ℕ) (row : TypeRow) : Type 0 where
-  declared : Declared
-  there : slice_get ds k ≡ Some declared
-  is : row ≡ table_row trees names id declared
+pub record IsRowAt (trees : List (List Node)) (names : Names) (ds : List Declared) (k id : ℕ) (row : TypeRow) : Type 0 where
+  pub declared : Declared
+  pub there : slice_get ds k ≡ Some declared
+  pub is : row ≡ table_row trees names id declared
 
-row_at : (trees : List (List Node)) (names : Names) (n : ℕ) (ds : List Declared) (k : ℕ) (row : TypeRow) → slice_get (rows_from trees names n ds) k ≡ Some row → (id : ℕ) → n + k ≡ id → IsRowAt trees names ds k id row
+pub row_at : (trees : List (List Node)) (names : Names) (n : ℕ) (ds : List Declared) (k : ℕ) (row : TypeRow) → slice_get (rows_from trees names n ds) k ≡ Some row → (id : ℕ) → n + k ≡ id → IsRowAt trees names ds k id row
 row_at trees names n [] k row e id q = absurd cc
 row_at trees names n (d ∷ ds) zero row e id q = let m : n ≡ id = omega arith in record { declared = d; there = refl; is = let r : table_row trees names n d ≡ row = cc in subst (λ i. row ≡ table_row trees names i d) m (sym r) }
 row_at trees names n (d ∷ ds) (suc k) row e id q = let r = row_at trees names (n + 1) ds k row e id (omega arith) in record { declared = r.declared; there = r.there; is = r.is }
@@ -112,7 +122,7 @@ row_names : (trees : List (List Node)) (names : Names) (n : ℕ) (ds : List Decl
 row_names trees names n [] = refl
 row_names trees names n (d ∷ ds) = ap (λ ns. d.name ∷ ns) (row_names trees names (n + 1) ds)
 
-place_there : (ds : List Declared) (k : ℕ) (d : Declared) → slice_get ds k ≡ Some d → slice_get (map (λ d. d.place) ds) k ≡ Some d.place
+pub place_there : (ds : List Declared) (k : ℕ) (d : Declared) → slice_get ds k ≡ Some d → slice_get (map (λ d. d.place) ds) k ≡ Some d.place
 place_there ds k d e = slice_get-map (λ d. d.place) ds k ∙ ap (option_map (λ d. d.place)) e
 
 declared_there : (ds : List Declared) (k : ℕ) (at : Place) → slice_get (map (λ d. d.place) ds) k ≡ Some at → (d : Declared) × (slice_get ds k ≡ Some d) × (d.place ≡ at)
@@ -152,7 +162,7 @@ number_kind trees names id at h =
     rw container (in_tree_number (slice_get trees at.file) at.node (numbers_of trees (type_places names) (bases_of trees names) id) h)
 
 -- whatever is no container has no parts
-scalar_by : (o : Option (List Node)) (n : ℕ) (numbers : FormAndDomain) → container_by (scalar_kind_in o n numbers) ≡ None
+pub scalar_by : (o : Option (List Node)) (n : ℕ) (numbers : FormAndDomain) → container_by (scalar_kind_in o n numbers) ≡ None
 scalar_by None n numbers = refl
 scalar_by (Some t) n numbers = go (sort_of (name_at t n))
   where
@@ -166,12 +176,6 @@ scalar_by (Some t) n numbers = go (sort_of (name_at t n))
     go (Some sort.Array) = refl
     go (Some sort.SubRange) = refl
     go (Some sort.Container) = refl
-
--- ---- entries
-
-part_names : (trees : List (List Node)) (names : Names) (ats : List Place) → filter_map name_of (map (entry_part trees names) ats) ≡ map (own_name trees) ats
-part_names trees names [] = refl
-part_names trees names (at ∷ ats) = ap (λ ns. own_name trees at ∷ ns) (part_names trees names ats)
 
 -- ---- bases
 
@@ -224,7 +228,7 @@ no_base trees names at is = go (base_found trees names at) refl
 
 -- ---- the rows of a sheet
 
-module _ (trees : List (List Node)) (names : Names) (word : Option (List ℕ)) (named : names_in trees ≡ Ok names) (u : IsUnbroken trees names word) where
+module _ (trees : List (List Node)) (names : Names) (word : Option (List ℕ)) (named : names_in trees ≡ Ok names) (small : length (types names) ≤ 4096) (u : IsUnbroken trees names word) where
   -- what the reference of a type finds is of the wanted kind
   fitting : AllByRecursion (λ at. judged_at (wrong_kind_at trees names) trees at ≡ []) (type_places names)
   fitting = of_types (λ at. judged_at (wrong_kind_at trees names) trees at ≡ []) trees names named (nowhere (judged_at (wrong_kind_at trees names) trees) (elements trees) u.kinds)
@@ -234,70 +238,211 @@ module _ (trees : List (List Node)) (names : Names) (word : Option (List ℕ)) (
   row_of : (id : ℕ) (d : Declared) → slice_get (types names) id ≡ Some d → slice_get (table_rows trees names) id ≡ Some (table_row trees names id d)
   row_of id d there = row_there trees names 0 (types names) id d there id (omega arith)
 
-  -- how deep types are nested: in a container there are types that nest no further
-  rank : ℕ → ℕ
-  rank id = rank_by (container_of (table_rows trees names) id)
+  -- ---- levels and ranks
+
+  number_some : (o : Option TypeId) (n : ℕ) → number_of_id o ≡ Some n → (id : TypeId) × (o ≡ Some id) × (id.0 ≡ n)
+  number_some None n e = absurd cc
+  number_some (Some id) n e = (id, refl, cc)
+
+  base_row : (id base : ℕ) → base_of (table_rows trees names) id ≡ Some base → level (bases_of trees names) id ≡ suc (level (bases_of trees names) base)
+  base_row id base e = go (slice_get (table_rows trees names) id) refl e
+    where
+      go : (o : Option TypeRow) → slice_get (table_rows trees names) id ≡ o → base_in o ≡ Some base → level (bases_of trees names) id ≡ suc (level (bases_of trees names) base)
+      go None q h = absurd cc
+      go (Some row) q h =
+          let r = row_at trees names 0 (types names) id row q id (omega arith) in
+          let some = number_some (base_found trees names r.declared.place) base (sym (ap (λ (w : TypeRow). number_of_id w.base) r.is) ∙ h) in
+          let place = place_there (types names) id r.declared r.there in
+          subst (λ n. level (bases_of trees names) id ≡ suc (level (bases_of trees names) n)) some.2
+          (less_levels trees names u.cycles u.chains u.encodings u.ranges u.subs id some.0 (base_there trees names id r.declared.place place ∙ some.1))
+
+  levels : HasLevels (table_rows trees names)
+  levels = record { level = level (bases_of trees names); base_level = base_row; base_within = λ id base e. base_there_row id base (slice_get (table_rows trees names) id) refl e }
+    where
+      base_there_row : (id base : ℕ) (o : Option TypeRow) → slice_get (table_rows trees names) id ≡ o → base_in o ≡ Some base → base < length (table_rows trees names)
+      base_there_row id base None q h = absurd cc
+      base_there_row id base (Some row) q h =
+          let r = row_at trees names 0 (types names) id row q id (omega arith) in
+          let some = number_some (base_found trees names r.declared.place) base (sym (ap (λ (w : TypeRow). number_of_id w.base) r.is) ∙ h) in
+          let within = number_there trees names named r.declared.place (base_named trees r.declared.place) some.0 some.1 in
+          subst (λ n. n < length (table_rows trees names)) some.2 (subst (λ n. (some.0).0 < n) (sym (length-rows trees names 0 (types names))) within)
+
+  -- the element of a type that is there
+  place_of : (id : ℕ) → id < length (table_rows trees names) → (at : Place) × (slice_get (type_places names) id ≡ Some at)
+  place_of id lt = go (slice_get (types names) id) refl
+    where
+      go : (o : Option Declared) → slice_get (types names) id ≡ o → (at : Place) × (slice_get (type_places names) id ≡ Some at)
+      go None e = absurd (no_item (types names) id (subst (λ n. id < n) (length-rows trees names 0 (types names)) lt) e)
+      go (Some d) e = (d.place, place_there (types names) id d e)
+
+  -- no type reaches itself
+  circleless : (id : ℕ) → id < length (table_rows trees names) → is_circular (course_of (table_rows trees names) id) ≡ false
+  circleless id lt =
+      let at = place_of id lt in
+      let here = unmet (is_circular (course_of (table_rows trees names) id) && not (meets_base_cycle (table_rows trees names) id)) _ (over-none (type_cycle_at trees (table_rows trees names)) 0 (type_places names) u.type_cycles id at.0 at.1 id (omega arith)) in
+      alone (is_circular (course_of (table_rows trees names) id)) (meets_base_cycle (table_rows trees names) id) (no_base_cycle (table_rows trees names) levels id) here
+    where
+      alone : (a b : Bool) → b ≡ false → (a && not b) ≡ false → a ≡ false
+      alone true true e h = cc
+      alone true false e h = cc
+      alone false b e h = refl
+
+  -- none is nested too deep
+  few_nested : (id : ℕ) → id < length (table_rows trees names) → is_too_deep (course_of (table_rows trees names) id) ≡ false
+  few_nested id lt = let at = place_of id lt in unmet (is_too_deep (course_of (table_rows trees names) id)) _ (over-none (nesting_at trees (table_rows trees names)) 0 (type_places names) u.nestings id at.0 at.1 id (omega arith))
+
+  abbrev rank : ℕ → ℕ
+  rank = rank_in (table_rows trees names)
+
+  -- ---- entries
 
   -- the type of an entry is there
   entry_there : (q : Place) (id : ℕ) (d : Declared) → slice_get (types names) id ≡ Some d → (entry_id trees names q).0 < length (table_rows trees names)
   entry_there q id d there = subst (λ n. (entry_id trees names q).0 < n) (sym (length-rows trees names 0 (types names))) (id_there trees names q (slice_get_within (types names) id d there) named)
 
-  -- an entry's type is no container
-  entry_scalar : (id : ℕ) (d : Declared) → slice_get (types names) id ≡ Some d → container_of (table_rows trees names) id ≡ Some (container_at trees names d.place) → (k : ℕ) (q : Place) → slice_get (entries_at trees d.place) k ≡ Some q → container_of (table_rows trees names) (entry_id trees names q).0 ≡ None
-  entry_scalar id d there is k q e =
-      let part_there : slice_get (entries_in (container_of (table_rows trees names) id)) k ≡ Some (entry_part trees names q) = ap (λ c. slice_get (entries_in c) k) is ∙ (slice_get-map (entry_part trees names) (entries_at trees d.place) k ∙ ap (option_map (entry_part trees names)) e) in
-      no_container (container_of (table_rows trees names) (entry_id trees names q).0) q (part_none unsupported_entry_at trees names u.flat id d.place (place_there (types names) id d there) k (entry_part trees names q) part_there q e)
-    where
-      no_container : (o : Option Container) (at : Place) → unsupported_by at o ≡ [] → o ≡ None
-      no_container None at h = refl
-      no_container (Some c) at h = absurd cc
+  -- a part of a container's row, and the element that it was read from
+  part_there : (id : ℕ) (d : Declared) → container_of (table_rows trees names) id ≡ Some (container_at trees names id d.place) → (k : ℕ) (q : Place) → slice_get (entries_at trees d.place) k ≡ Some q
+      → slice_get (entries_in (container_of (table_rows trees names) id)) k ≡ Some (part_at trees names id (entries_at trees d.place) q)
+  part_there id d is k q e = ap (λ c. slice_get (entries_in c) k) is ∙ (slice_get-map (part_at trees names id (entries_at trees d.place)) (entries_at trees d.place) k ∙ ap (option_map (part_at trees names id (entries_at trees d.place))) e)
 
-  -- and no open binary
-  entry_keeps : (id : ℕ) (d : Declared) → slice_get (types names) id ≡ Some d → container_of (table_rows trees names) id ≡ Some (container_at trees names d.place) → (k : ℕ) (p : Part) → slice_get (map (entry_part trees names) (entries_at trees d.place)) k ≡ Some p → EntryKeeps (table_rows trees names) rank (record { container = id; place = k; part = p })
-  unfolding rank
-  entry_keeps id d there is k p e =
+  container_is : (id : ℕ) (d : Declared) → slice_get (types names) id ≡ Some d → is_container trees d.place ≡ true → container_of (table_rows trees names) id ≡ Some (container_at trees names id d.place)
+  container_is id d there con = ap container_in (row_of id d there) ∙ rw con refl
+
+  -- where a part's type is no open binary and has bits
+  solid_type : (id : ℕ) → open_of (table_rows trees names) id ≡ None → may_be_empty (table_rows trees names) id ≡ false → IsSolid (table_rows trees names) id × (open_of (table_rows trees names) id ≡ None)
+  solid_type id closed_type bits = (solid (table_rows trees names) id (has_bits (table_rows trees names) id bits).0, closed_type)
+
+  no_open : (o : Option ℕ) (at : Place) → untold_by at o ≡ [] → o ≡ None
+  no_open None at h = refl
+  no_open (Some n) at h = absurd cc
+
+  -- the type of an entry has bits, and is no open binary
+  entry_solid : (id : ℕ) (d : Declared) → slice_get (types names) id ≡ Some d → is_container trees d.place ≡ true → (k : ℕ) (q : Place) → slice_get (entries_at trees d.place) k ≡ Some q → sort_at trees q ≡ Some sorts.Entry
+      → IsSolid (table_rows trees names) (entry_id trees names q).0 × (open_of (table_rows trees names) (entry_id trees names q).0 ≡ None)
+  entry_solid id d there con k q e s =
       let place = place_there (types names) id d there in
-      let q = mapped_there (entry_part trees names) (entries_at trees d.place) k p e in
-      let part_there : slice_get (entries_in (container_of (table_rows trees names) id)) k ≡ Some (entry_part trees names q.0) = ap (λ c. slice_get (entries_in c) k) is ∙ (e ∙ ap Some (sym q.2)) in
-      let scalar = entry_scalar id d there is k q.0 q.1 in
-      let closed = no_open (open_of (table_rows trees names) (entry_id trees names q.0).0) q.0 (part_none length_field_at trees names u.lengths id d.place place k (entry_part trees names q.0) part_there q.0 q.1) in
-      subst (λ part. EntryKeeps (table_rows trees names) rank (record { container = id; place = k; part = part })) q.2
-      (record {
-        fits = ((λ c same_type. absurd (none_some (container_of (table_rows trees names) (entry_id trees names q.0).0) c scalar same_type)), closed);
-        nests = λ inner same_type. nests (entry_id trees names q.0).0 inner same_type (entry_there q.0 id d there) scalar;
-      })
+      let part = part_there id d (container_is id d there con) k q e ∙ ap (λ s. Some (part_by s trees names id (entries_at trees d.place) q)) s in
+      let open_none = no_open (open_of (table_rows trees names) (entry_id trees names q).0) q (part_none length_field_at trees names u.lengths id d.place place k (plain_part trees names q) part q e) in
+      let bits = full (open_of (table_rows trees names) (entry_id trees names q).0) (may_be_empty (table_rows trees names) (entry_id trees names q).0) open_none
+      (unmet (is_empty_entry (table_rows trees names) (entry_id trees names q).0) _ (part_none empty_part_at trees names u.empty_parts id d.place place k (plain_part trees names q) part q e)) in
+      solid_type (entry_id trees names q).0 open_none bits
     where
-      no_open : (o : Option ℕ) (at : Place) → untold_by at o ≡ [] → o ≡ None
-      no_open None at h = refl
-      no_open (Some n) at h = absurd cc
+      full : (o : Option ℕ) (empty : Bool) → o ≡ None → (not (is_some o) && empty) ≡ false → empty ≡ false
+      full None empty e h = h
+      full (Some n) empty e h = cc
 
-      none_some : (o : Option Container) (c : Container) → o ≡ None → o ≡ Some c → ⊥
-      none_some o c e f = cc
+  -- and the type of a list's items
+  list_solid : (id : ℕ) (d : Declared) → slice_get (types names) id ≡ Some d → is_container trees d.place ≡ true → (k : ℕ) (q : Place) → slice_get (entries_at trees d.place) k ≡ Some q → sort_at trees q ≡ Some sorts.List
+      → IsSolid (table_rows trees names) (entry_id trees names q).0 × (open_of (table_rows trees names) (entry_id trees names q).0 ≡ None)
+  list_solid id d there con k q e s =
+      let place = place_there (types names) id d there in
+      let part = part_there id d (container_is id d there con) k q e ∙ ap (λ s. Some (part_by s trees names id (entries_at trees d.place) q)) s in
+      let open_none = no_open (open_of (table_rows trees names) (entry_id trees names q).0) q (part_none length_field_at trees names u.lengths id d.place place k (list_part trees names id (entries_at trees d.place) q) part q e) in
+      let bits = unmet (may_be_empty (table_rows trees names) (entry_id trees names q).0) _ (part_none empty_part_at trees names u.empty_parts id d.place place k (list_part trees names id (entries_at trees d.place) q) part q e) in
+      solid_type (entry_id trees names q).0 open_none bits
 
-      nests : (n inner : ℕ) → Some n ≡ Some inner → n < length (table_rows trees names) → container_of (table_rows trees names) n ≡ None → IsNested (table_rows trees names) (λ id. rank_by (container_of (table_rows trees names) id)) id inner
-      nests n inner same_type lt none =
-          let i : n ≡ inner = cc in
-          let low = ap rank_by none in
-          let high = ap rank_by is in
-          subst (IsNested (table_rows trees names) (λ id. rank_by (container_of (table_rows trees names) id)) id) i (lt, omega (arith, low, high))
+  -- padding keeps its size, and has no type
+  pad_keeps : (id k n : ℕ) → 1 ≤ n → n ≤ 524288 → EntryKeeps (table_rows trees names) rank (record { container = id; place = k; part = part.Pad n })
+  pad_keeps id k n some few = record { fits = (some, few); nests = λ inner same_type. absurd cc }
+
+  unread_keeps : (id k : ℕ) → EntryKeeps (table_rows trees names) rank (record { container = id; place = k; part = unread })
+  unread_keeps id k = pad_keeps id k 8 (lit≤ tt) (lit≤ tt)
+
+  -- what a part names, its container names
+  holds_part : (id : ℕ) (d : Declared) → is_container trees d.place ≡ true → (k : ℕ) (q : Place) → slice_get (entries_at trees d.place) k ≡ Some q → (x : ℕ) → type_by (Some (part_at trees names id (entries_at trees d.place) q)) ≡ Some x → is_one_of (types_in (table_row trees names id d).kind) x
+  holds_part id d con k q e x h =
+      let there = slice_get-map (part_at trees names id (entries_at trees d.place)) (entries_at trees d.place) k ∙ ap (option_map (part_at trees names id (entries_at trees d.place))) e in
+      rw con (has-left (types_of (map (part_at trees names id (entries_at trees d.place)) (entries_at trees d.place))) (types_of []) x (part_named (map (part_at trees names id (entries_at trees d.place)) (entries_at trees d.place)) k (part_at trees names id (entries_at trees d.place) q) there x h))
+
+  plain_keeps : (id : ℕ) (d : Declared) → slice_get (types names) id ≡ Some d → is_container trees d.place ≡ true → (k : ℕ) (q : Place) → slice_get (entries_at trees d.place) k ≡ Some q → sort_at trees q ≡ Some sorts.Entry
+      → EntryKeeps (table_rows trees names) rank (record { container = id; place = k; part = plain_part trees names q })
+  plain_keeps id d there con k q e s =
+      record {
+        fits = entry_solid id d there con k q e s;
+        nests = λ inner same_type. nests inner same_type;
+      }
+    where
+      here : part_at trees names id (entries_at trees d.place) q ≡ plain_part trees names q
+      here = ap (λ s. part_by s trees names id (entries_at trees d.place) q) s
+
+      nests : (inner : ℕ) → type_by (Some (plain_part trees names q)) ≡ Some inner → IsNested (table_rows trees names) rank id inner
+      nests inner same_type =
+          let is : (entry_id trees names q).0 ≡ inner = cc in
+          let lt = subst (λ n. n < length (table_rows trees names)) is (entry_there q id d there) in
+          nested (table_rows trees names) levels circleless id (table_row trees names id d) (row_of id d there) inner lt (holds_part id d con k q e inner (ap (λ p. type_by (Some p)) here ∙ same_type))
+
+  -- the number of items is told by an entry before the list
+  list_counted : (id : ℕ) (d : Declared) → slice_get (types names) id ≡ Some d → is_container trees d.place ≡ true → (k : ℕ) (q : Place) → slice_get (entries_at trees d.place) k ≡ Some q → sort_at trees q ≡ Some sorts.List
+      → IsCounted (table_rows trees names) (record { container = id; place = k; part = list_part trees names id (entries_at trees d.place) q }) (type_number id).0 (field_place trees (entries_at trees d.place) q)
+  list_counted id d there con k q e s =
+      let place = place_there (types names) id d there in
+      let container = container_is id d there con in
+      let part = part_there id d container k q e ∙ ap (λ s. Some (part_by s trees names id (entries_at trees d.place) q)) s in
+      let own = slice_get-map (part_at trees names id (entries_at trees d.place)) (entries_at trees d.place) k ∙ (ap (option_map (part_at trees names id (entries_at trees d.place))) e ∙ ap (λ s. Some (part_by s trees names id (entries_at trees d.place) q)) s) in
+      let told = met (is_told (table_rows trees names) id (field_place trees (entries_at trees d.place) q) k) _ (part_none list_field_at trees names u.list_fields id d.place place k (list_part trees names id (entries_at trees d.place) q) part q e) in
+      let root = ap base_in (row_of id d there) ∙ ap number_of_id (no_base trees names d.place con) in
+      subst (λ y. IsCounted (table_rows trees names) (record { container = id; place = k; part = list_part trees names id (entries_at trees d.place) q }) y (field_place trees (entries_at trees d.place) q)) (sym (number_is (slice_get_within (types names) id d there)))
+      (counted (table_rows trees names) id (container_at trees names id d.place) root container refl (field_place trees (entries_at trees d.place) q) k (list_part trees names id (entries_at trees d.place) q) own told)
+    where
+      met : (b : Bool) (r : Refusal) → (if b then [] else r ∷ []) ≡ [] → b ≡ true
+      met true r h = refl
+      met false r h = absurd cc
+
+      number_is : id < length (types names) → (type_number id).0 ≡ id
+      number_is lt = let low : nat_le id 4294967295 ≡ true = le-leb id 4294967295 (omega (arith, lt, small)) in rw low refl
+
+  list_keeps : (id : ℕ) (d : Declared) → slice_get (types names) id ≡ Some d → is_container trees d.place ≡ true → (k : ℕ) (q : Place) → slice_get (entries_at trees d.place) k ≡ Some q → sort_at trees q ≡ Some sorts.List
+      → EntryKeeps (table_rows trees names) rank (record { container = id; place = k; part = list_part trees names id (entries_at trees d.place) q })
+  list_keeps id d there con k q e s =
+      let full = list_solid id d there con k q e s in
+      record {
+        fits = (full.0, full.1, list_counted id d there con k q e s);
+        nests = λ inner same_type. nests inner same_type;
+      }
+    where
+      here : part_at trees names id (entries_at trees d.place) q ≡ list_part trees names id (entries_at trees d.place) q
+      here = ap (λ s. part_by s trees names id (entries_at trees d.place) q) s
+
+      nests : (inner : ℕ) → type_by (Some (list_part trees names id (entries_at trees d.place) q)) ≡ Some inner → IsNested (table_rows trees names) rank id inner
+      nests inner same_type =
+          let is : (entry_id trees names q).0 ≡ inner = cc in
+          let lt = subst (λ n. n < length (table_rows trees names)) is (entry_there q id d there) in
+          nested (table_rows trees names) levels circleless id (table_row trees names id d) (row_of id d there) inner lt (holds_part id d con k q e inner (ap (λ p. type_by (Some p)) here ∙ same_type))
+
+  part_keeps : (id : ℕ) (d : Declared) → slice_get (types names) id ≡ Some d → is_container trees d.place ≡ true → (k : ℕ) (q : Place) → slice_get (entries_at trees d.place) k ≡ Some q
+      → EntryKeeps (table_rows trees names) rank (record { container = id; place = k; part = part_at trees names id (entries_at trees d.place) q })
+  part_keeps id d there con k q e = go (sort_at trees q) refl
+    where
+      go : (s : Option PartSort) → sort_at trees q ≡ s → EntryKeeps (table_rows trees names) rank (record { container = id; place = k; part = part_by s trees names id (entries_at trees d.place) q })
+      go None s = unread_keeps id k
+      go (Some sorts.Entry) s = plain_keeps id d there con k q e s
+      go (Some sorts.FixedValue) s = unread_keeps id k
+      go (Some sorts.Padding) s = let size = padding_keeps trees q in pad_keeps id k (padding_bits trees q) size.0 size.1
+      go (Some sorts.List) s = list_keeps id d there con k q e s
+      go (Some sorts.Length) s = unread_keeps id k
+      go (Some sorts.ErrorControl) s = unread_keeps id k
+
+  entry_keeps : (id : ℕ) (d : Declared) → slice_get (types names) id ≡ Some d → is_container trees d.place ≡ true → (k : ℕ) (p : Part) → slice_get (map (part_at trees names id (entries_at trees d.place)) (entries_at trees d.place)) k ≡ Some p → EntryKeeps (table_rows trees names) rank (record { container = id; place = k; part = p })
+  entry_keeps id d there con k p e =
+      let q = mapped_there (part_at trees names id (entries_at trees d.place)) (entries_at trees d.place) k p e in
+      subst (λ part. EntryKeeps (table_rows trees names) rank (record { container = id; place = k; part = part })) q.2 (part_keeps id d there con k q.0 q.1)
 
   container_row : (id : ℕ) (d : Declared) → slice_get (types names) id ≡ Some d → is_container trees d.place ≡ true → length (entries_at trees d.place) ≤ 32767
-      → KeepsRow (table_rows trees names) rank id (record { name = d.name; base = base_found trees names d.place; kind = kind.Con (container_at trees names d.place) })
+      → KeepsRow (table_rows trees names) rank id (record { name = d.name; base = base_found trees names d.place; kind = kind.Con (container_at trees names id d.place) })
   container_row id d there is few =
       let place = place_there (types names) id d there in
       let rootless = no_base trees names d.place is in
-      let container : container_of (table_rows trees names) id ≡ Some (container_at trees names d.place) = ap container_in (row_of id d there) ∙ rw is refl in
-      let differ : repeats trees [] (entries_at trees d.place) ≡ [] = rw is at (each-none (duplicates_at trees names) (type_places names) u.duplicates id d.place place) in
+      let differ : repeats trees [] (named_among trees (entries_at trees d.place)) ≡ [] = rw is at (each-none (duplicates_at trees names) (type_places names) u.duplicates id d.place place) in
       record {
-        kind_keeps = (subst (λ n. n ≤ 32767) (sym (length-map (entries_at trees d.place) (entry_part trees names))) few, lit≤ tt);
+        kind_keeps = (subst (λ n. n ≤ 32767) (sym (length-map (entries_at trees d.place) (part_at trees names id (entries_at trees d.place)))) few, lit≤ tt);
         derives = λ base e. absurd (no_other base e rootless);
         plain = record {
           concrete = refl;
           root = ap number_of_id rootless;
           bare = refl;
           trailers = refl;
-          entries = placed_all (EntryKeeps (table_rows trees names) rank) id 0 (map (entry_part trees names) (entries_at trees d.place)) (λ k p e i same_place. subst (λ n. EntryKeeps (table_rows trees names) rank (record { container = id; place = n; part = p })) (to_sum k i same_place) (entry_keeps id d there container k p e));
-          names = subst AreDistinct (sym (part_names trees names (entries_at trees d.place))) (apart-distinct (map (own_name trees) (entries_at trees d.place)) (no_repeats trees [] (entries_at trees d.place) differ).1);
+          entries = placed_all (EntryKeeps (table_rows trees names) rank) id 0 (map (part_at trees names id (entries_at trees d.place)) (entries_at trees d.place)) (λ k p e i same_place. subst (λ n. EntryKeeps (table_rows trees names) rank (record { container = id; place = n; part = p })) (to_sum k i same_place) (entry_keeps id d there is k p e));
+          names = names_distinct trees names id (entries_at trees d.place) (entries_at trees d.place) (no_repeats trees [] (named_among trees (entries_at trees d.place)) differ).1;
         };
       }
     where
@@ -349,10 +494,6 @@ module _ (trees : List (List Node)) (names : Names) (word : Option (List ℕ)) (
             (derives_from trees names u.cycles u.chains u.encodings u.ranges u.subs id base (base_there trees names id d.place place ∙ e))),
       )
 
-  number_some : (o : Option TypeId) (n : ℕ) → number_of_id o ≡ Some n → (id : TypeId) × (o ≡ Some id) × (id.0 ≡ n)
-  number_some None n e = absurd cc
-  number_some (Some id) n e = (id, refl, cc)
-
   plain_scalar : (id : ℕ) (base : Option ℕ) (o : Option (List Node)) (n : ℕ) (numbers : FormAndDomain) → IsPlainKind (table_rows trees names) rank id base (scalar_kind_in o n numbers)
   plain_scalar id base None n numbers = tt
   plain_scalar id base (Some t) n numbers = go (sort_of (name_at t n))
@@ -383,44 +524,11 @@ module _ (trees : List (List Node)) (names : Names) (word : Option (List ℕ)) (
     where
       go : (b : Bool) → is_container trees d.place ≡ b → KeepsRow (table_rows trees names) rank id (table_row trees names id d)
       go true is =
-          let short : nat_le (length (map (entry_part trees names) (entries_at trees d.place))) 32767 ≡ true = rw is at few in
-          rw is (container_row id d there is (subst (λ n. n ≤ 32767) (length-map (entries_at trees d.place) (entry_part trees names)) (leb-true _ 32767 short)))
+          let short : nat_le (length (map (part_at trees names id (entries_at trees d.place)) (entries_at trees d.place))) 32767 ≡ true = rw is at few in
+          rw is (container_row id d there is (subst (λ n. n ≤ 32767) (length-map (entries_at trees d.place) (part_at trees names id (entries_at trees d.place))) (leb-true _ 32767 short)))
       go false is = scalar_row id d there is
 
-  base_row : (id base : ℕ) → base_of (table_rows trees names) id ≡ Some base → level (bases_of trees names) id ≡ suc (level (bases_of trees names) base)
-  base_row id base e = go (slice_get (table_rows trees names) id) refl e
-    where
-      go : (o : Option TypeRow) → slice_get (table_rows trees names) id ≡ o → base_in o ≡ Some base → level (bases_of trees names) id ≡ suc (level (bases_of trees names) base)
-      go None q h = absurd cc
-      go (Some row) q h =
-          let r = row_at trees names 0 (types names) id row q id (omega arith) in
-          let some = number_some (base_found trees names r.declared.place) base (sym (ap (λ (w : TypeRow). number_of_id w.base) r.is) ∙ h) in
-          let place = place_there (types names) id r.declared r.there in
-          subst (λ n. level (bases_of trees names) id ≡ suc (level (bases_of trees names) n)) some.2
-          (less_levels trees names u.cycles u.chains u.encodings u.ranges u.subs id some.0 (base_there trees names id r.declared.place place ∙ some.1))
-
-  -- a type that derives is an integer type or a sub-range, and so is its base
-  base_ranks : (id base : ℕ) → base_of (table_rows trees names) id ≡ Some base → rank id ≡ rank base
-  unfolding rank
-  base_ranks id base e = go (slice_get (table_rows trees names) id) refl e
-    where
-      none : (n : ℕ) (d : Declared) → slice_get (types names) n ≡ Some d → is_number trees d.place ≡ true → container_of (table_rows trees names) n ≡ None
-      none n d there number = ap container_in (row_of n d there) ∙ ap container_by (number_kind trees names n d.place number)
-
-      go : (o : Option TypeRow) → slice_get (table_rows trees names) id ≡ o → base_in o ≡ Some base → rank_by (container_of (table_rows trees names) id) ≡ rank_by (container_of (table_rows trees names) base)
-      go None q h = absurd cc
-      go (Some row) q h =
-          let r = row_at trees names 0 (types names) id row q id (omega arith) in
-          let some = number_some (base_found trees names r.declared.place) base (sym (ap (λ (w : TypeRow). number_of_id w.base) r.is) ∙ h) in
-          let place = place_there (types names) id r.declared r.there in
-          let b = base_of_sub trees names r.declared.place some.0 (at_one (λ at. judged_at (wrong_kind_at trees names) trees at ≡ []) (type_places names) fitting id r.declared.place place) some.1 in
-          let other = declared_there (types names) (some.0).0 b.place b.there in
-          let base_number : is_number trees (other.0).place ≡ true = ap (is_number trees) other.2 ∙ b.number in
-          let number = sub_is_number trees r.declared.place (base_is_sub trees names r.declared.place some.0 some.1) in
-          ap rank_by (none id r.declared r.there number) ∙ sym (ap rank_by (subst (λ n. container_of (table_rows trees names) n ≡ None) some.2 (none (some.0).0 other.0 other.1 base_number)))
-
   plain_rows : NamesDiffer names.declared → are_few (table_rows trees names) ≡ true → ArePlainRows (table_rows trees names)
-  unfolding rank
   plain_rows apart few =
       let parts = and_parts (nat_le (length (table_rows trees names)) 4096) (list_all has_few_entries (table_rows trees names)) few in
       record {
@@ -430,107 +538,29 @@ module _ (trees : List (List Node)) (names : Names) (word : Option (List ℕ)) (
         chains = few_levels trees names u.cycles u.chains u.encodings u.ranges u.subs;
         base_level = base_row;
         rank = rank;
-        nesting = λ id. few_ranks (container_of (table_rows trees names) id);
-        base_rank = base_ranks;
+        nesting = few_ranks (table_rows trees names) levels circleless few_nested;
+        base_rank = λ id base e. base_ranks (table_rows trees names) levels circleless id base (within id base (slice_get (table_rows trees names) id) refl e) e;
         rows = λ id row e. row_keeps id row e (all_there has_few_entries (table_rows trees names) parts.1 id row e);
       }
     where
+      within : (id base : ℕ) (o : Option TypeRow) → slice_get (table_rows trees names) id ≡ o → base_in o ≡ Some base → id < length (table_rows trees names)
+      within id base None q h = absurd cc
+      within id base (Some row) q h = slice_get_within (table_rows trees names) id row q
+
       row_keeps : (id : ℕ) (row : TypeRow) → slice_get (table_rows trees names) id ≡ Some row → has_few_entries row ≡ true → KeepsRow (table_rows trees names) rank id row
       row_keeps id row e h =
           let r = row_at trees names 0 (types names) id row e id (omega arith) in
           subst (KeepsRow (table_rows trees names) rank id) (sym r.is) (keeps_row id r.declared r.there (ap has_few_entries (sym r.is) ∙ h))
 
--- ---- the law
+-- ---- the laws
 
--- the rows of a sheet that is not refused keep the rules
+-- the rows of a sheet that is not refused are plain
+pub table_plain : (trees : List (List Node)) (names : Names) (word : Option (List ℕ)) → shape_verdict trees ≡ Ok tt → names_in trees ≡ Ok names → least (table_breaks trees names word) ≡ None → ArePlainRows (table_rows trees names)
+table_plain trees names word shaped named none =
+    let few = few_types trees names shaped named in
+    let small = leb-true _ 4096 (and_parts (nat_le (length (table_rows trees names)) 4096) (list_all has_few_entries (table_rows trees names)) few).0 in
+    plain_rows trees names word named (subst (λ n. n ≤ 4096) (length-rows trees names 0 (types names)) small) (unbroken trees names word (least-none (table_breaks trees names word) none)) (differ trees names named) few
+
+-- they keep the rules
 pub table_keeps : (trees : List (List Node)) (names : Names) (word : Option (List ℕ)) → shape_verdict trees ≡ Ok tt → names_in trees ≡ Ok names → least (table_breaks trees names word) ≡ None → KeepsRules (table_rows trees names)
-table_keeps trees names word shaped named none =
-    keeps_by_rows (table_rows trees names) (plain_rows trees names word named (unbroken trees names word (least-none (table_breaks trees names word) none)) (differ trees names named) (few_types trees names shaped named))
-
--- ---- tables that are flat
-
--- a string or a binary
-abbrev pub is_octets : (name : List ℕ) → Bool
-is_octets name = same name (codes "StringDataType") || same name (codes "BinaryDataType")
-
--- the type at a place is none
-abbrev pub IsNoOctets : List (List Node) → Place → Type 0
-IsNoOctets trees at = is_octets (node_name (element trees at)) ≡ false
-
-module _ (trees : List (List Node)) (names : Names) (word : Option (List ℕ)) (named : names_in trees ≡ Ok names) (u : IsUnbroken trees names word) (none : AllByRecursion (IsNoOctets trees) (type_places names)) where
-  abbrev rows : List TypeRow
-  rows = table_rows trees names
-
-  -- a type that is no container is scalar
-  scalar_there : (id : ℕ) (d : Declared) → slice_get (types names) id ≡ Some d → is_container trees d.place ≡ false → IsScalarKind (kind_of trees names id d.place)
-  scalar_there id d there is = rw is (in_tree (slice_get trees d.place.file) (at_one (IsNoOctets trees) (type_places names) none id d.place (place_there (types names) id d there)))
-    where
-      octets_named : (name element : List ℕ) → is_octets element ≡ true → same name element ≡ true → is_octets name ≡ false → ⊥
-      octets_named name element h e f = clash (is_octets name) f (subst (λ n. is_octets n ≡ true) (sym ((bytes_eq-Decides name element).0 e)) h)
-
-      by_sort : (t : List Node) (s : Option Sort) → sort_of (name_at t d.place.node) ≡ s → is_octets (name_at t d.place.node) ≡ false → IsScalarKind (scalar_kind_by s t d.place.node (numbers_of trees (type_places names) (bases_of trees names) id))
-      by_sort t None e f = tt
-      by_sort t (Some sort.Integer) e f = tt
-      by_sort t (Some sort.Enumerated) e f = tt
-      by_sort t (Some sort.Boolean) e f = tt
-      by_sort t (Some sort.Text) e f = absurd (octets_named (name_at t d.place.node) (codes "StringDataType") refl (sort_named (name_at t d.place.node) sort.Text e) f)
-      by_sort t (Some sort.Binary) e f = absurd (octets_named (name_at t d.place.node) (codes "BinaryDataType") refl (sort_named (name_at t d.place.node) sort.Binary e) f)
-      by_sort t (Some sort.Array) e f = tt
-      by_sort t (Some sort.SubRange) e f = tt
-      by_sort t (Some sort.Container) e f = tt
-
-      in_tree : (o : Option (List Node)) → is_octets (node_name (o >>= λ t. slice_get t d.place.node)) ≡ false → IsScalarKind (scalar_kind_in o d.place.node (numbers_of trees (type_places names) (bases_of trees names) id))
-      in_tree None h = tt
-      in_tree (Some t) h = by_sort t (sort_of (name_at t d.place.node)) refl h
-
-  -- the entries of a container are scalar
-  entries_scalar : (id : ℕ) (d : Declared) → slice_get (types names) id ≡ Some d → container_of rows id ≡ Some (container_at trees names d.place) → AllByRecursion (IsScalarEntry rows) (map (entry_part trees names) (entries_at trees d.place))
-  entries_scalar id d there is = all_mapped (entry_part trees names) (IsScalarEntry rows) (entries_at trees d.place) (λ k q e. scalar_entry k q e)
-    where
-      scalar_entry : (k : ℕ) (q : Place) → slice_get (entries_at trees d.place) k ≡ Some q → HasKind rows (entry_id trees names q).0 IsScalarKind
-      scalar_entry k q e = go (slice_get (types names) (entry_id trees names q).0) refl
-        where
-          lt : (entry_id trees names q).0 < length (types names)
-          lt = id_there trees names q (slice_get_within (types names) id d there) named
-
-          go : (o : Option Declared) → slice_get (types names) (entry_id trees names q).0 ≡ o → HasKind rows (entry_id trees names q).0 IsScalarKind
-          go None f = absurd (no_item (types names) (entry_id trees names q).0 lt f)
-          go (Some other) f =
-              let row = row_of trees names word named u (entry_id trees names q).0 other f in
-              let bare : container_of rows (entry_id trees names q).0 ≡ None = entry_scalar trees names word named u id d there is k q e in
-              (table_row trees names (entry_id trees names q).0 other, row, scalar_there (entry_id trees names q).0 other f (not_container other (ap container_in (sym row) ∙ bare)))
-            where
-              not_container : (other : Declared) → container_by (kind_of trees names (entry_id trees names q).0 other.place) ≡ None → is_container trees other.place ≡ false
-              not_container other h = by (is_container trees other.place) refl
-                where
-                  by : (b : Bool) → is_container trees other.place ≡ b → b ≡ false
-                  by false g = refl
-                  by true g = let no : Some (container_at trees names other.place) ≡ None = rw g at h in absurd cc
-
-  flat_row : (id : ℕ) (d : Declared) → slice_get (types names) id ≡ Some d → IsFlatKind rows (base_of rows id) (kind_of trees names id d.place)
-  flat_row id d there = go (is_container trees d.place) refl
-    where
-      flat_scalar : (base : Option ℕ) (k : Kind) → IsScalarKind k → IsFlatKind rows base k
-      flat_scalar base (kind.Int form spans) s = tt
-      flat_scalar base (kind.Enum form listing) s = tt
-      flat_scalar base (kind.Bool form) s = tt
-      flat_scalar base (kind.Str form) s = absurd s
-      flat_scalar base (kind.Bin n free) s = absurd s
-      flat_scalar base (kind.Arr item n) s = absurd s
-      flat_scalar base (kind.Con c) s = absurd s
-
-      go : (b : Bool) → is_container trees d.place ≡ b → IsFlatKind rows (base_of rows id) (kind_of trees names id d.place)
-      go false is = flat_scalar (base_of rows id) (kind_of trees names id d.place) (scalar_there id d there is)
-      go true is =
-          let row = row_of trees names word named u id d there in
-          let container : container_of rows id ≡ Some (container_at trees names d.place) = ap container_in row ∙ rw is refl in
-          rw is (record { concrete = refl; root = ap base_in row ∙ ap number_of_id (no_base trees names d.place is); entries = entries_scalar id d there container; trailers = refl })
-
-  flat_rows : IsFlatTable rows
-  flat_rows id row e =
-      let r = row_at trees names 0 (types names) id row e id (omega arith) in
-      subst (λ (w : TypeRow). IsFlatKind rows (base_of rows id) w.kind) (sym r.is) (flat_row id r.declared r.there)
-
--- of a sheet without strings and binaries the rows are scalar types and flat containers
-pub table_flat : (trees : List (List Node)) (names : Names) (word : Option (List ℕ)) → names_in trees ≡ Ok names → least (table_breaks trees names word) ≡ None → AllByRecursion (IsNoOctets trees) (elements trees) → IsFlatTable (table_rows trees names)
-table_flat trees names word named none octets = flat_rows trees names word named (unbroken trees names word (least-none (table_breaks trees names word) none)) (of_types (IsNoOctets trees) trees names named octets)
+table_keeps trees names word shaped named none = keeps_by_rows (table_rows trees names) (table_plain trees names word shaped named none)

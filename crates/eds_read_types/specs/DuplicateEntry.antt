@@ -9,7 +9,7 @@ use Rattle.eds_names.specs.Repeats.{is_among}
 use Rattle.eds_names.specs.LookUp.{Names}
 use Rattle.eds_read_types.specs.Places.{own_name, is_container, type_places}
 use Rattle.eds_read_types.specs.References.{broken_with}
-use Rattle.eds_read_types.specs.Entries.{entries_at}
+use Rattle.eds_read_types.specs.Entries.{entries_at, named_among}
 
 -- an entry's name is none of those before it
 abbrev pub repeat_of : List (List ℕ) → Place → List ℕ → List Refusal
@@ -22,7 +22,7 @@ repeats trees before (at ∷ ats) = repeat_of before at (own_name trees at) ++ r
 
 -- at the entries of a type
 abbrev pub duplicates_at : List (List Node) → Names → Place → List Refusal
-duplicates_at trees names at = if is_container trees at then repeats trees [] (entries_at trees at) else []
+duplicates_at trees names at = if is_container trees at then repeats trees [] (named_among trees (entries_at trees at)) else []
 
 -- at those of all types
 abbrev pub breaks_duplicate : List (List Node) → Names → List Refusal

@@ -1,14 +1,53 @@
--- The entries of containers.
-use Rattle.std.specs.Prelude.{ℕ, List, codes, Option}
+-- The parts of containers as elements, in document order (CCSDS 876.0-B, container entries).
+use Rattle.std.specs.Prelude.{ℕ, List, codes, filter, Bool, true, false, is_some, Option, Some, None}
 use Rattle.std.specs.List.{flat_map}
 use Rattle.eds_base.specs.declared.ids.Place.{Place}
 use Rattle.eds_tree.specs.declared.tree.Node.{Node}
-use Rattle.eds_read_types.specs.Places.{attribute, held}
+use Rattle.eds_tree.specs.Trees.{node_name}
+use Rattle.eds_read_types.specs.declared.part_sort.PartSort.{PartSort}
+use Rattle.eds_read_types.specs.declared.part_sort.PartSort.TheVariants as sort
+use Rattle.eds_read_types.specs.PartSorts.{part_sort_of}
+use Rattle.eds_read_types.specs.Places.{element, attribute, children, held}
 
--- the entries of a container, in document order
+-- the sort of part that the element at a place is
+abbrev pub sort_at : List (List Node) → Place → Option PartSort
+sort_at trees at = part_sort_of (node_name (element trees at))
+
+-- it is a part
+abbrev pub is_part : List (List Node) → Place → Bool
+is_part trees at = is_some (sort_at trees at)
+
+-- the parts that a list of entries holds
+abbrev pub parts_held : List (List Node) → Place → List Place
+parts_held trees list = filter (is_part trees) (children trees list)
+
+-- the entries of a container
 abbrev pub entries_at : List (List Node) → Place → List Place
-entries_at trees at = flat_map (held trees (codes "Entry")) (held trees (codes "EntryList") at)
+entries_at trees at = flat_map (parts_held trees) (held trees (codes "EntryList") at)
 
--- the reference to its type that an entry has
+-- its trailers
+abbrev pub trailers_at : List (List Node) → Place → List Place
+trailers_at trees at = flat_map (parts_held trees) (held trees (codes "TrailerEntryList") at)
+
+-- the reference to its type that a part has
 abbrev pub type_named : List (List Node) → Place → Option (List ℕ)
 type_named trees at = attribute trees (codes "type") at
+
+-- ---- names
+
+-- a part of this sort has a name: padding has none, and a fixed value may do without
+abbrev pub has_name_by : (given : Bool) → Option PartSort → Bool
+has_name_by given None = given
+has_name_by given (Some sort.Entry) = true
+has_name_by given (Some sort.FixedValue) = given
+has_name_by given (Some sort.Padding) = false
+has_name_by given (Some sort.List) = true
+has_name_by given (Some sort.Length) = true
+has_name_by given (Some sort.ErrorControl) = true
+
+abbrev pub has_name : List (List Node) → Place → Bool
+has_name trees at = has_name_by (is_some (attribute trees (codes "name") at)) (sort_at trees at)
+
+-- those of some parts that have a name
+abbrev pub named_among : List (List Node) → List Place → List Place
+named_among trees ats = filter (has_name trees) ats

@@ -1,9 +1,8 @@
 -- The rows of the table of types.
-use Rattle.std.specs.Prelude.{ℕ, ◌+◌, nat_le, List, [], ◌∷◌, ◌++◌, length, map, Bool, false, ◌&&◌, if◌then◌else◌, Option, Some, None, slice_get}
+use Rattle.std.specs.Prelude.{ℕ, ◌+◌, nat_le, List, [], ◌∷◌, length, map, Bool, false, ◌&&◌, if◌then◌else◌, Option, Some, None, slice_get}
 use Rattle.std.specs.Option.{unwrap_or}
-use Rattle.std.specs.List.{flat_map, list_all}
+use Rattle.std.specs.List.{list_all}
 use Rattle.eds_base.specs.declared.ids.Place.{Place}
-use Rattle.eds_base.specs.declared.ids.TypeId.{TypeId}
 use Rattle.eds_tree.specs.declared.tree.Node.{Node}
 use Rattle.eds_tree.specs.Trees.{name_at}
 use Rattle.eds_names.specs.declared.declared.Declared.{Declared}
@@ -12,13 +11,11 @@ use Rattle.eds_types.specs.declared.row.TypeRow.{TypeRow}
 use Rattle.eds_types.specs.declared.row.Kind.{Kind}
 use Rattle.eds_types.specs.declared.row.Kind.TheVariants as kind
 use Rattle.eds_types.specs.declared.row.Container.{Container}
-use Rattle.eds_types.specs.declared.row.Part.{Part}
-use Rattle.eds_types.specs.declared.row.Part.TheVariants as part
 use Rattle.eds_types.specs.Rows.{container_by, entries_in}
 use Rattle.eds_read_types.specs.declared.numbers.FormAndDomain.{FormAndDomain}
-use Rattle.eds_read_types.specs.Places.{own_name, is_container, types, type_places}
-use Rattle.eds_read_types.specs.Entries.{entries_at, type_named}
-use Rattle.eds_read_types.specs.ReadTypes.{id_found}
+use Rattle.eds_read_types.specs.Places.{is_container, types, type_places}
+use Rattle.eds_read_types.specs.Entries.{entries_at}
+use Rattle.eds_read_types.specs.PartRows.{part_at}
 use Rattle.eds_read_types.specs.Forms.{int_form_of, bool_form_of}
 use Rattle.eds_read_types.specs.Listings.{listing_of}
 use Rattle.eds_read_types.specs.declared.sort.Sort.{Sort}
@@ -30,24 +27,9 @@ use Rattle.eds_read_types.specs.Numbers.{form_or_wide, truth_or_octet, text_or_o
 
 -- ---- containers
 
--- the type that an entry names
-abbrev pub entry_type : List (List Node) → Names → Place → Option TypeId
-entry_type trees names at = id_found names at (type_named trees at)
-
--- a number, 0 where there is none; in a sheet that is not refused each entry has its type
-abbrev pub id_or_first : Option TypeId → TypeId
-id_or_first id = unwrap_or id (record { 0 = 0 })
-
-abbrev pub entry_id : List (List Node) → Names → Place → TypeId
-entry_id trees names at = id_or_first (entry_type trees names at)
-
--- an entry by its name and its type
-abbrev pub entry_part : List (List Node) → Names → Place → Part
-entry_part trees names at = part.Plain (own_name trees at) (entry_id trees names at)
-
--- the container at a place, which has entries alone
-abbrev pub container_at : List (List Node) → Names → Place → Container
-container_at trees names at = record { hidden = false; constraints = []; entries = map (entry_part trees names) (entries_at trees at); trailers = [] }
+-- the container at a place, of which the number among all types is given; it has entries alone
+abbrev pub container_at : List (List Node) → Names → ℕ → Place → Container
+container_at trees names id at = record { hidden = false; constraints = []; entries = map (part_at trees names id (entries_at trees at)) (entries_at trees at); trailers = [] }
 
 -- ---- types
 
@@ -77,7 +59,7 @@ scalar_kind_in (Some t) n numbers = scalar_kind t n numbers
 -- what the type at a place is, of which the number among all types is given
 abbrev pub kind_of : List (List Node) → Names → ℕ → Place → Kind
 kind_of trees names id at =
-    if is_container trees at then kind.Con (container_at trees names at) else
+    if is_container trees at then kind.Con (container_at trees names id at) else
     scalar_kind_in (slice_get trees at.file) at.node (numbers_of trees (type_places names) (bases_of trees names) id)
 
 -- a declared type as a row
@@ -102,17 +84,3 @@ has_few_entries row = nat_le (length (entries_in (container_by row.kind))) 32767
 -- there are at most 4,096 types, and so many entries
 abbrev pub are_few : List TypeRow → Bool
 are_few rows = nat_le (length rows) 4096 && list_all has_few_entries rows
-
--- ---- the types that are used
-
--- those that the entries of a type name
-abbrev pub entry_types : List (List Node) → Names → Place → List TypeId
-entry_types trees names at = if is_container trees at then map (entry_id trees names) (entries_at trees at) else []
-
-abbrev pub optional : Option TypeId → List TypeId
-optional None = []
-optional (Some id) = id ∷ []
-
--- those that an entry names, in the order of types and entries, and then the one that the TYPE word names
-abbrev pub used_types : List (List Node) → Names → Option TypeId → List TypeId
-used_types trees names word = flat_map (entry_types trees names) (type_places names) ++ optional word

@@ -7,7 +7,7 @@ ghost use Rattle.eds_read_types.specs.DuplicateEntry.{repeat_of, repeats};
 
 use crate::breaks::{PlaceRule, broken_with};
 use crate::element::{is_container, own_name};
-use crate::entry::entries_at;
+use crate::entry::{entries_at, named_among};
 use crate::named_trees::NamedTrees;
 use eds_base::{Memory, Place, Refusal, Rule};
 use eds_tree::Tree;
@@ -59,6 +59,7 @@ impl PlaceRule for DuplicateEntry {
             return Ok(None);
         }
         let entries = entries_at(alloc, sheet.trees, at)?;
-        least_repeat(alloc, sheet.trees, &entries)
+        let named = named_among(alloc, sheet.trees, &entries)?;
+        least_repeat(alloc, sheet.trees, &named)
     }
 }

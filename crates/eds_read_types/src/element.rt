@@ -35,7 +35,8 @@ pub(crate) fn name_at(trees: &[Tree], at: Place) -> &str
     }
 }
 
-fn children_at(trees: &[Tree], at: Place) -> &[u32]
+/// The numbers of its children, in document order.
+pub(crate) fn children_at(trees: &[Tree], at: Place) -> &[u32]
     ensures { result.now ≡ node_children (element_of trees.now at) }
 {
     match element(trees, at) {

@@ -1,62 +1,42 @@
-//! The rows of the table of types, and the types that are used.
+//! The rows of the table of types.
 
 ghost use Rattle.std.specs.Prelude.{◌≡◌, ◌++◌, ◌∷◌, [], map, filter, length, slice_get, IfOk, OnOk};
 ghost use Rattle.eds_read_types.specs.Places.{is_type, type_places};
 ghost use Rattle.eds_read_types.specs.Bases.{bases_of as bases_in};
 ghost use Rattle.eds_read_types.specs.Numbers.{numbers_of as numbers_by_id};
-ghost use Rattle.eds_read_types.specs.TableRows.{entry_type as entry_type_of, entry_id as entry_id_of, entry_part as entry_part_of, container_at as container_by, binary_kind as binary_kind_of, scalar_kind as scalar_kind_of, scalar_kind_in as scalar_kind_by, kind_of as kind_by_id, table_row as table_row_of, rows_from, table_rows as table_rows_of, entry_types, used_types as used_types_of};
+ghost use Rattle.eds_read_types.specs.TableRows.{container_at as container_by, binary_kind as binary_kind_of, scalar_kind as scalar_kind_of, scalar_kind_in as scalar_kind_by, kind_of as kind_by_id, table_row as table_row_of, rows_from, table_rows as table_rows_of};
 
 use crate::base_graph::{BaseGraph, base_found};
-use crate::element::{is_container, own_name, tree_at};
-use crate::entry::{entries_at, type_named};
+use crate::element::{is_container, tree_at};
+use crate::entry::entries_at;
 use crate::form::{bool_form_of, int_form_of};
+use crate::list_field::Fields;
 use crate::listing::listing_of;
 use crate::named_trees::NamedTrees;
 use crate::numbers::{FormAndDomain, form_or_wide, numbers_of, text_or_octet, truth_or_octet};
-use crate::reference::id_found;
+use crate::part::part_at;
 use crate::sort::{Sort, sort_of};
 use crate::text_form::{binary_bits_of, is_open, text_form_of};
-use eds_base::{Memory, Place, Text, TypeId};
+use eds_base::{Memory, Place, Text};
 use eds_names::Declared;
 use eds_tree::Tree;
-use eds_types::{Constraints, Container, Kind, Part, Parts, TypeRow, TypeRows, Used};
+use eds_types::{Constraints, Container, Kind, Parts, TypeRow, TypeRows};
 use std::alloc::Global;
 
-/// The number of the type that an entry names.
-fn entry_type(alloc: Global, sheet: &NamedTrees, at: Place) -> Result<Option<TypeId>, Memory>
-    ensures { IfOk result (λ id. id ≡ entry_type_of sheet.now.trees.now sheet.now.space.now at) }
-{
-    id_found(alloc, sheet, at, type_named(sheet.trees, at))
-}
-
-/// The same, the first type's where it names none.
-pub(crate) fn entry_id(alloc: Global, sheet: &NamedTrees, at: Place) -> Result<TypeId, Memory>
-    ensures { IfOk result (λ id. id ≡ entry_id_of sheet.now.trees.now sheet.now.space.now at) }
-{
-    let found = entry_type(alloc, sheet, at)?;
-    match found {
-        None => Ok(TypeId(0)),
-        Some(id) => Ok(id),
-    }
-}
-
-/// An entry by its name and its type.
-fn entry_part(alloc: Global, sheet: &NamedTrees, at: Place) -> Result<Part, Memory>
-    ensures { IfOk result (λ p. p ≡ entry_part_of sheet.now.trees.now sheet.now.space.now at) }
-{
-    let id = entry_id(alloc, sheet, at)?;
-    let name = Text::of(alloc, own_name(sheet.trees, at))?;
-    Ok(Part::Plain(name, id))
-}
-
 /// The container at a place, which has entries alone.
-fn container_at(alloc: Global, sheet: &NamedTrees, at: Place) -> Result<Container, Memory>
-    ensures { IfOk result (λ c. c ≡ container_by sheet.now.trees.now sheet.now.space.now at) }
+fn container_at(
+    alloc: Global,
+    sheet: &NamedTrees,
+    id: usize,
+    at: Place,
+) -> Result<Container, Memory>
+    ensures { IfOk result (λ c. c ≡ container_by sheet.now.trees.now sheet.now.space.now id at) }
 {
     let places = entries_at(alloc, sheet.trees, at)?;
+    let fields = Fields::of(alloc, sheet.trees, &places)?;
     let mut entries = Parts::new(alloc);
     for entry in &places {
-        let part = entry_part(alloc, sheet, *entry)?;
+        let part = part_at(alloc, sheet, id, &fields, *entry)?;
         entries.push(part)?;
     }
     Ok(Container {
@@ -126,7 +106,7 @@ fn kind_of(alloc: Global, graph: &BaseGraph, id: usize, at: Place) -> Result<Kin
 {
     let sheet = graph.sheet;
     if is_container(sheet.trees, at) {
-        let container = container_at(alloc, sheet, at)?;
+        let container = container_at(alloc, sheet, id, at)?;
         Ok(Kind::Con(container))
     } else {
         let numbers = numbers_in_table(alloc, graph, id)?;
@@ -176,40 +156,4 @@ pub(crate) fn table_rows(alloc: Global, graph: &BaseGraph) -> Result<TypeRows, M
     ensures { IfOk result (λ rows. rows ≡ table_rows_of graph.now.sheet.now.trees.now graph.now.sheet.now.space.now) }
 {
     rows_among(alloc, graph, graph.sheet.space.declared())
-}
-
-/// Puts the types last that the entries of a type name.
-fn push_used(alloc: Global, used: &mut Used, sheet: &NamedTrees, at: Place) -> Result<(), Memory>
-    ensures { OnOk result (used.new ≡ used.old ++ entry_types sheet.now.trees.now sheet.now.space.now at) }
-{
-    if !is_container(sheet.trees, at) {
-        return Ok(());
-    }
-    let entries = entries_at(alloc, sheet.trees, at)?;
-    for entry in &entries {
-        let id = entry_id(alloc, sheet, *entry)?;
-        used.push(id)?;
-    }
-    Ok(())
-}
-
-/// The types that an entry names, in the order of types and entries, and then the one that the TYPE word names.
-pub(crate) fn used_types(
-    alloc: Global,
-    sheet: &NamedTrees,
-    word: Option<TypeId>,
-) -> Result<Used, Memory>
-    ensures { IfOk result (λ used. used ≡ used_types_of sheet.now.trees.now sheet.now.space.now word) }
-{
-    let mut used = Used::new(alloc);
-    for at in sheet.types {
-        push_used(alloc, &mut used, sheet, *at)?;
-    }
-    match word {
-        None => Ok(used),
-        Some(id) => {
-            used.push(id)?;
-            Ok(used)
-        }
-    }
 }

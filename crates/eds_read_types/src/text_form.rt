@@ -10,7 +10,7 @@ use eds_bits::TextForm;
 use eds_tree::{Tree, flag_value, whole_number};
 
 /// A number, where it is no negative one.
-fn natural(number: i128) -> Option<u128>
+pub(crate) fn natural(number: i128) -> Option<u128>
     ensures { result ≡ natural number }
 {
     if number < 0 {
@@ -128,7 +128,7 @@ pub(crate) fn is_open(tree: &Tree, node: u32) -> bool
 }
 
 /// A number of bits, where a binary may have as many.
-fn binary_bits(unfixed: bool, bits: u128) -> Option<u32>
+pub(crate) fn binary_bits(unfixed: bool, bits: u128) -> Option<u32>
     ensures { result ≡ only (is_binary_size unfixed bits) bits }
 {
     if 1 <= bits && bits <= 524_288 && (!unfixed || bits % 8 == 0) {

@@ -2,7 +2,6 @@
 
 ghost use Rattle.std.specs.Prelude.{◌≡◌, not, map};
 ghost use Rattle.eds_base.specs.Answering.{Answers};
-ghost use Rattle.eds_pack.specs.BuiltTables.{IsBuiltTable};
 ghost use Rattle.eds_plan.specs.Lines.{told};
 ghost use Rattle.eds_types.specs.Plain.{plain};
 ghost use Rattle.eds_script.specs.Arrivals.{arrived, command_told, fits as fits_end, frame_told, get_told, member_told, set_told, val_told};
@@ -54,7 +53,6 @@ fn command_line(
     json: &str,
 ) -> Result<Line, Fail<LineWhy>>
     requires known { AreKnown table.now plan.now }
-    requires built { IsBuiltTable table.now }
     ensures { Answers told result (command_told table.now end plan.now name.now json.now) }
 {
     let Some(command) = find_command(plan.instance.members.as_slice(), name)? else {
@@ -110,7 +108,6 @@ fn set_line(
     json: &str,
 ) -> Result<Line, Fail<LineWhy>>
     requires known { AreKnown table.now plan.now }
-    requires built { IsBuiltTable table.now }
     ensures { Answers told result (set_told table.now end plan.now name.now json.now) }
 {
     let Some(parameter) = find_parameter(plan.instance.members.as_slice(), name)? else {
@@ -134,7 +131,6 @@ fn val_line(
     json: &str,
 ) -> Result<Line, Fail<LineWhy>>
     requires known { AreKnown table.now plan.now }
-    requires built { IsBuiltTable table.now }
     ensures { Answers told result (val_told table.now end plan.now name.now json.now) }
 {
     let Some(parameter) = find_parameter(plan.instance.members.as_slice(), name)? else {
@@ -155,7 +151,6 @@ pub(crate) fn member_line(
     rest: &str,
 ) -> Result<Line, Fail<LineWhy>>
     requires known { AreKnown table.now plan.now }
-    requires built { IsBuiltTable table.now }
     ensures { Answers told result (member_told table.now verb end plan.now name.now rest.now) }
 {
     match verb {

@@ -2,7 +2,6 @@
 
 ghost use Rattle.std.specs.Prelude.{◌≡◌, ◌<◌, ◌∷◌, [], IfOk, length, map};
 ghost use Rattle.eds_base.specs.Answering.{Answers, or_stop};
-ghost use Rattle.eds_pack.specs.BuiltTables.{IsBuiltTable};
 ghost use Rattle.eds_types.specs.PackedSizes.{packs as packs_as};
 ghost use Rattle.eds_types.specs.Plain.{plain};
 ghost use Rattle.eds_script.specs.Given.{all_pack as all_packed, frame_octets as octets_in, given_arguments as arguments_given, given_value as value_given};
@@ -54,7 +53,6 @@ fn why_of(fail: Fail<ValueFail>) -> Fail<LineWhy>
 // Whether a value packs as a type.
 fn packs(table: &TypeTable, id: TypeId, value: &Value) -> bool
     requires known { id.0 < length table.now }
-    requires built { IsBuiltTable table.now }
     ensures { result ≡ packs_as table.now id.0 (plain value.now) }
 {
     table.keeps_rules();
@@ -65,7 +63,6 @@ fn packs(table: &TypeTable, id: TypeId, value: &Value) -> bool
 // Whether each value packs as its type.
 fn all_pack(table: &TypeTable, fields: &[(Text, TypeId)], values: &eds_types::Values) -> bool
     requires known { AreFieldsKnown table.now fields.now }
-    requires built { IsBuiltTable table.now }
     ensures { result ≡ all_packed table.now fields.now values.now }
 {
     let mut place: usize = 0;
@@ -106,7 +103,6 @@ pub(crate) fn given_arguments(
     json: &str,
 ) -> Result<Values, Fail<LineWhy>>
     requires known { AreFieldsKnown table.now fields.now }
-    requires built { IsBuiltTable table.now }
     ensures { Answers (map plain) result (arguments_given table.now fields.now json.now) }
 {
     match args_from_json(alloc, table, fields, json.as_bytes()) {
@@ -139,7 +135,6 @@ pub(crate) fn given_value(
     json: &str,
 ) -> Result<Values, Fail<LineWhy>>
     requires known { id.0 < length table.now }
-    requires built { IsBuiltTable table.now }
     ensures { Answers (map plain) result (value_given table.now id.0 json.now) }
 {
     match from_json(alloc, table, id, json.as_bytes()) {

@@ -3,7 +3,6 @@
 ghost use Rattle.std.specs.Prelude.{◌≡◌, ◌<◌, ◌+◌, ◌^◌, IfOk, ℕ, List, map, string_bytes};
 ghost use Rattle.std.specs.HashMap.{get_by_text};
 ghost use Rattle.eds_base.specs.Answering.{Answers};
-ghost use Rattle.eds_pack.specs.BuiltTables.{IsBuiltTable};
 ghost use Rattle.eds_plan.specs.Lines.{told};
 ghost use Rattle.eds_script.specs.Arrivals.{arrival_told};
 ghost use Rattle.eds_script.specs.Ends.{end_named};
@@ -78,7 +77,6 @@ fn arrival_line(
 ) -> Result<Line, Fail<LineWhy>>
     requires ends { (q : List ℕ) → get_by_text setting.now.ends.now q ≡ end_named setting.now.plan.now q }
     requires known { KnowsTypes setting.now.table.now setting.now.plan.now }
-    requires built { IsBuiltTable setting.now.table.now }
     ensures { Answers told result (arrival_told setting.now.table.now setting.now.plan.now (is_among (map string_bytes setting.now.wired.now.keys)) verb end.now name.now rest.now) }
 {
     let Some((place, plan)) = find_end(setting.ends, setting.plan, end) else {
@@ -125,7 +123,6 @@ pub(crate) fn saying_meaning<'a>(
 ) -> Result<Meaning<'a>, Fail<LineWhy>>
     requires ends { (q : List ℕ) → get_by_text setting.now.ends.now q ≡ end_named setting.now.plan.now q }
     requires known { KnowsTypes setting.now.table.now setting.now.plan.now }
-    requires built { IsBuiltTable setting.now.table.now }
     requires time { time < 2 ^ 63 }
     ensures value { Answers meaning_of result (meaning_of_saying setting.now.table.now setting.now.plan.now (is_among (map string_bytes setting.now.wired.now.keys)) late time (saying_of saying.entry)) }
     ensures in_time { IfOk result (λ m. time + ticks_by (meaning_of m) < 2 ^ 63) }

@@ -3,7 +3,6 @@
 ghost use Rattle.std.specs.Prelude.{◌≡◌, ◌<◌, ◌++◌, ◌∷◌, ◌+◌, ◌||◌, ◌^◌, [], not, ℕ, List, IfOk, OnOk, map, string_bytes};
 ghost use Rattle.std.specs.HashMap.{get_by_text};
 ghost use Rattle.eds_base.specs.Answering.{Answers};
-ghost use Rattle.eds_pack.specs.BuiltTables.{IsBuiltTable};
 ghost use Rattle.eds_plan.specs.Lines.{starts};
 ghost use Rattle.eds_script.specs.Ends.{end_named};
 ghost use Rattle.eds_script.specs.Known.{KnowsTypes};
@@ -100,7 +99,6 @@ fn line_meaning<'a>(
 ) -> Result<Meaning<'a>, Fail<LineWhy>>
     requires ends { (q : List ℕ) → get_by_text setting.now.ends.now q ≡ end_named setting.now.plan.now q }
     requires known { KnowsTypes setting.now.table.now setting.now.plan.now }
-    requires built { IsBuiltTable setting.now.table.now }
     requires time { time < 2 ^ 63 }
     ensures value { Answers meaning_of result (line_says setting.now.table.now setting.now.plan.now (is_among (map string_bytes setting.now.wired.now.keys)) late time line.now.text.now) }
     ensures in_time { IfOk result (λ m. time + ticks_by (meaning_of m) < 2 ^ 63) }
@@ -126,7 +124,6 @@ fn read_lines(
 ) -> Result<Script, Fail<BadLine>>
     requires ends { (q : List ℕ) → get_by_text setting.now.ends.now q ≡ end_named setting.now.plan.now q }
     requires known { KnowsTypes setting.now.table.now setting.now.plan.now }
-    requires built { IsBuiltTable setting.now.table.now }
     ensures { Answers plot_seen result (plot_by setting.now.table.now setting.now.plan.now (is_among (map string_bytes setting.now.wired.now.keys)) (map line_of lines.now)) }
 {
     let mut script = empty_script(alloc)?;
@@ -154,7 +151,6 @@ pub fn parse_script(
     octets: &[u8],
 ) -> Result<Script, Fail<BadLine>>
     requires known { KnowsTypes table.now plan.now }
-    requires built { IsBuiltTable table.now }
     ensures { Answers plot_seen result (script_of table.now plan.now octets.now) }
 {
     let lines = script_lines(alloc, octets)?;

@@ -1,16 +1,15 @@
 -- What an accepted sheet has.
 use Rattle.std.specs.Prelude.{◌≡◌, ℕ, ◌<◌, List, length, Option, Ok, IfSome, is_some}
 use Rattle.eds_types.specs.Rules.{KeepsRules}
-use Rattle.eds_types.specs.FlatTables.{IsFlatTable}
+use Rattle.eds_types.specs.Overlap.{IsClear}
 use Rattle.eds_sheet.specs.declared.sheet.Sheet.{Sheet}
 use Rattle.eds_sheet.specs.Compiled.{compiled}
 
--- The table keeps the rules on types and has scalar types and flat containers alone; where a word was given, the type
--- that it names is in the table.
+-- The table keeps the rules on types; where a word was given, the type that it names is in the table, and is clear.
 pub record IsSound (word : Option (List ℕ)) (sheet : Sheet) : Type 0 where
   pub rules : KeepsRules sheet.table
-  pub flat : IsFlatTable sheet.table
   pub named : IfSome sheet.word (λ id. id.0 < length sheet.table)
+  pub clear : IfSome sheet.word (λ id. IsClear sheet.table id.0)
   pub asked : is_some sheet.word ≡ is_some word
 
 -- so is every sheet that is compiled

@@ -15,8 +15,8 @@ pub fn refused_for_the_first_break(files: &Files, word: Option<&str>)
     ensures accepted { IsOk (compiled files.now (option_map (λ w. w.now) word.entry)) ↔ (all_breaks files.now (option_map (λ w. w.now) word.entry) ≡ []) }
 {}
 
-/// The table of a sheet that is accepted keeps the rules on types, has scalar types and flat containers alone, and holds the
-/// type that the TYPE word names, where there is such a word.
+/// The table of a sheet that is accepted keeps the rules on types. It holds the type that the TYPE word names, where there is
+/// such a word, and no two containers that are read through that type overlap.
 pub fn sheets_are_sound()
     ensures { SheetsAreSound }
 {}

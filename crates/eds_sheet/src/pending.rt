@@ -17,17 +17,13 @@ fn is_pending(name: &str) -> bool
 {
     is_among(
         &[
-            "StringDataType",
-            "BinaryDataType",
             "ArrayDataType",
             "FixedValueEntry",
             "PaddingEntry",
-            "ListEntry",
             "LengthEntry",
             "ErrorControlEntry",
             "ConstraintSet",
             "TrailerEntryList",
-            "DeclaredInterfaceSet",
             "ComponentSet",
             "StateMachineSet",
         ],

@@ -3,12 +3,13 @@
 ghost use Rattle.std.specs.Prelude.{◌≡◌, ◌≤◌, ◌<◌, ◌^◌, length, count_by, option_map, is_some, IfOk, IfSome};
 ghost use Rattle.std.specs.List.{All};
 ghost use Rattle.eds_base.specs.Answering.{Answers};
-ghost use Rattle.eds_types.specs.FlatTables.{IsFlatTable};
+ghost use Rattle.eds_types.specs.Overlap.{IsClear};
 ghost use Rattle.eds_sheet.specs.Compiled.{is_container as container, counts_of as counted, compiled};
 
 use crate::files::{Files, read_trees};
 use crate::pending::check_pending;
 use eds_base::{Fail, Memory, Refusal, TypeId};
+use eds_generic::check_faces;
 use eds_names::Space;
 use eds_read_types::{SheetTypes, read_types};
 use eds_tree::shape_check;
@@ -89,6 +90,7 @@ fn sheet_of(alloc: Global, files: &Files, extra: Option<&str>) -> Result<Sheet, 
     check_pending(alloc, &trees)?;
     let space = Space::build(alloc, &trees)?;
     let typed = read_types(alloc, &trees, &space, extra)?;
+    check_faces(alloc, &space, &trees, &typed.table)?;
     let counts = counts_of(&space, &typed)?;
     Ok(Sheet {
         table: typed.table,
@@ -107,7 +109,7 @@ pub fn compile(alloc: Global, files: &Files, extra: Option<&str>) -> Result<Shee
     ensures sheet { Answers (λ s. s) result (compiled files.now (option_map (λ w. w.now) extra.entry)) }
     ensures word { IfOk result (λ s. IfSome s.word (λ id. id.0 < length s.table)) }
     ensures asked { IfOk result (λ s. is_some s.word ≡ is_some extra.entry) }
-    ensures flat { IfOk result (λ s. IsFlatTable s.table) }
+    ensures clear { IfOk result (λ s. IfSome s.word (λ id. IsClear s.table id.0)) }
 {
     sheet_of(alloc, files, extra)
 }

@@ -1,13 +1,13 @@
 //! Reader and packer against the plain program.
 
 ghost use Rattle.std.specs.Prelude.{◌<◌, length};
-ghost use Rattle.eds_types.specs.FlatTables.{IsFlatTable};
+ghost use Rattle.eds_types.specs.Overlap.{IsClear};
 
 use crate::census::lists_of;
 use crate::slow::{Slow, Spelling, bits_of};
 use eds_base::{Fail, Fault, Memory, TypeId};
 use eds_bits::BitView;
-use eds_pack::{conforms, law, pack, pack_into, packed_bits};
+use eds_pack::{conforms, pack, pack_into, packed_bits};
 use eds_types::{PackReason, TypeTable, Value};
 use eds_unpack::unpack;
 use std::alloc::Global;
@@ -48,9 +48,7 @@ fn fills_room(
     octets: &[u8],
 ) -> Result<bool, Memory>
     requires known { id.0 < length table.now }
-    requires flat { IsFlatTable table.now }
 {
-    law::flat_is_built();
     let mut room = vec![in alloc; 0xAAu8; octets.len()]?;
     let fits = pack_into(table, id, value, room.as_mut_slice()).is_ok()
         && room.as_slice() == octets;
@@ -65,9 +63,7 @@ fn fills_room(
 // Whether the value is packed into its canonical spelling.
 fn packs(alloc: Global, table: &TypeTable, id: TypeId, value: &Value) -> Result<bool, Memory>
     requires known { id.0 < length table.now }
-    requires flat { IsFlatTable table.now }
 {
-    law::flat_is_built();
     match pack(alloc, table, id, value) {
         Ok((octets, size)) => Ok(
             conforms(table, id, value)
@@ -90,9 +86,7 @@ fn has_number(values: &[Value], number: i128) -> bool {
 // How many small numbers pack and are none of the values, or don't and are one.
 fn numbers_amiss(table: &TypeTable, id: TypeId, values: &[Value]) -> u32
     requires known { id.0 < length table.now }
-    requires flat { IsFlatTable table.now }
 {
-    law::flat_is_built();
     let mut amiss = 0u32;
     for count in 0..600u32 {
         let number = i128::from(count).wrapping_sub(300);
@@ -113,7 +107,7 @@ fn unpack_behind(
     bits: u64,
 ) -> Result<(Value, u32), Fail<Fault>>
     requires known { id.0 < length table.now }
-    requires flat { IsFlatTable table.now }
+    requires clear { IsClear table.now id.0 }
 {
     if octets.len() > 65_536 {
         return Err(Fail::Memory);
@@ -133,7 +127,7 @@ fn read(
     size: u64,
 ) -> Result<(bool, bool), Memory>
     requires known { id.0 < length table.now }
-    requires flat { IsFlatTable table.now }
+    requires clear { IsClear table.now id.0 }
 {
     let others = 64u64.saturating_sub(size);
     match unpack_behind(alloc, table, id, &octets, others) {
@@ -160,7 +154,7 @@ pub(crate) fn agreement(
     most: usize,
 ) -> Result<Packing, Memory>
     requires known { id.0 < length table.now }
-    requires flat { IsFlatTable table.now }
+    requires clear { IsClear table.now id.0 }
 {
     let slow = Slow::of_rows(alloc, table.rows(), Spelling::Any);
     let values = slow.values(id)?;

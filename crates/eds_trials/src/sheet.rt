@@ -1,8 +1,8 @@
 //! Sheets from their text.
 
-ghost use Rattle.std.specs.Prelude.{◌≡◌, ◌<◌, ◌^◌, length, IfOk, IsSomeAnd};
+ghost use Rattle.std.specs.Prelude.{◌≡◌, ◌<◌, ◌^◌, length, IfOk, IfSome, IsSomeAnd};
 ghost use Rattle.std.specs.List.{All};
-ghost use Rattle.eds_types.specs.FlatTables.{IsFlatTable};
+ghost use Rattle.eds_types.specs.Overlap.{IsClear};
 
 use eds_base::{Fail, Items, Memory, Octets, Refusal};
 use eds_sheet::{Files, Sheet, compile};
@@ -31,7 +31,7 @@ fn files_of(alloc: Global, text: &str) -> Result<Files, Memory>
 /// The sheet of one file, with the type of a name as its word.
 pub(crate) fn sheet_of(alloc: Global, text: &str, name: &str) -> Result<Sheet, Fail<Refusal>>
     ensures word { IfOk result (λ sheet. IsSomeAnd sheet.word (λ id. id.0 < length sheet.table)) }
-    ensures flat { IfOk result (λ sheet. IsFlatTable sheet.table) }
+    ensures clear { IfOk result (λ sheet. IfSome sheet.word (λ id. IsClear sheet.table id.0)) }
 {
     let files = files_of(alloc, text)?;
     compile(alloc, &files, Some(name))

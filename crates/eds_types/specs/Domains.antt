@@ -12,6 +12,7 @@ use Rattle.eds_types.specs.Fields.{type_on, IsAtOrUnder}
 
 -- ---- of integer types and sub-ranges, as intervals
 
+-- the numbers of an integer kind; other kinds have none
 abbrev pub int_domain_by : Kind → Option (List Span)
 int_domain_by (kind.Int form spans) = Some spans
 int_domain_by (kind.Enum form listing) = None
@@ -21,6 +22,7 @@ int_domain_by (kind.Bin n free) = None
 int_domain_by (kind.Arr item n) = None
 int_domain_by (kind.Con c) = None
 
+-- the same of a row, if there is one
 abbrev pub int_domain_in : Option TypeRow → Option (List Span)
 int_domain_in None = None
 int_domain_in (Some row) = int_domain_by row.kind
@@ -42,10 +44,12 @@ InDomainOf t id (kind.Bin size free) n = ⊥
 InDomainOf t id (kind.Arr item size) n = ⊥
 InDomainOf t id (kind.Con c) n = (k : ℕ) × (n ≡ pos k) × IsTrue (is_concrete t k) × IsAtOrUnder t id k
 
+-- a number is of the domain of a row's type
 abbrev pub InDomainOfRow : Table → ℕ → Option TypeRow → ℤ → Type 0
 InDomainOfRow t id None n = ⊥
 InDomainOfRow t id (Some row) n = InDomainOf t id row.kind n
 
+-- a number is of the domain of a type, if there is one
 abbrev pub InDomainOfType : Table → Option ℕ → ℤ → Type 0
 InDomainOfType t None n = ⊥
 InDomainOfType t (Some id) n = InDomainOfRow t id (slice_get t id) n

@@ -111,6 +111,7 @@ fault_behind s g = fault_at g.reason (s ∷ g.path)
 abbrev pub fault_here : Reason → Fault
 fault_here why = fault_at why []
 
+-- the steps along a path of entries
 abbrev pub path_steps : List (TypeId × ℕ) → List Step
 path_steps path = map (λ p. step.Part p.0 p.1) path
 
@@ -130,9 +131,11 @@ pub record ItemFails (SpellsInner : Plain → Bits → Type 0) (FailsInner : Bit
   pub fails : FailsInner d why
   pub is : g ≡ fault_behind (step.Item (length before)) why
 
+-- the step into a part of a container
 abbrev pub part_step : Placed → Step
 part_step p = step.Part (id_of p.container) p.place
 
+-- the step of a length entry; of another part these steps
 abbrev pub if_length : Part → Placed → List Step → List Step
 if_length (part.Plain name id) p steps = steps
 if_length (part.Fixed name id v) p steps = steps
@@ -158,6 +161,7 @@ pub record BadNumber (form : IntForm) (Good : ℤ → Type 0) (bad : Reason) (b 
   pub enough : form.bits ≤ length b
   pub why : ((number_of form (take form.bits b) ≡ None) × (g ≡ fault_here BadDigit)) ⊎ ((n : ℤ) × (number_of form (take form.bits b) ≡ Some n) × (Good n → ⊥) × (g ≡ fault_here bad))
 
+-- some label of the listing has the number
 abbrev pub IsListed : List (List ℕ × ℤ) → ℤ → Type 0
 IsListed listing n = (l : List ℕ) × (listed listing l ≡ Some n)
 
@@ -174,6 +178,7 @@ OpenTextFails form b g =
     ⊎ ((form.length + 1 ≤ length (whole_octets b)) × (Has (take (form.length + 1) (whole_octets b)) form.stop → ⊥) × (g ≡ fault_here Unterminated))
     ⊎ (Has (take (form.length + 1) (whole_octets b)) form.stop × (IsCoded form.ascii (before_stop form.stop (whole_octets b)) → ⊥) × (g ≡ fault_here BadText))
 
+-- where reading a text fails, be it fixed or not
 abbrev pub TextFails : TextForm → Bool → Bits → Fault → Type 0
 TextFails form true b g = FixedTextFails form b g
 TextFails form false b g = OpenTextFails form b g
@@ -189,6 +194,7 @@ module _ (t : Table) (SpellsInner : ℕ → Plain → Bits → Type 0) (FailsInn
     pub spelled : SpellsInner id other c
     pub differs : other ≢ v
 
+  -- reading a part fails so, seen from inside it
   abbrev pub PartFails : Progress → Part → Bits → Fault → Type 0
   PartFails s (part.Plain name id) b g = FailsInner id.0 b g
   PartFails s (part.Fixed name id v) b g = FailsInner id.0 b g ⊎ (Differs id.0 (plain v) b × (g ≡ fault_here FixedDiffers))
@@ -203,6 +209,7 @@ module _ (t : Table) (SpellsInner : ℕ → Plain → Bits → Type 0) (FailsInn
       (((j : ℕ) → 8 * j ≤ n → TailFits t s p j → ⊥) × (g ≡ fault_at LengthDiffers (length_path t p.container)))
       ⊎ ((j : ℕ) × (8 * j ≤ n) × TailFits t s p j × (length b < 8 * j) × (g ≡ fault_behind (part_step p) (fault_here Short)))
 
+  -- reading a part fails so, seen from its container; an open binary of at most so many bits may be of no size that fits
   abbrev pub EntryFailsBy : Option ℕ → Progress → Placed → Bits → Fault → Type 0
   EntryFailsBy None s p b g = (w : Fault) × PartFails s p.part b w × (g ≡ fault_behind (part_step p) w)
   EntryFailsBy (Some n) s p b g = TailFails n s p b g
@@ -233,6 +240,7 @@ module _ (t : Table) (SpellsInner : ℕ → Plain → Bits → Type 0) (FailsInn
     pub passes : Passes t SpellsInner x started done state c
     pub fails : StationFails x state station d g
 
+  -- reading a value of a kind fails so
   abbrev pub KindFails : ℕ → Kind → Bits → Fault → Type 0
   KindFails id (kind.Int form spans) b g = ((length b < form.bits) × (g ≡ fault_here Short)) ⊎ BadNumber form (IsWithin spans) OutOfRange b g
   KindFails id (kind.Enum form listing) b g = ((length b < form.bits) × (g ≡ fault_here Short)) ⊎ BadNumber form (IsListed listing) NoLabel b g

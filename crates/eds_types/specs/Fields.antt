@@ -22,6 +22,7 @@ pub record Field : Type 0 where
   pub place : ℕ
   pub value : Plain
 
+-- the field at a place of a container
 abbrev pub field_at : ℕ → ℕ → Plain → Field
 field_at y i v = record { container = y; place = i; value = v }
 
@@ -34,6 +35,7 @@ abbrev pub value_at : List Field → ℕ → ℕ → Option Plain
 value_at [] y i = None
 value_at (f ∷ fs) y i = if f.container == y && f.place == i then Some f.value else value_at fs y i
 
+-- the values of some fields, in order
 abbrev pub values_of : List Field → List Plain
 values_of [] = []
 values_of (f ∷ fs) = f.value ∷ values_of fs
@@ -60,6 +62,7 @@ paired (p ∷ ps) (v ∷ vs) = if has_value p.part then field_of p v ∷ paired 
 
 -- ---- what a path leads to
 
+-- the type of a part, if it has one
 abbrev pub type_by : Option Part → Option ℕ
 type_by None = None
 type_by (Some (part.Plain name id)) = Some id.0
@@ -70,6 +73,7 @@ type_by (Some (part.Length name id c0 c1)) = Some id.0
 type_by (Some (part.Check name id k)) = Some id.0
 
 module _ (t : Table) where
+  -- the fields of a value that is a container's
   abbrev pub fields_in : Option Plain → List Field
   fields_in None = []
   fields_in (Some (num n)) = []
@@ -103,6 +107,7 @@ abbrev pub listed : List (List ℕ × ℤ) → List ℕ → Option ℤ
 listed [] l = None
 listed (e ∷ es) l = if same_text e.0 l then Some e.1 else listed es l
 
+-- the number of a label of an enumerated kind
 abbrev pub labelled_by : Kind → List ℕ → Option ℤ
 labelled_by (kind.Int form spans) l = None
 labelled_by (kind.Enum form listing) l = listed listing l
@@ -112,10 +117,12 @@ labelled_by (kind.Bin n free) l = None
 labelled_by (kind.Arr item n) l = None
 labelled_by (kind.Con c) l = None
 
+-- the same in a row, if there is one
 abbrev pub labelled : Option TypeRow → List ℕ → Option ℤ
 labelled None l = None
 labelled (Some row) l = labelled_by row.kind l
 
+-- the row of a type, if it is there
 abbrev pub row_at : Table → Option ℕ → Option TypeRow
 row_at t None = None
 row_at t (Some id) = slice_get t id

@@ -26,6 +26,7 @@ pub record IsFlat (t : Table) (base : Option ℕ) (c : Container) : Type 0 where
   pub entries : AllByRecursion (IsScalarEntry t) c.entries
   pub trailers : c.trailers ≡ []
 
+-- a scalar type without a base that is a container, or a flat container
 abbrev pub IsFlatKind : Table → Option ℕ → Kind → Type 0
 IsFlatKind t base (kind.Int form spans) = Unit {0}
 IsFlatKind t base (kind.Enum form listing) = Unit {0}

@@ -24,6 +24,7 @@ OneSize = (t : Table) (id : ℕ) → IsThere t id → (v : Plain) (b c : Bits) �
 abbrev pub HasCanonical : Type 0
 HasCanonical = (t : Table) (id : ℕ) → IsThere t id → (v : Plain) → ((b : Bits) → Spells t id v b → (c : Bits) × Canon t id v c) × ((c : Bits) → Canon t id v c → Spells t id v c)
 
+-- a value has one canonical spelling at most
 abbrev pub OneCanonical : Type 0
 OneCanonical = (t : Table) (id : ℕ) → IsThere t id → (v : Plain) (b c : Bits) → Canon t id v b → Canon t id v c → b ≡ c
 
@@ -45,5 +46,6 @@ pub record PacksOrFails (t : Table) (id : ℕ) (v : Plain) : Type 0 where
   pub one_place : (g h : PackFault) → PackFailsAt t id v g → PackFailsAt t id v h → g ≡ h
   pub not_both : (b : Bits) (g : PackFault) → Canon t id v b → length b ≤ most_bits → PackFailsAt t id v g → ⊥
 
+-- so does every value of every type that is there
 abbrev pub PackingIsDecided : Type 0
 PackingIsDecided = (t : Table) (id : ℕ) → IsThere t id → (v : Plain) → PacksOrFails t id v

@@ -16,6 +16,7 @@ use Rattle.eds_types.specs.Domains.{int_domain_in}
 abbrev pub no_size : ℕ
 no_size = 524289
 
+-- a size, or the one above where it is larger
 abbrev pub capped : ℕ → ℕ
 capped n = min n no_size
 
@@ -33,6 +34,7 @@ abbrev pub least_number : List Span → ℕ
 least_number [] = no_size
 least_number (s ∷ spans) = min (least_in s) (least_number spans)
 
+-- the same where there is a domain
 abbrev pub least_number_in : Option (List Span) → ℕ
 least_number_in None = 0
 least_number_in (Some spans) = least_number spans
@@ -57,6 +59,7 @@ size_by least (kind.Con c) container = container
 
 -- where least says the least sizes of the types that are nested in this one
 module _ (t : Table) (least : ℕ → ℕ) where
+  -- the least size of a part
   abbrev pub least_part : Part → ℕ
   least_part (part.Plain name id) = least id.0
   least_part (part.Fixed name id v) = least id.0
@@ -77,6 +80,7 @@ module _ (t : Table) (least : ℕ → ℕ) where
   abbrev pub least_family : ℕ → ℕ
   least_family id = least_of (map least_sequence (filter (is_concrete t) (derived t id)))
 
+  -- the least size of a row's type
   abbrev pub least_row : ℕ → Option TypeRow → ℕ
   least_row id None = no_size
   least_row id (Some row) = capped (size_by least row.kind (least_family id))

@@ -36,24 +36,29 @@ abbrev pub size_inside : Step → Size → Size
 size_inside s (Ok n) = Ok n
 size_inside s (Err g) = Err (pack_fault_behind s g)
 
+-- what comes next, unless there is a fault
 abbrev pub after : Size → (ℕ → Size) → Size
 after (Ok n) next = next n
 after (Err g) next = Err g
 
 -- ---- one value
 
+-- the size of a number, or why it fails
 abbrev pub number_size : IntForm → List Span → Plain → Size
 number_size form spans (num n) = cond (is_within spans n) (Ok form.bits) (Err (pack_fault_here reason.OutOfRange))
 number_size form spans v = Err (pack_fault_here reason.WrongKind)
 
+-- the size of a label with this number
 abbrev pub listed_size : IntForm → Option ℤ → Size
 listed_size form None = Err (pack_fault_here reason.NoLabel)
 listed_size form (Some n) = Ok form.bits
 
+-- the size of a label, or why it fails
 abbrev pub label_size : IntForm → List (List ℕ × ℤ) → Plain → Size
 label_size form listing (label l) = listed_size form (listed listing l)
 label_size form listing v = Err (pack_fault_here reason.WrongKind)
 
+-- the size of a truth value of n bits
 abbrev pub truth_size : ℕ → Plain → Size
 truth_size n (truth b) = Ok n
 truth_size n v = Err (pack_fault_here reason.WrongKind)
@@ -67,6 +72,7 @@ abbrev pub text_bits : Bool → ℕ → ℕ → ℕ
 text_bits true n m = 8 * n
 text_bits false n m = 8 * (m + 1)
 
+-- the size of a text, or why it fails
 abbrev pub text_size : TextForm → Plain → Size
 text_size form (text s) = cond (text_fits form s) (cond (nat_lt form.length (length s)) (Err (pack_fault_here reason.WrongSize)) (Ok (text_bits form.fixed form.length (length s)))) (Err (pack_fault_here reason.BadText))
 text_size form v = Err (pack_fault_here reason.WrongKind)
@@ -80,6 +86,7 @@ has_bits n true m = nat_le m n && (m % 8 == 0)
 abbrev pub is_filled : ℕ → List ℕ → Bool
 is_filled m o = length (take m (bits_of o)) == m && same_text (octets_of (take m (bits_of o))) o
 
+-- the size of bits, or why they fail
 abbrev pub binary_size : ℕ → Bool → Plain → Size
 binary_size n free (bits m o) = cond (has_bits n free m && is_filled m o) (Ok m) (Err (pack_fault_here reason.WrongSize))
 binary_size n free v = Err (pack_fault_here reason.WrongKind)
@@ -91,6 +98,7 @@ abbrev pub items_size : (Plain → Size) → ℕ → ℕ → List Plain → Size
 items_size size j before [] = Ok before
 items_size size j before (v ∷ vs) = after (size_inside (item_step j) (size v)) (λ n. items_size size (j + 1) (before + n) vs)
 
+-- the size of an array of n items
 abbrev pub array_size : (Plain → Size) → ℕ → Plain → Size
 array_size size n (items vs) = cond (length (list_of vs) == n) (items_size size 0 0 (list_of vs)) (Err (pack_fault_here reason.WrongSize))
 array_size size n v = Err (pack_fault_here reason.WrongKind)
@@ -107,6 +115,7 @@ form_bits (kind.Bin n free) = 0
 form_bits (kind.Arr item n) = 0
 form_bits (kind.Con c) = 0
 
+-- the same of a row, if there is one
 abbrev pub row_bits : Option TypeRow → ℕ
 row_bits None = 0
 row_bits (Some row) = form_bits row.kind
@@ -132,15 +141,18 @@ module _ (t : Table) (size : ℕ → Plain → Size) where
   length_fits m (part.Check name id k) = true
 
   module _ (fs : List Field) where
+    -- the size of an entry's value; a missing one has none
     abbrev pub entry_size : ℕ → Option Plain → Size
     entry_size id None = Ok 0
     entry_size id (Some v) = size id v
 
+    -- the size of a list's items, whose number an entry tells
     abbrev pub list_size : ℕ → Option Plain → Option Plain → Size
     list_size id count None = Ok 0
     list_size id count (Some (items vs)) = cond (tells count (length (list_of vs))) (items_size (size id) 0 0 (list_of vs)) (Err (pack_fault_here reason.CountWrong))
     list_size id count (Some v) = Err (pack_fault_here reason.WrongKind)
 
+    -- the size of a part
     abbrev pub packed_part_size : Placed → Part → Size
     packed_part_size p (part.Plain name id) = entry_size id.0 (value_at fs p.container p.place)
     packed_part_size p (part.Fixed name id v) = size id.0 (plain v)
@@ -161,6 +173,7 @@ module _ (t : Table) (size : ℕ → Plain → Size) where
     station_size k before (choice y) = choice_size k (candidate_under t k fs)
     station_size k before end = cond (list_all (λ (p : Placed). length_fits (octets_for before) p.part) (sequence t k)) (Ok 0) (Err (pack_fault_at reason.LengthField (length_path t k)))
 
+    -- the size of what all stations come to
     abbrev pub stations_size : ℕ → ℕ → List Station → Size
     stations_size k before [] = Ok before
     stations_size k before (s ∷ ss) = after (station_size k before s) (λ n. stations_size k (before + n) ss)
@@ -169,21 +182,26 @@ module _ (t : Table) (size : ℕ → Plain → Size) where
   abbrev pub own_size : ℕ → List Plain → Size
   own_size k f = stations_size (paired (sequence t k) f) k 0 (course t k k)
 
+  -- the size where the container must not be abstract
   abbrev pub concrete_size : ℕ → List Plain → Size
   concrete_size k f = cond (is_concrete t k) (own_size k f) (Err (pack_fault_at reason.Abstract (step.Choice (id_of k) ∷ [])))
 
+  -- and must derive from the type, or be it
   abbrev pub derived_size : ℕ → ℕ → List Plain → Size
   derived_size id k f = cond (list_has (chain t k) id) (concrete_size k f) (Err (pack_fault_at reason.NotDerived (step.Choice (id_of k) ∷ [])))
 
+  -- and must have as many values as it has entries and lists
   abbrev pub fields_size : ℕ → ℕ → List Plain → Size
   fields_size id k f = cond (is_some (container_of t k) && (length f == valued (sequence t k))) (derived_size id k f) (Err (pack_fault_here reason.WrongKind))
 
+  -- the size of a container's value
   abbrev pub container_size : ℕ → Plain → Size
   container_size id (fields k f) = fields_size id k (list_of f)
   container_size id v = Err (pack_fault_here reason.WrongKind)
 
   -- ---- any type
 
+  -- the size of a value of a kind
   abbrev pub packed_kind_size : ℕ → Kind → Plain → Size
   packed_kind_size id (kind.Int form spans) v = number_size form spans v
   packed_kind_size id (kind.Enum form listing) v = label_size form listing v
@@ -193,6 +211,7 @@ module _ (t : Table) (size : ℕ → Plain → Size) where
   packed_kind_size id (kind.Arr item n) v = array_size (size item.0) n v
   packed_kind_size id (kind.Con c) v = container_size id v
 
+  -- the size of a value of a row's type
   abbrev pub packed_row_size : ℕ → Option TypeRow → Plain → Size
   packed_row_size id None v = Err (pack_fault_here reason.WrongKind)
   packed_row_size id (Some row) v = packed_kind_size id row.kind v
@@ -207,6 +226,7 @@ abbrev pub not_long : Size → Size
 not_long (Ok n) = cond (nat_le n most_bits) (Ok n) (Err (pack_fault_here reason.TooLong))
 not_long (Err g) = Err g
 
+-- the size of a value, or where and why packing fails
 abbrev pub packed_size : Table → ℕ → Plain → Size
 packed_size t id v = not_long (packed_size_within 32 t id v)
 
@@ -226,5 +246,6 @@ pub record IsExact (t : Table) (id : ℕ) (v : Plain) : Type 0 where
   pub fault : (g : PackFault) → (packed_size t id v ≡ Err g) ↔ PackFailsAt t id v g
   pub bool : IsTrue (packs t id v) ↔ ((n : ℕ) × Packs t id v n)
 
+-- it is exact for every value of every type that is there
 abbrev pub SizesAreExact : Type 0
 SizesAreExact = (t : Table) (id : ℕ) → KeepsRules t → id < length t → (v : Plain) → IsExact t id v

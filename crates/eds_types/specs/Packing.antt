@@ -27,6 +27,7 @@ pub record PackFault : Type 0 where
   pub reason : PackReason
   pub path : List Step
 
+-- the fault of this reason at this path
 abbrev pub pack_fault_at : PackReason → List Step → PackFault
 pack_fault_at why path = record { reason = why; path = path }
 
@@ -55,6 +56,7 @@ module _ (t : Table) (FailsInner : ℕ → Plain → PackFault → Type 0) (fs :
   abbrev pub Tells : ℕ → ℕ → List Plain → Type 0
   Tells y i vs = value_at fs y i ≡ Some (num (pos (length vs)))
 
+  -- where packing a list fails: it is none; or the entry at y, i tells another number; or an item fails
   abbrev pub ListPackFails : ℕ → ℕ → ℕ → Option Plain → PackFault → Type 0
   ListPackFails id y i None g = ⊥
   ListPackFails id y i (Some (num n)) g = g ≡ pack_fault_here reason.WrongKind
@@ -151,9 +153,11 @@ module _ (t : Table) (SpellsInner : ℕ → Plain → Bits → Type 0) (FailsInn
 
   -- ---- a value of the right kind
 
+  -- a number that isn't of the domain
   abbrev pub NumberFails : List Span → Plain → PackFault → Type 0
   NumberFails spans v g = (n : ℤ) × (v ≡ num n) × (IsWithin spans n → ⊥) × (g ≡ pack_fault_here reason.OutOfRange)
 
+  -- a label that isn't listed
   abbrev pub LabelFails : List (List ℕ × ℤ) → Plain → PackFault → Type 0
   LabelFails listing v g = (l : List ℕ) × (v ≡ label l) × (listed listing l ≡ None) × (g ≡ pack_fault_here reason.NoLabel)
 
@@ -161,6 +165,7 @@ module _ (t : Table) (SpellsInner : ℕ → Plain → Bits → Type 0) (FailsInn
   abbrev pub TextFails : TextForm → List ℕ → PackFault → Type 0
   TextFails form s g = ((TextFits form s → ⊥) × (g ≡ pack_fault_here reason.BadText)) ⊎ (TextFits form s × (form.length < length s) × (g ≡ pack_fault_here reason.WrongSize))
 
+  -- bits of another number, or with octets that aren't theirs
   abbrev pub BinaryFails : ℕ → Bool → Plain → PackFault → Type 0
   BinaryFails n free v g = (m : ℕ) × (o : List ℕ) × (v ≡ bits m o) × ((BinHas n free m × IsFilled m o) → ⊥) × (g ≡ pack_fault_here reason.WrongSize)
 
@@ -168,6 +173,7 @@ module _ (t : Table) (SpellsInner : ℕ → Plain → Bits → Type 0) (FailsInn
   abbrev pub ItemsFail : ℕ → ℕ → List Plain → PackFault → Type 0
   ItemsFail item n vs g = ((length vs ≢ n) × (g ≡ pack_fault_here reason.WrongSize)) ⊎ ((length vs ≡ n) × ItemPackFails (FailsInner item) 0 vs g)
 
+  -- why a value of the kind's own sort fails
   abbrev pub OfKindFails : ℕ → Kind → Plain → PackFault → Type 0
   OfKindFails id (kind.Int form spans) v g = NumberFails spans v g
   OfKindFails id (kind.Enum form listing) v g = LabelFails listing v g
@@ -177,6 +183,7 @@ module _ (t : Table) (SpellsInner : ℕ → Plain → Bits → Type 0) (FailsInn
   OfKindFails id (kind.Arr item n) v g = (vs : Plains) × (v ≡ items vs) × ItemsFail item.0 n (list_of vs) g
   OfKindFails id (kind.Con c) v g = (k : ℕ) × (f : Plains) × (v ≡ fields k f) × ContainerPackFails id k (list_of f) g
 
+  -- why a value fails as one of the kind
   abbrev pub KindPackFails : ℕ → Kind → Plain → PackFault → Type 0
   KindPackFails id k v g = ((IsOfKind k v → ⊥) × (g ≡ pack_fault_here reason.WrongKind)) ⊎ OfKindFails id k v g
 

@@ -14,18 +14,22 @@ mutual
     items : Plains → Plain
     fields : ℕ → Plains → Plain
 
+  -- a list of values
   pub data Plains : Type 0 where
     none : Plains
     more : Plain → Plains → Plains
 
+-- the values in it
 abbrev pub list_of : Plains → List Plain
 list_of none = []
 list_of (more v vs) = v ∷ list_of vs
 
+-- the list of some values
 abbrev pub plains_of : List Plain → Plains
 plains_of [] = none
 plains_of (v ∷ vs) = more v (plains_of vs)
 
+-- one level of a value as plain data
 abbrev pub plain_step : Value-F Plain → Plain
 plain_step (Value-F.Num n) = num n
 plain_step (Value-F.Label l) = label l

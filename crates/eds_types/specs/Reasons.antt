@@ -3,6 +3,7 @@ use Rattle.std.specs.Prelude.{ℕ, List, codes}
 use Rattle.eds_types.specs.declared.reason.PackReason.{PackReason}
 use Rattle.eds_types.specs.declared.reason.PackReason.TheVariants.{WrongKind, OutOfRange, NoLabel, BadText, WrongSize, CountWrong, Constraint, NotDerived, Abstract, NotMostDerived, LengthField, TooLong, Room}
 
+-- the word for a reason in a report
 abbrev pub reason_name : PackReason → List ℕ
 reason_name WrongKind = codes "WrongKind"
 reason_name OutOfRange = codes "OutOfRange"

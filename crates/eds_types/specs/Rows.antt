@@ -13,11 +13,13 @@ use Rattle.eds_types.specs.declared.row.Constraint.{Constraint}
 abbrev pub Table : Type 0
 Table = List TypeRow
 
+-- the number of a type as its name
 abbrev pub id_of : ℕ → TypeId
 id_of n = record { 0 = n }
 
 -- ---- one row
 
+-- the container of a kind, if it is one
 abbrev pub container_by : Kind → Option Container
 container_by (kind.Int form spans) = None
 container_by (kind.Enum form listing) = None
@@ -27,33 +29,41 @@ container_by (kind.Bin n free) = None
 container_by (kind.Arr item n) = None
 container_by (kind.Con c) = Some c
 
+-- the same of a row
 abbrev pub container_in : Option TypeRow → Option Container
 container_in None = None
 container_in (Some row) = container_by row.kind
 
+-- the number of a type, if there is one
 abbrev pub number_of_id : Option TypeId → Option ℕ
 number_of_id None = None
 number_of_id (Some id) = Some id.0
 
+-- the base of a row, by its name
 abbrev pub base_id_in : Option TypeRow → Option TypeId
 base_id_in None = None
 base_id_in (Some row) = row.base
 
+-- the base of a row, by its number
 abbrev pub base_in : Option TypeRow → Option ℕ
 base_in row = number_of_id (base_id_in row)
 
+-- the entries of a container; where there is none, none
 abbrev pub entries_in : Option Container → List Part
 entries_in None = []
 entries_in (Some c) = c.entries
 
+-- its trailers
 abbrev pub trailers_in : Option Container → List Part
 trailers_in None = []
 trailers_in (Some c) = c.trailers
 
+-- its constraints
 abbrev pub constraints_in : Option Container → List Constraint
 constraints_in None = []
 constraints_in (Some c) = c.constraints
 
+-- it is there and isn't abstract
 abbrev pub concrete_in : Option Container → Bool
 concrete_in None = false
 concrete_in (Some c) = not c.hidden
@@ -63,6 +73,7 @@ module _ (t : Table) where
   abbrev pub base_of : ℕ → Option ℕ
   base_of id = base_in (slice_get t id)
 
+  -- the container of a type
   abbrev pub container_of : ℕ → Option Container
   container_of id = container_in (slice_get t id)
 
@@ -70,9 +81,11 @@ module _ (t : Table) where
   abbrev pub entries_of : ℕ → List Part
   entries_of id = entries_in (container_of id)
 
+  -- the trailers of a type
   abbrev pub trailers_of : ℕ → List Part
   trailers_of id = trailers_in (container_of id)
 
+  -- the constraints of a type
   abbrev pub constraints_of : ℕ → List Constraint
   constraints_of id = constraints_in (container_of id)
 
@@ -82,6 +95,7 @@ module _ (t : Table) where
 
 -- ---- chains
 
+-- the chain of a base
 abbrev pub chain_before : (ℕ → List ℕ) → Option ℕ → List ℕ
 chain_before up None = []
 chain_before up (Some base) = up base
@@ -95,6 +109,7 @@ chain_within (suc n) t id = chain_before (chain_within n t) (base_of t id) ++ id
 abbrev pub chain : Table → ℕ → List ℕ
 chain t id = chain_within 16 t id
 
+-- the number is among some
 abbrev pub list_has : List ℕ → ℕ → Bool
 list_has [] x = false
 list_has (y ∷ ys) x = cond (y == x) true (list_has ys x)
@@ -115,14 +130,17 @@ pub record Placed : Type 0 where
   pub place : ℕ
   pub part : Part
 
+-- some parts with their container and positions, the first at position i
 abbrev pub placed_from : ℕ → ℕ → List Part → List Placed
 placed_from y i [] = []
 placed_from y i (p ∷ ps) = record { container = y; place = i; part = p } ∷ placed_from y (i + 1) ps
 
 module _ (t : Table) where
+  -- the entries of a type with their positions
   abbrev pub placed_entries : ℕ → List Placed
   placed_entries y = placed_from y 0 (entries_of t y)
 
+  -- its trailers, whose positions go on from its entries
   abbrev pub placed_trailers : ℕ → List Placed
   placed_trailers y = placed_from y (length (entries_of t y)) (trailers_of t y)
 
@@ -143,5 +161,6 @@ address p = (id_of p.container, p.place)
 abbrev pub entry_places : Table → TypeId → List (TypeId × ℕ)
 entry_places t id = map address (placed_entries t id.0)
 
+-- where the trailers of a type stand
 abbrev pub trailer_places : Table → TypeId → List (TypeId × ℕ)
 trailer_places t id = map address (placed_trailers t id.0)

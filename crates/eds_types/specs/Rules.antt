@@ -57,6 +57,7 @@ HasKind t id P = (row : TypeRow) × (slice_get t id ≡ Some row) × P row.kind
 abbrev pub IsInt : Table → ℕ → (IntForm → List Span → Type 0) → Type 0
 IsInt t id P = HasKind t id (IsIntBy P)
 
+-- the type is a container
 abbrev pub IsContainer : Table → ℕ → Type 0
 IsContainer t id = IsSome (container_of t id)
 
@@ -76,6 +77,7 @@ pub record IsListing (form : IntForm) (listing : List (List ℕ × ℤ)) : Type 
   pub numbers : AreDistinct (map (λ e. e.1) listing)
   pub of_form : AllByRecursion (λ e. HasNumber form e.1) listing
 
+-- what a kind keeps by itself
 abbrev pub KindKeeps : Kind → Type 0
 KindKeeps (kind.Int form spans) = IsDomain form spans
 KindKeeps (kind.Enum form listing) = IsListing form listing
@@ -114,6 +116,7 @@ pub record IsHollow (t : Table) (id : ℕ) : Type 0 where
 abbrev pub IsNested : Table → (ℕ → ℕ) → ℕ → ℕ → Type 0
 IsNested t rank id inner = (inner < length t) × (rank inner < rank id)
 
+-- the type of an array's items is nested less deep, and has bits
 abbrev pub ItemsNest : Table → (ℕ → ℕ) → ℕ → Kind → Type 0
 ItemsNest t rank id (kind.Int form spans) = Unit {0}
 ItemsNest t rank id (kind.Enum form listing) = Unit {0}
@@ -157,6 +160,7 @@ pub record IsScale (c0 c1 : ℤ) : Type 0 where
   pub factor : c1 ≤ℤ pos (2 ^ 32)
   pub offset : nat_abs c0 ≤ 2 ^ 32
 
+-- the part is a length entry
 abbrev pub is_length : Part → Bool
 is_length (part.Plain name id) = false
 is_length (part.Fixed name id v) = false
@@ -174,6 +178,7 @@ pub record TailKeeps (t : Table) (p : Placed) : Type 0 where
   pub told : HasOne (λ (q : Placed). IsTrue (is_length q.part)) (flat_map (placed_entries t) (chain t p.container))
   pub sized : AllByRecursion (λ (q : Placed). IsSome (part_size t q.part)) (trailers_along t p.container)
 
+-- what a part of each kind keeps
 abbrev pub PartKeeps : Table → Placed → Part → Type 0
 PartKeeps t p (part.Plain name id) = (IsHollow t id.0 → ⊥) × IfSome (open_of t id.0) (λ n. TailKeeps t p)
 PartKeeps t p (part.Fixed name id v) = HasKind t id.0 (λ k. IsValueOf k (plain v)) × (open_of t id.0 ≡ None)
@@ -182,6 +187,7 @@ PartKeeps t p (part.List name id y i) = (IsHollow t id.0 → ⊥) × (open_of t 
 PartKeeps t p (part.Length name id c0 c1) = IsInt t id.0 (λ form spans. Unit {0}) × IsScale c0 c1
 PartKeeps t p (part.Check name id check) = IsInt t id.0 (HoldsCheck check) × (base_of t id.0 ≡ None)
 
+-- the name of a part, if it has one
 abbrev pub name_of : Part → Option (List ℕ)
 name_of (part.Plain name id) = Some name
 name_of (part.Fixed name id v) = name
@@ -204,6 +210,7 @@ Follows t [] = ⊥
 Follows t (p ∷ []) = (name : List ℕ) × (id : TypeId) × (part_at t p ≡ Some (part.Plain name id))
 Follows t (p ∷ q ∷ path) = (name : List ℕ) × (id : TypeId) × (part_at t p ≡ Some (part.Plain name id)) × IsContainer t id.0 × IsAtOrUnder t (q.0).0 id.0 × Follows t (q ∷ path)
 
+-- a number, a label or a truth value
 abbrev pub IsScalarKind : Kind → Type 0
 IsScalarKind (kind.Int form spans) = Unit {0}
 IsScalarKind (kind.Enum form listing) = Unit {0}
@@ -255,6 +262,7 @@ pub record ConstraintKeeps (t : Table) (base k : ℕ) (c : Constraint) : Type 0 
 
 -- ---- a table
 
+-- the rules on types, all of them
 pub record KeepsRules (t : Table) : Type 0 where
   -- there are at most 4,096 types (Limit), of different names (Duplicate)
   pub few : length t ≤ 4096

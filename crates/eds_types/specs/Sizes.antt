@@ -20,10 +20,12 @@ open_by (kind.Bin n free) = cond free (Some n) None
 open_by (kind.Arr item n) = None
 open_by (kind.Con c) = None
 
+-- the same of a row, if there is one
 abbrev pub open_in : Option TypeRow → Option ℕ
 open_in None = None
 open_in (Some row) = open_by row.kind
 
+-- the same of a type
 abbrev pub open_of : Table → ℕ → Option ℕ
 open_of t id = open_in (slice_get t id)
 
@@ -48,6 +50,7 @@ kind_size size (kind.Bin n free) = cond free None (Some n)
 kind_size size (kind.Arr item n) = option_map (λ m. n * m) (size item.0)
 kind_size size (kind.Con c) = None
 
+-- the same of a row, if there is one
 abbrev pub row_size : (ℕ → Option ℕ) → Option TypeRow → Option ℕ
 row_size size None = None
 row_size size (Some row) = kind_size size row.kind
@@ -58,9 +61,11 @@ size_within zero t id = None
 size_within (suc n) t id = row_size (size_within n t) (slice_get t id)
 
 module _ (t : Table) where
+  -- the size of a type, if all its spellings have one
   abbrev pub type_size : ℕ → Option ℕ
   type_size id = size_within 32 t id
 
+  -- the size of a part; a list has none
   abbrev pub part_size : Part → Option ℕ
   part_size (part.Plain name id) = type_size id.0
   part_size (part.Fixed name id v) = type_size id.0

@@ -43,6 +43,7 @@ with_octets s n b = record { fields = s.fields; before = s.before ++ b; octets =
 abbrev pub SizeFits : Progress → Type 0
 SizeFits s = IfSome s.octets (λ n. n ≡ pos (octets_for (length s.before)))
 
+-- the number of items that a value tells
 abbrev pub count_in : Option Plain → ℕ
 count_in None = 0
 count_in (Some (num n)) = nat_abs n

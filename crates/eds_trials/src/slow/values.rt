@@ -133,10 +133,13 @@ fn push_numbers(domain: &Spans, values: &mut Vec<Value>) -> Result<(), Memory> {
     Ok(())
 }
 
-// The empty text, and those of one character of ASCII.
-fn push_texts(alloc: Global, values: &mut Vec<Value>) -> Result<(), Memory> {
+// The empty text, and those of one character of ASCII but of the termination octet.
+fn push_texts(alloc: Global, stop: u8, values: &mut Vec<Value>) -> Result<(), Memory> {
     values.push(Value::Text(Text::new(alloc)))?;
     for octet in 0..128u8 {
+        if octet == stop {
+            continue;
+        }
         let mut octets = Vec::new(alloc);
         octets.push(octet)?;
         if let Ok(text) = String::from_utf8(octets) {
@@ -181,7 +184,7 @@ impl<'a> Slow<'a> {
                 values.push(Value::Bool(false))?;
                 values.push(Value::Bool(true))?;
             }
-            Kind::Str(_) => push_texts(self.alloc, &mut values)?,
+            Kind::Str(form) => push_texts(self.alloc, form.stop, &mut values)?,
             Kind::Bin(size, false) => push_patterns(self.alloc, *size, &mut values)?,
             Kind::Bin(most, true) => {
                 for octets in 0..(*most / 8).saturating_add(1) {

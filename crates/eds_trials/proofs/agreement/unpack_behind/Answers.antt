@@ -2,7 +2,6 @@ use Rattle.std.proofs.Common.{length, ap, ◌∙◌, arith}
 use Rattle.std.proofs.lemmas.List.{length-drop}
 use Rattle.eds_bits.proofs.OctetLaws.{length-bits_of}
 use Rattle.eds_bits.specs.Reader.{view_bits}
-use Rattle.eds_overlap.proofs.UnderivedTables.{flat_clear}
 use Rattle.eds_trials.proofs.agreement.unpack_behind.Goals as goal
 
 pub after-requires : goal.after-requires
@@ -15,6 +14,3 @@ unpack-requires-clause-most c =
     let e = ap length c.new.ensures in
     let d = ap length c.after.ensures ∙ length-drop c.args.bits (view_bits c.new.result) in
     omega (arith, e, d, length-bits_of c.args.octets.now, c.if-octets-gt65536.false)
-
-pub unpack-requires-clause-clear : goal.unpack-requires-clause-clear
-unpack-requires-clause-clear c = flat_clear c.args.table.now c.requires.flat c.args.id.0

@@ -1,0 +1,66 @@
+-- The number of a list's items is told by an entry of its container that stands before it, whose type is an integer type or a
+-- sub-range without negative numbers. Nothing is kept.
+use Rattle.std.specs.Prelude.{ℕ, ℤ, pos, int_lt, List, [], ◌∷◌, Bool, true, false, not, ◌&&◌, ◌||◌, nat_lt, if◌then◌else◌, Option, Some, None, slice_get}
+use Rattle.eds_base.specs.declared.ids.Place.{Place}
+use Rattle.eds_base.specs.declared.spans.Span.{Span}
+use Rattle.eds_base.specs.declared.refusal.Refusal.{Refusal}
+use Rattle.eds_base.specs.declared.rule.Rule.TheVariants.{ListField}
+use Rattle.eds_tree.specs.declared.tree.Node.{Node}
+use Rattle.eds_names.specs.LookUp.{Names}
+use Rattle.eds_types.specs.declared.row.TypeRow.{TypeRow}
+use Rattle.eds_types.specs.declared.row.Kind.{Kind}
+use Rattle.eds_types.specs.declared.row.Kind.TheVariants as kind
+use Rattle.eds_types.specs.declared.row.Part.{Part}
+use Rattle.eds_types.specs.declared.row.Part.TheVariants as part
+use Rattle.eds_types.specs.Rows.{Table, Placed, container_of, entries_in}
+use Rattle.eds_read_types.specs.References.{broken}
+use Rattle.eds_read_types.specs.Parts.{PartJudgement, at_parts}
+
+-- a number among these is negative
+abbrev pub has_negative : List Span → Bool
+has_negative [] = false
+has_negative (s ∷ spans) = int_lt s.low (pos 0) || has_negative spans
+
+-- a type counts: it is an integer type or a sub-range, and has no negative numbers
+abbrev pub counts_by : Kind → Bool
+counts_by (kind.Int form spans) = not (has_negative spans)
+counts_by (kind.Enum form listing) = false
+counts_by (kind.Bool form) = false
+counts_by (kind.Str form) = false
+counts_by (kind.Bin n free) = false
+counts_by (kind.Arr item n) = false
+counts_by (kind.Con c) = false
+
+abbrev pub counts_in : Option TypeRow → Bool
+counts_in None = false
+counts_in (Some row) = counts_by row.kind
+
+-- a part is an entry of such a type
+abbrev pub is_count : Table → Option Part → Bool
+is_count t None = false
+is_count t (Some (part.Plain name id)) = counts_in (slice_get t id.0)
+is_count t (Some (part.Fixed name id v)) = false
+is_count t (Some (part.Pad n)) = false
+is_count t (Some (part.List name id y i)) = false
+is_count t (Some (part.Length name id c0 c1)) = false
+is_count t (Some (part.Check name id check)) = false
+
+-- the part of a position is one, and stands before another
+abbrev pub is_told : Table → (container i place : ℕ) → Bool
+is_told t container i place = nat_lt i place && is_count t (slice_get (entries_in (container_of t container)) i)
+
+abbrev pub list_field_by : Table → (container place : ℕ) → Place → Part → List Refusal
+list_field_by t container place at (part.Plain name id) = []
+list_field_by t container place at (part.Fixed name id v) = []
+list_field_by t container place at (part.Pad n) = []
+list_field_by t container place at (part.List name id y i) = if is_told t container i place then [] else broken ListField at ∷ []
+list_field_by t container place at (part.Length name id c0 c1) = []
+list_field_by t container place at (part.Check name id check) = []
+
+-- at one part
+abbrev pub list_field_at : PartJudgement
+list_field_at t p at = list_field_by t p.container p.place at p.part
+
+-- at the parts of all containers
+abbrev pub breaks_list_field : List (List Node) → Names → List Refusal
+breaks_list_field trees names = at_parts list_field_at trees names

@@ -1,0 +1,73 @@
+-- The parts of containers as rows hold them (CCSDS 876.0-B, container entries).
+use Rattle.std.specs.Prelude.{ℕ, nat_le, List, codes, false, if◌then◌else◌, Option, Some, None}
+use Rattle.std.specs.Option.{unwrap_or}
+use Rattle.eds_base.specs.Reading.{◌>>=◌, only}
+use Rattle.eds_base.specs.Numbers.{whole_number}
+use Rattle.eds_base.specs.declared.ids.Place.{Place}
+use Rattle.eds_base.specs.declared.ids.TypeId.{TypeId}
+use Rattle.eds_tree.specs.declared.tree.Node.{Node}
+use Rattle.eds_names.specs.LookUp.{Names}
+use Rattle.eds_types.specs.declared.row.Part.{Part}
+use Rattle.eds_types.specs.declared.row.Part.TheVariants as part
+use Rattle.eds_read_types.specs.declared.part_sort.PartSort.{PartSort}
+use Rattle.eds_read_types.specs.declared.part_sort.PartSort.TheVariants as sort
+use Rattle.eds_read_types.specs.Places.{attribute, own_name}
+use Rattle.eds_read_types.specs.Entries.{sort_at, type_named}
+use Rattle.eds_read_types.specs.ListFields.{field_place}
+use Rattle.eds_read_types.specs.ReadTypes.{id_found}
+use Rattle.eds_read_types.specs.TextForms.{natural, is_binary_size}
+
+-- the type that a part names
+abbrev pub entry_type : List (List Node) → Names → Place → Option TypeId
+entry_type trees names at = id_found names at (type_named trees at)
+
+-- a number, 0 where there is none; in a sheet that is not refused each such part has its type
+abbrev pub id_or_first : Option TypeId → TypeId
+id_or_first id = unwrap_or id (record { 0 = 0 })
+
+abbrev pub entry_id : List (List Node) → Names → Place → TypeId
+entry_id trees names at = id_or_first (entry_type trees names at)
+
+-- a number of bits that padding may have, from 1 to 524,288
+abbrev pub padding_size : List ℕ → Option ℕ
+padding_size text = do
+  size ← whole_number text
+  bits ← natural size
+  only (is_binary_size false bits) bits
+
+abbrev pub padding_size_in : Option (List ℕ) → Option ℕ
+padding_size_in text = text >>= padding_size
+
+-- the bits of padding, or an octet; in a sheet that is not refused each padding has its bits
+abbrev pub padding_bits : List (List Node) → Place → ℕ
+padding_bits trees at = unwrap_or (padding_size_in (attribute trees (codes "sizeInBits") at)) 8
+
+-- an octet of padding, in place of a part that is not compiled yet
+abbrev pub unread : Part
+unread = part.Pad 8
+
+-- an entry by its name and its type
+abbrev pub plain_part : List (List Node) → Names → Place → Part
+plain_part trees names at = part.Plain (own_name trees at) (entry_id trees names at)
+
+-- the type of a number; no sheet has so many types that one has no such number
+abbrev pub type_number : ℕ → TypeId
+type_number id = record { 0 = if nat_le id 4294967295 then id else 4294967295 }
+
+-- a list by its name, the type of its items, and the position of the part that tells their number among the container's parts
+abbrev pub list_part : List (List Node) → Names → (container : ℕ) → List Place → Place → Part
+list_part trees names container ats at = part.List (own_name trees at) (entry_id trees names at) (type_number container) (field_place trees ats at)
+
+-- a part of the container of a number, of all whose parts the elements are given
+abbrev pub part_by : Option PartSort → List (List Node) → Names → (container : ℕ) → List Place → Place → Part
+part_by None trees names container ats at = unread
+part_by (Some sort.Entry) trees names container ats at = plain_part trees names at
+part_by (Some sort.FixedValue) trees names container ats at = unread
+part_by (Some sort.Padding) trees names container ats at = part.Pad (padding_bits trees at)
+part_by (Some sort.List) trees names container ats at = list_part trees names container ats at
+part_by (Some sort.Length) trees names container ats at = unread
+part_by (Some sort.ErrorControl) trees names container ats at = unread
+
+-- the part that the element at a place is
+abbrev pub part_at : List (List Node) → Names → (container : ℕ) → List Place → Place → Part
+part_at trees names container ats at = part_by (sort_at trees at) trees names container ats at

@@ -1,0 +1,126 @@
+//! The parts of containers as rows hold them.
+
+ghost use Rattle.std.specs.Prelude.{◌≡◌, IfOk, option_map};
+ghost use Rattle.eds_read_types.specs.PartRows.{entry_type as entry_type_of, entry_id as entry_id_of, padding_size as padding_size_of, padding_size_in, padding_bits as padding_bits_of, unread as unread_part, plain_part as plain_part_of, type_number as type_number_of, list_part as list_part_of, part_at as part_of};
+
+use crate::element::{attribute, own_name};
+use crate::entry::{sort_at, type_named};
+use crate::list_field::Fields;
+use crate::named_trees::NamedTrees;
+use crate::part_sort::PartSort;
+use crate::reference::id_found;
+use crate::text_form::{binary_bits, natural};
+use eds_base::{Memory, Place, Text, TypeId, whole_number};
+use eds_tree::Tree;
+use eds_types::Part;
+use std::alloc::Global;
+
+/// The number of the type that a part names.
+fn entry_type(alloc: Global, sheet: &NamedTrees, at: Place) -> Result<Option<TypeId>, Memory>
+    ensures { IfOk result (λ id. id ≡ entry_type_of sheet.now.trees.now sheet.now.space.now at) }
+{
+    id_found(alloc, sheet, at, type_named(sheet.trees, at))
+}
+
+/// The same, the first type's where it names none.
+fn entry_id(alloc: Global, sheet: &NamedTrees, at: Place) -> Result<TypeId, Memory>
+    ensures { IfOk result (λ id. id ≡ entry_id_of sheet.now.trees.now sheet.now.space.now at) }
+{
+    let found = entry_type(alloc, sheet, at)?;
+    match found {
+        None => Ok(TypeId(0)),
+        Some(id) => Ok(id),
+    }
+}
+
+/// An entry by its name and its type.
+fn plain_part(alloc: Global, sheet: &NamedTrees, at: Place) -> Result<Part, Memory>
+    ensures { IfOk result (λ p. p ≡ plain_part_of sheet.now.trees.now sheet.now.space.now at) }
+{
+    let id = entry_id(alloc, sheet, at)?;
+    let name = Text::of(alloc, own_name(sheet.trees, at))?;
+    Ok(Part::Plain(name, id))
+}
+
+/// A number of bits that padding may have.
+fn padding_size(text: &str) -> Option<u32>
+    ensures { result ≡ padding_size_of text.now }
+{
+    let bits = natural(whole_number(text)?)?;
+    binary_bits(false, bits)
+}
+
+fn padding_size_by(text: Option<&str>) -> Option<u32>
+    ensures { result ≡ padding_size_in (option_map (λ t. t.now) text.entry) }
+{
+    match text {
+        None => None,
+        Some(text) => padding_size(text),
+    }
+}
+
+/// The bits of padding.
+fn padding_bits(trees: &[Tree], at: Place) -> u32
+    ensures { result ≡ padding_bits_of trees.now at }
+{
+    match padding_size_by(attribute(trees, "sizeInBits", at)) {
+        None => 8,
+        Some(bits) => bits,
+    }
+}
+
+/// A part that is not compiled yet.
+fn unread() -> Part
+    ensures { result ≡ unread_part }
+{
+    Part::Pad(8)
+}
+
+/// The type of a number.
+fn type_number(id: usize) -> TypeId
+    ensures { result ≡ type_number_of id }
+{
+    if id <= 4_294_967_295 {
+        TypeId(id as u32)
+    } else {
+        TypeId(4_294_967_295)
+    }
+}
+
+/// A list by its name, the type of its items, and the part of its container that tells their number.
+fn list_part(
+    alloc: Global,
+    sheet: &NamedTrees,
+    container: usize,
+    fields: &Fields,
+    at: Place,
+) -> Result<Part, Memory>
+    requires { fields.now.trees.now ≡ sheet.now.trees.now }
+    ensures { IfOk result (λ p. p ≡ list_part_of sheet.now.trees.now sheet.now.space.now container fields.now.parts.now at) }
+{
+    let item = entry_id(alloc, sheet, at)?;
+    let name = Text::of(alloc, own_name(sheet.trees, at))?;
+    Ok(Part::List(name, item, type_number(container), fields.place_of(at)))
+}
+
+/// The part that the element at a place is, of the container of a number with such parts.
+pub(crate) fn part_at(
+    alloc: Global,
+    sheet: &NamedTrees,
+    container: usize,
+    fields: &Fields,
+    at: Place,
+) -> Result<Part, Memory>
+    requires { fields.now.trees.now ≡ sheet.now.trees.now }
+    ensures { IfOk result (λ p. p ≡ part_of sheet.now.trees.now sheet.now.space.now container fields.now.parts.now at) }
+{
+    match sort_at(sheet.trees, at) {
+        None => Ok(unread()),
+        Some(PartSort::Entry) => plain_part(alloc, sheet, at),
+        Some(PartSort::FixedValue) => Ok(unread()),
+        Some(PartSort::Padding) => Ok(Part::Pad(padding_bits(sheet.trees, at))),
+        Some(PartSort::List) => list_part(alloc, sheet, container, fields, at),
+        Some(PartSort::Length) => Ok(unread()),
+        Some(PartSort::ErrorControl) => Ok(unread()),
+    }
+}

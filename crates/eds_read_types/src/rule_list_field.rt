@@ -1,0 +1,101 @@
+//! The rule on the entry that tells the number of a list's items.
+
+ghost use Rattle.std.specs.Prelude.{◌≡◌, slice_get};
+ghost use Rattle.eds_read_types.specs.ListField.{has_negative as has_negative_in, counts_by as counts_by_kind, counts_in, is_count as is_count_of, is_told as is_told_at};
+ghost use Rattle.std.specs.Option.{option_copied};
+
+use crate::breaks::broken;
+use crate::sheet_rows::{PartAt, PartRule, parts_of};
+use eds_base::{Memory, Refusal, Rule, Span, TypeId};
+use eds_types::{Kind, Part, TypeRows};
+use std::alloc::Global;
+
+/// Whether a number among these is negative.
+fn has_negative(spans: &[Span]) -> bool
+    ensures { result ≡ has_negative_in spans.now }
+{
+    let mut rest = spans;
+    while let [span, after @ ..] = rest {
+        if span.low < 0 {
+            return true;
+        }
+        rest = after;
+    }
+    false
+}
+
+/// Whether a kind is an integer type or a sub-range without negative numbers.
+fn counts_by(kind: &Kind) -> bool
+    ensures { result ≡ counts_by_kind kind.now }
+{
+    match kind {
+        Kind::Int(_, spans) => !has_negative(spans.as_slice()),
+        Kind::Enum(_, _) => false,
+        Kind::Bool(_) => false,
+        Kind::Str(_) => false,
+        Kind::Bin(_, _) => false,
+        Kind::Arr(_, _) => false,
+        Kind::Con(_) => false,
+    }
+}
+
+/// The same of the type of a number.
+fn counts(rows: &TypeRows, id: TypeId) -> bool
+    ensures { result ≡ counts_in (slice_get rows.now id.0) }
+{
+    match rows.get(id.0 as usize) {
+        None => false,
+        Some(row) => counts_by(&row.kind),
+    }
+}
+
+/// Whether a part is an entry of such a type.
+fn is_count(rows: &TypeRows, part: Option<&Part>) -> bool
+    ensures { result ≡ is_count_of rows.now (option_copied part.entry) }
+{
+    match part {
+        None => false,
+        Some(part) => match part {
+            Part::Plain(_, id) => counts(rows, *id),
+            Part::Fixed(_, _, _) => false,
+            Part::Pad(_) => false,
+            Part::List(_, _, _, _) => false,
+            Part::Length(_, _, _, _) => false,
+            Part::Check(_, _, _) => false,
+        },
+    }
+}
+
+/// Whether the part of a position is one, and stands before another.
+fn is_told(rows: &TypeRows, container: usize, field: u16, place: usize) -> bool
+    ensures { result ≡ is_told_at rows.now container field place }
+{
+    let field = field as usize;
+    field < place && is_count(rows, parts_of(rows, container).get(field))
+}
+
+/// The number of a list's items is told by an entry before it, whose type has no negative numbers.
+pub(crate) struct ListField;
+
+impl PartRule for ListField {
+    ghost use Rattle.eds_read_types.specs.ListField.{list_field_at};
+
+    ghost breaks = { list_field_at };
+
+    fn least_at(_: Global, at: &PartAt) -> Result<Option<Refusal>, Memory> {
+        match at.part {
+            Part::Plain(_, _) => Ok(None),
+            Part::Fixed(_, _, _) => Ok(None),
+            Part::Pad(_) => Ok(None),
+            Part::List(_, _, _, field) => {
+                if is_told(at.rows, at.container, *field, at.index) {
+                    Ok(None)
+                } else {
+                    Ok(Some(broken(Rule::ListField, at.place)))
+                }
+            }
+            Part::Length(_, _, _, _) => Ok(None),
+            Part::Check(_, _, _) => Ok(None),
+        }
+    }
+}
