@@ -27,3 +27,6 @@ pub mod Circles
 pub mod NumberFacts
 pub mod TableRules
 pub mod Limits
+pub mod SequenceFacts
+pub mod FamilyFacts
+pub mod RowRules

@@ -22,6 +22,7 @@ pub mod BadEncoding
 pub mod EmptyRange
 pub mod BadEnumeration
 pub mod DuplicateEntry
+pub mod Calibrators
 pub mod Unbroken
 pub mod Numbers
 pub mod ListFields

@@ -7,6 +7,7 @@ mod bad_enumeration;
 mod base_cycle;
 mod base_graph;
 mod breaks;
+mod calibrator;
 mod domain;
 mod duplicate_entry;
 mod element;
