@@ -1,7 +1,7 @@
 //! Events and states of a run.
 
 use crate::Op;
-use eds_base::{CompId, Items};
+use eds_base::{CompId, Fault, Items, Octets, Text};
 use eds_types::Value;
 
 /// Values in order.
@@ -72,3 +72,42 @@ pub enum Send {
 
 /// What a component sends for an event, in order.
 pub type Sends = Items<Send>;
+
+/// Two ends that are tied, as a line of a script names them: a required end and the provided one to which it is tied.
+#[derive(Debug, Drop)]
+pub struct Wire {
+    /// The number of the line.
+    pub line: u32,
+    pub lower: Text,
+    pub upper: Text,
+}
+
+/// Wires in the order of their lines.
+pub type Wires = Items<Wire>;
+
+/// What a line of a script has happen.
+#[derive(Drop)]
+pub enum Line {
+    /// Every component starts.
+    Start,
+    /// Time goes on by so many nanoseconds.
+    Tick(u64),
+    /// A primitive arrives.
+    Prim(Primitive),
+    /// A command arrives at an end, by its member, with the octets of its one argument.
+    Frame(End, u16, Octets),
+}
+
+/// What a run reports, each with its time in nanoseconds.
+#[derive(Drop)]
+pub enum Out {
+    /// A primitive leaves at an end that isn't tied.
+    Sent(u64, Primitive),
+    /// An activity of a machine halted.
+    Halted(u64, CompId, u16, Halt),
+    /// A frame for a command, by its end and member, has no reading.
+    Reject(u64, End, u16, Fault),
+}
+
+/// What a run reports, in order.
+pub type Outs = Items<Out>;

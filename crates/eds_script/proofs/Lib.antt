@@ -1,0 +1,9 @@
+mod Among
+mod Called
+mod Digits
+mod Knowing
+mod Packing
+mod Pieces
+mod Places
+mod Scripting
+mod Utf8

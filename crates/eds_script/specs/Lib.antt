@@ -1,0 +1,12 @@
+pub mod Lines
+pub mod Words
+pub mod Seen
+pub mod Stops
+pub mod Numbers
+pub mod Ends
+pub mod Members
+pub mod Known
+pub mod Given
+pub mod Arrivals
+pub mod Meaning
+pub mod Scripts

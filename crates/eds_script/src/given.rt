@@ -1,0 +1,150 @@
+//! What is given behind a member's name: JSON, or hex.
+
+ghost use Rattle.std.specs.Prelude.{◌≡◌, ◌<◌, ◌∷◌, [], IfOk, length, map};
+ghost use Rattle.eds_base.specs.Answering.{Answers, or_stop};
+ghost use Rattle.eds_types.specs.PackedSizes.{packs as packs_as};
+ghost use Rattle.eds_types.specs.Plain.{plain};
+ghost use Rattle.eds_script.specs.Given.{all_pack as all_packed, frame_octets as octets_in, given_arguments as arguments_given, given_value as value_given};
+ghost use Rattle.eds_script.specs.Known.{AreFieldsKnown};
+ghost use Rattle.eds_script.specs.Seen.{why_in};
+ghost use Rattle.eds_script.specs.declared.why.LineWhy.TheVariants.{Hex};
+
+use crate::LineWhy;
+use eds_base::{Fail, Memory, Octets, Text, TypeId};
+use eds_pack::conforms;
+use eds_plan::{FieldList, Values};
+use eds_types::packs::packed_sizes;
+use eds_types::{TypeTable, Value};
+use eds_value::{ValueFail, args_from_json, from_json};
+use std::alloc::Global;
+
+/// A frame has no more octets.
+const FRAME_OCTETS: usize = 65_536;
+
+/// The octets of pairs of hex digits, at most 65,536.
+#[tactic(auto, unfolding(crate::specs::Given::frame_octets))]
+pub(crate) fn frame_octets(alloc: Global, hex: &str) -> Result<Octets, Fail<LineWhy>>
+    ensures { Answers (λ o. o) result (or_stop Hex (octets_in hex.now)) }
+{
+    match hex::decode(alloc, hex) {
+        Ok(octets) => {
+            if octets.len() <= FRAME_OCTETS {
+                Ok(Octets::from_vec(octets))
+            } else {
+                Err(Fail::Named(LineWhy::Hex))
+            }
+        }
+        Err(hex::FromHexError::OutOfMemory) => Err(Fail::Memory),
+        Err(_) => Err(Fail::Named(LineWhy::Hex)),
+    }
+}
+
+// What is wrong with JSON.
+fn why_of(fail: Fail<ValueFail>) -> Fail<LineWhy>
+    ensures { result ≡ why_in fail }
+{
+    match fail {
+        Fail::Named(ValueFail::NotJson) => Fail::Named(LineWhy::Json),
+        Fail::Named(ValueFail::WrongShape(_)) => Fail::Named(LineWhy::Shape),
+        Fail::Memory => Fail::Memory,
+    }
+}
+
+// Whether a value packs as a type.
+fn packs(table: &TypeTable, id: TypeId, value: &Value) -> bool
+    requires known { id.0 < length table.now }
+    ensures { result ≡ packs_as table.now id.0 (plain value.now) }
+{
+    table.keeps_rules();
+    packed_sizes();
+    conforms(table, id, value)
+}
+
+// Whether each value packs as its type.
+fn all_pack(table: &TypeTable, fields: &[(Text, TypeId)], values: &eds_types::Values) -> bool
+    requires known { AreFieldsKnown table.now fields.now }
+    ensures { result ≡ all_packed table.now fields.now values.now }
+{
+    let mut place: usize = 0;
+    let mut rest = fields;
+    while let [(_, id), after @ ..] = rest {
+        let Some(value) = values.get(place) else {
+            return true;
+        };
+        if !packs(table, *id, value) {
+            return false;
+        }
+        place += 1;
+        rest = after;
+    }
+    true
+}
+
+// The same values, as those of a primitive.
+fn copied(alloc: Global, values: &eds_types::Values) -> Result<Values, Memory>
+    ensures { IfOk result (λ vs. map plain vs ≡ values.now) }
+{
+    let mut list = Values::new(alloc);
+    for i in 0..values.len() {
+        if let Some(value) = values.get(i) {
+            let copy = value.copy(alloc)?;
+            list.push(copy)?;
+        }
+    }
+    Ok(list)
+}
+
+/// The values of a JSON object of arguments, which pack as their types.
+#[tactic(auto, unfolding(crate::specs::Given::given_arguments))]
+pub(crate) fn given_arguments(
+    alloc: Global,
+    table: &TypeTable,
+    fields: &FieldList,
+    json: &str,
+) -> Result<Values, Fail<LineWhy>>
+    requires known { AreFieldsKnown table.now fields.now }
+    ensures { Answers (map plain) result (arguments_given table.now fields.now json.now) }
+{
+    match args_from_json(alloc, table, fields, json.as_bytes()) {
+        Err(fail) => Err(why_of(fail)),
+        Ok(values) => {
+            if all_pack(table, fields.as_slice(), &values) {
+                Ok(copied(alloc, &values)?)
+            } else {
+                Err(Fail::Named(LineWhy::Value))
+            }
+        }
+    }
+}
+
+// One value as a list.
+fn only_value(alloc: Global, value: Value) -> Result<Values, Memory>
+    ensures { IfOk result (λ vs. map plain vs ≡ plain value ∷ []) }
+{
+    let mut list = Values::new(alloc);
+    list.push(value)?;
+    Ok(list)
+}
+
+/// The one value of a JSON text, which packs as its type.
+#[tactic(auto, unfolding(crate::specs::Given::given_value))]
+pub(crate) fn given_value(
+    alloc: Global,
+    table: &TypeTable,
+    id: TypeId,
+    json: &str,
+) -> Result<Values, Fail<LineWhy>>
+    requires known { id.0 < length table.now }
+    ensures { Answers (map plain) result (value_given table.now id.0 json.now) }
+{
+    match from_json(alloc, table, id, json.as_bytes()) {
+        Err(fail) => Err(why_of(fail)),
+        Ok(value) => {
+            if packs(table, id, &value) {
+                Ok(only_value(alloc, value)?)
+            } else {
+                Err(Fail::Named(LineWhy::Value))
+            }
+        }
+    }
+}

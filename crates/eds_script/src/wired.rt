@@ -1,0 +1,63 @@
+//! The ends that stand in wire lines.
+
+ghost use Rattle.std.specs.Prelude.{◌≡◌, ◌||◌, ℕ, List, IfOk, OnOk, map, string_bytes};
+ghost use Rattle.std.specs.List.{list_any};
+ghost use Rattle.eds_base.specs.Reading.{same};
+ghost use Rattle.eds_script.specs.Meaning.{tied, wired_in};
+ghost use Rattle.eds_script.specs.Seen.{is_among, line_of};
+ghost use Rattle.eds_script.specs.Words.{form as form_of};
+
+use crate::lines::ScriptLine;
+use crate::words::{Saying, form};
+use eds_base::Memory;
+use indexmap::IndexSet;
+use std::alloc::Global;
+
+/// Texts of ends.
+pub(crate) type EndSet = IndexSet<String>;
+
+/// Whether an end is in the set.
+pub(crate) fn is_held(ends: &EndSet, end: &str) -> bool
+    ensures { result ≡ is_among (map string_bytes ends.now.keys) end.now }
+{
+    ends.contains(end)
+}
+
+fn note_end(alloc: Global, ends: &mut EndSet, end: &str) -> Result<(), Memory>
+    ensures { OnOk result ((q : List ℕ) → is_among (map string_bytes ends.new.keys) q ≡ (same q end.now || is_among (map string_bytes ends.old.keys) q)) }
+{
+    if is_held(ends, end) {
+        return Ok(());
+    }
+    let text = String::from_str(alloc, end)?;
+    let _added = ends.insert(text)?;
+    Ok(())
+}
+
+fn note_line(alloc: Global, ends: &mut EndSet, line: &[u8]) -> Result<(), Memory>
+    ensures { OnOk result ((q : List ℕ) → is_among (map string_bytes ends.new.keys) q ≡ (list_any (same q) (tied (form_of line.now)) || is_among (map string_bytes ends.old.keys) q)) }
+{
+    match form(line) {
+        Ok(Saying::Ties(lower, upper)) => {
+            note_end(alloc, ends, lower)?;
+            note_end(alloc, ends, upper)?;
+            Ok(())
+        }
+        Ok(Saying::Ticks(_)) => Ok(()),
+        Ok(Saying::Arrives(_, _, _, _)) => Ok(()),
+        Err(_) => Ok(()),
+    }
+}
+
+/// The ends that stand in a wire line.
+pub(crate) fn wired_ends(alloc: Global, lines: &[ScriptLine<'_>]) -> Result<EndSet, Memory>
+    ensures { IfOk result (λ s. (q : List ℕ) → is_among (map string_bytes s.keys) q ≡ wired_in (map line_of lines.now) q) }
+{
+    let mut ends = IndexSet::new(alloc);
+    let mut rest = lines;
+    while let [line, after @ ..] = rest {
+        note_line(alloc, &mut ends, line.text)?;
+        rest = after;
+    }
+    Ok(ends)
+}
