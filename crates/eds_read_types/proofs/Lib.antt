@@ -4,6 +4,7 @@ pub mod EndFacts
 pub mod ListingFacts
 pub mod LawFacts
 mod EntriesLemmas
+pub mod NameSets
 pub mod NoBreaks
 mod BaseSteps
 mod NumberSteps
@@ -20,3 +21,7 @@ pub mod ChainFacts
 pub mod NumberFacts
 pub mod TableRules
 pub mod Limits
+pub mod SequenceFacts
+pub mod FamilyFacts
+pub mod RowRules
+mod PartOrder

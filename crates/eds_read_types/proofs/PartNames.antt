@@ -53,10 +53,10 @@ module _ (trees : List (List Node)) (names : Names) where
       go (Some sort.Length) e = tt
       go (Some sort.ErrorControl) e = tt
 
-  abbrev element_names : List Place → List (List ℕ)
+  abbrev pub element_names : List Place → List (List ℕ)
   element_names ats = map (own_name trees) (named_among trees ats)
 
-  abbrev row_names : List Place → List (List ℕ)
+  abbrev pub row_names : List Place → List (List ℕ)
   row_names ats = filter_map name_of (map (part_at trees names) ats)
 
   among_more : (at : Place) (ats : List Place) (x : List ℕ) → is_among (element_names ats) x ≡ true → is_among (element_names (at ∷ ats)) x ≡ true
@@ -66,7 +66,7 @@ module _ (trees : List (List Node)) (names : Names) where
       go true e = rw e (rw h (true_or (same x (own_name trees at))))
       go false e = rw e h
 
-  among_parts : (ats : List Place) (x : List ℕ) → is_among (row_names ats) x ≡ true → is_among (element_names ats) x ≡ true
+  pub among_parts : (ats : List Place) (x : List ℕ) → is_among (row_names ats) x ≡ true → is_among (element_names ats) x ≡ true
   among_parts [] x h = absurd cc
   among_parts (at ∷ ats) x h = go (λ k. among_parts ats x k) (name_of (part_at trees names at)) refl (name_is at) h
     where

@@ -12,6 +12,7 @@ use Rattle.eds_read_types.specs.Unresolved.{unresolved_at}
 use Rattle.eds_read_types.specs.WrongKind.{wrong_kind_at}
 use Rattle.eds_read_types.specs.BaseCycle.{breaks_cycle}
 use Rattle.eds_read_types.specs.LimitChain.{breaks_chain}
+use Rattle.eds_read_types.specs.LimitFamily.{breaks_family}
 use Rattle.eds_read_types.specs.UnsupportedEntry.{breaks_flat}
 use Rattle.eds_read_types.specs.BadEncoding.{breaks_encoding}
 use Rattle.eds_read_types.specs.EmptyRange.{breaks_range, breaks_sub_range}
@@ -48,6 +49,7 @@ pub record IsUnbroken (trees : List (List Node)) (names : Names) (word : Option 
   pub kinds : flat_map (judged_at (wrong_kind_at trees names) trees) (elements trees) ≡ []
   pub cycles : breaks_cycle trees names ≡ []
   pub chains : breaks_chain trees names ≡ []
+  pub families : breaks_family trees names ≡ []
   pub flat : breaks_flat trees names ≡ []
   pub encodings : breaks_encoding trees names ≡ []
   pub ranges : breaks_range trees names ≡ []
@@ -71,7 +73,8 @@ unbroken trees names word h =
       kinds = fitting.0;
       cycles = bases.0;
       chains = bases.1.0;
-      flat = bases.1.1.0;
+      families = bases.1.1.0;
+      flat = bases.1.1.1.0;
       encodings = scalars.0;
       ranges = scalars.1.0;
       subs = scalars.1.1.0;

@@ -18,12 +18,14 @@ pub mod Unresolved
 pub mod WrongKind
 pub mod BaseCycle
 pub mod LimitChain
+pub mod LimitFamily
 pub mod UnsupportedEntry
 pub mod BadEncoding
 pub mod EmptyRange
 pub mod BadEnumeration
 pub mod EmptyType
 pub mod DuplicateEntry
+pub mod Calibrators
 pub mod Unbroken
 pub mod Numbers
 pub mod PartRows

@@ -8,6 +8,7 @@ use Rattle.eds_read_types.specs.Unresolved.{breaks_unresolved}
 use Rattle.eds_read_types.specs.WrongKind.{breaks_kind}
 use Rattle.eds_read_types.specs.BaseCycle.{breaks_cycle}
 use Rattle.eds_read_types.specs.LimitChain.{breaks_chain}
+use Rattle.eds_read_types.specs.LimitFamily.{breaks_family}
 use Rattle.eds_read_types.specs.UnsupportedEntry.{breaks_flat}
 use Rattle.eds_read_types.specs.BadEncoding.{breaks_encoding}
 use Rattle.eds_read_types.specs.EmptyRange.{breaks_range, breaks_sub_range}
@@ -20,7 +21,7 @@ use Rattle.eds_read_types.specs.LengthField.{breaks_length}
 abbrev pub rules : List (List Node) → Names → (word : Option (List ℕ)) → List (List (List Refusal))
 rules trees names word =
     (breaks_unresolved trees names word ∷ breaks_kind trees names word ∷ [])
-    ∷ (breaks_cycle trees names ∷ breaks_chain trees names ∷ breaks_flat trees names ∷ [])
+    ∷ (breaks_cycle trees names ∷ breaks_chain trees names ∷ breaks_family trees names ∷ breaks_flat trees names ∷ [])
     ∷ (breaks_encoding trees names ∷ breaks_range trees names ∷ breaks_sub_range trees names ∷ breaks_enumeration trees names ∷ [])
     ∷ (breaks_empty trees names word ∷ breaks_duplicate trees names ∷ breaks_length trees names ∷ [])
     ∷ []

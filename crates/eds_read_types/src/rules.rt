@@ -16,6 +16,7 @@ use crate::empty_range::{EmptyRange, EmptySubRange};
 use crate::empty_type::EmptyType;
 use crate::length_field::LengthField;
 use crate::limit_chain::LimitChain;
+use crate::limit_family::LimitFamily;
 use crate::reference::{ReferenceRule, least_over_references};
 use crate::sheet_rows::{AtParts, RowRule, SheetRows, least_over_rows};
 use crate::unresolved::Unresolved;
@@ -143,7 +144,7 @@ type References = And<AtReferences<Unresolved>, And<AtReferences<WrongKind>, NoR
 
 type Bases = And<
     AtNumbers<BaseCycle>,
-    And<AtNumbers<LimitChain>, And<AtRows<AtParts<UnsupportedEntry>>, NoRule>>,
+    And<AtNumbers<LimitChain>, And<LimitFamily, And<AtRows<AtParts<UnsupportedEntry>>, NoRule>>>,
 >;
 
 type Scalars = And<
@@ -153,7 +154,7 @@ type Scalars = And<
 
 type Containers = And<
     EmptyType,
-    And<AtTypes<DuplicateEntry>, And<AtRows<AtParts<LengthField>>, NoRule>>,
+    And<AtRows<DuplicateEntry>, And<AtRows<AtParts<LengthField>>, NoRule>>,
 >;
 
 type TypeRules = Then<References, Then<Bases, Then<Scalars, Then<Containers, NoRule>>>>;

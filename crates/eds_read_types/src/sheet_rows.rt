@@ -7,13 +7,13 @@ ghost use Rattle.eds_base.specs.declared.refusal.Refusal.{Refusal as refusal};
 ghost use Rattle.eds_base.specs.Refusals.{least};
 ghost use Rattle.eds_tree.specs.declared.tree.Node.{Node as node};
 ghost use Rattle.eds_types.specs.Sizes.{open_of};
-ghost use Rattle.eds_types.specs.Rows.{Table, Placed, container_of, entries_in};
+ghost use Rattle.eds_types.specs.Rows.{Table, Placed, container_of, entries_in, trailers_in};
 ghost use Rattle.eds_read_types.specs.Bases.{breaks_over};
 ghost use Rattle.eds_read_types.specs.TableRows.{table_rows};
-ghost use Rattle.eds_read_types.specs.Parts.{judged_part, judged_parts};
+ghost use Rattle.eds_read_types.specs.Parts.{parts_in, judged_part, judged_parts};
 
 use crate::base_graph::BaseGraph;
-use crate::entry::entries_at;
+use crate::entry::own_parts_at;
 use eds_base::{Memory, Place, Refusal, TypeId};
 use eds_types::{Kind, Part, TypeRows};
 use std::alloc::Global;
@@ -108,8 +108,8 @@ pub(crate) trait PartRule {
         ensures { IfOk result (λ r. r ≡ least (breaks at.now.rows.now (record { container = at.now.container; place = at.now.index; part = at.now.part.now }) at.now.place)) };
 }
 
-/// The parts of a type, none where it is no container.
-pub(crate) fn parts_of(rows: &TypeRows, id: usize) -> &[Part]
+/// The entries of a type, none where it is no container.
+pub(crate) fn entries_of(rows: &TypeRows, id: usize) -> &[Part]
     ensures { result.now ≡ entries_in (container_of rows.now id) }
 {
     match rows.get(id) {
@@ -118,6 +118,31 @@ pub(crate) fn parts_of(rows: &TypeRows, id: usize) -> &[Part]
             Kind::Con(container) => container.entries.as_slice(),
             _ => &[],
         },
+    }
+}
+
+/// Its trailers.
+pub(crate) fn trailers_of(rows: &TypeRows, id: usize) -> &[Part]
+    ensures { result.now ≡ trailers_in (container_of rows.now id) }
+{
+    match rows.get(id) {
+        None => &[],
+        Some(row) => match &row.kind {
+            Kind::Con(container) => container.trailers.as_slice(),
+            _ => &[],
+        },
+    }
+}
+
+/// One of both, by its position among the entries and then the trailers.
+fn part_of(rows: &TypeRows, id: usize, index: usize) -> Option<&Part>
+    ensures { option_copied result ≡ slice_get (parts_in (container_of rows.now id)) index }
+{
+    let entries = entries_of(rows, id);
+    if index < entries.len() {
+        entries.get(index)
+    } else {
+        trailers_of(rows, id).get(index - entries.len())
     }
 }
 
@@ -130,7 +155,7 @@ fn least_part<R: PartRule>(
 ) -> Result<Option<Refusal>, Memory>
     ensures { IfOk result (λ r. r ≡ least (judged_part R.breaks rows.now container index place)) }
 {
-    match parts_of(rows, container).get(index) {
+    match part_of(rows, container, index) {
         None => Ok(None),
         Some(part) => R::least_at(
             alloc,
@@ -175,7 +200,7 @@ impl<R: PartRule> RowRule for AtParts<R> {
         id: usize,
         at: Place,
     ) -> Result<Option<Refusal>, Memory> {
-        let places = entries_at(alloc, sheet.graph.sheet.trees, at)?;
+        let places = own_parts_at(alloc, sheet.graph.sheet.trees, at)?;
         least_over_parts::<R>(alloc, sheet.rows, id, &places)
     }
 }

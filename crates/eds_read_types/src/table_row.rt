@@ -1,14 +1,16 @@
 //! The rows of the table of types.
 
-ghost use Rattle.std.specs.Prelude.{◌≡◌, ◌++◌, ◌∷◌, [], map, filter, length, slice_get, IfOk, OnOk};
+ghost use Rattle.std.specs.Prelude.{◌≡◌, ◌++◌, ◌∷◌, [], map, filter, length, slice_get, true, option_map, IfOk, OnOk};
+ghost use Rattle.eds_tree.specs.Unsupported.{spells_flag};
 ghost use Rattle.eds_read_types.specs.Places.{is_type, type_places};
 ghost use Rattle.eds_read_types.specs.Bases.{bases_of as bases_in};
+ghost use Rattle.eds_read_types.specs.PartRows.{part_at as part_in};
 ghost use Rattle.eds_read_types.specs.Numbers.{numbers_of as numbers_by_id};
-ghost use Rattle.eds_read_types.specs.TableRows.{container_at as container_by, binary_kind as binary_kind_of, scalar_kind as scalar_kind_of, scalar_kind_in as scalar_kind_by, kind_of as kind_by_id, table_row as table_row_of, rows_from, table_rows as table_rows_of};
+ghost use Rattle.eds_read_types.specs.TableRows.{is_abstract as is_abstract_at, container_at as container_by, binary_kind as binary_kind_of, scalar_kind as scalar_kind_of, scalar_kind_in as scalar_kind_by, kind_of as kind_by_id, table_row as table_row_of, rows_from, table_rows as table_rows_of};
 
 use crate::base_graph::{BaseGraph, base_found};
-use crate::element::{is_container, tree_at};
-use crate::entry::entries_at;
+use crate::element::{attribute, is_container, tree_at};
+use crate::entry::{entries_at, trailers_at};
 use crate::form::{bool_form_of, int_form_of};
 use crate::listing::listing_of;
 use crate::named_trees::NamedTrees;
@@ -18,25 +20,51 @@ use crate::sort::{Sort, sort_of};
 use crate::text_form::{binary_bits_of, is_open, text_form_of};
 use eds_base::{Memory, Place, Text};
 use eds_names::Declared;
-use eds_tree::Tree;
+use eds_tree::{Tree, flag_value};
 use eds_types::{Constraints, Container, Kind, Parts, TypeRow, TypeRows};
 use std::alloc::Global;
 
-/// The container at a place, which has entries alone.
+fn is_true(text: Option<&str>) -> bool
+    ensures { result ≡ spells_flag true (option_map (λ t. t.now) text.entry) }
+{
+    match text {
+        None => false,
+        Some(text) => flag_value(text) == Some(true),
+    }
+}
+
+/// Whether the container at a place is abstract.
+fn is_abstract(trees: &[Tree], at: Place) -> bool
+    ensures { result ≡ is_abstract_at trees.now at }
+{
+    is_true(attribute(trees, "abstract", at))
+}
+
+/// The parts at some places.
+fn parts_read(alloc: Global, sheet: &NamedTrees, places: &[Place]) -> Result<Parts, Memory>
+    ensures { IfOk result (λ p. p ≡ map (part_in sheet.now.trees.now sheet.now.space.now) places.now) }
+{
+    let mut parts = Parts::new(alloc);
+    for at in places {
+        let part = part_at(alloc, sheet, *at)?;
+        parts.push(part)?;
+    }
+    Ok(parts)
+}
+
+/// The container at a place, without its constraints.
 fn container_at(alloc: Global, sheet: &NamedTrees, at: Place) -> Result<Container, Memory>
     ensures { IfOk result (λ c. c ≡ container_by sheet.now.trees.now sheet.now.space.now at) }
 {
     let places = entries_at(alloc, sheet.trees, at)?;
-    let mut entries = Parts::new(alloc);
-    for entry in &places {
-        let part = part_at(alloc, sheet, *entry)?;
-        entries.push(part)?;
-    }
+    let entries = parts_read(alloc, sheet, &places)?;
+    let places = trailers_at(alloc, sheet.trees, at)?;
+    let trailers = parts_read(alloc, sheet, &places)?;
     Ok(Container {
-        hidden: false,
+        hidden: is_abstract(sheet.trees, at),
         constraints: Constraints::new(alloc),
         entries,
-        trailers: Parts::new(alloc),
+        trailers,
     })
 }
 
