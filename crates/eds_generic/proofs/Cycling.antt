@@ -1,47 +1,50 @@
--- Marks of interfaces, and rule after rule.
-use Rattle.std.proofs.Common.{◌≡◌, ℕ, suc, ◌+◌, ◌<◌, ◌≤◌, ◌==◌, ◌||◌, length, map, drop, get_or, add-one, drop-cons, Bool, true, false, List, [], ◌∷◌, Option, refl, sym, ap, ◌∙◌, arith, inl, inr, ◌⊎◌}
-use Rattle.std.specs.Prelude.{nat_lt}
-use Rattle.std.specs.List.{list_any, range_with_len}
-use Rattle.std.proofs.lemmas.Bool.Decides.{nat_tests}
+-- What the search for circles finds, and rule after rule.
+use Rattle.std.proofs.Common.{◌≡◌, ℕ, suc, ◌+◌, ◌<◌, ◌||◌, ◌&&◌, length, map, drop, get_or, add-one, drop-cons, Bool, true, false, List, [], ◌∷◌, Option, Some, None, refl, sym, ap, ◌∙◌, arith, slice_get}
+use Rattle.std.specs.List.{range_with_len}
 use Rattle.std.proofs.lemmas.List.FromFn.{get_or-map-range_with_len, length-map-range_with_len}
-use Rattle.std.proofs.lemmas.Option.{slice_get-get_or, slice_get_past}
+use Rattle.std.proofs.lemmas.Option.{slice_get-get_or}
+use Rattle.eds_base.specs.declared.ids.Place.{Place}
 use Rattle.eds_base.specs.declared.refusal.Refusal.{Refusal}
 use Rattle.eds_base.specs.Refusals.{first_of, least}
 use Rattle.eds_base.proofs.LeastLaws.{least-append, first_assoc}
-use Rattle.eds_generic.specs.declared.face.Base.{Base}
+use Rattle.eds_graph.specs.declared.course.Course.{Course}
+use Rattle.eds_graph.specs.declared.course.Course.TheVariants.{OnCircle}
+use Rattle.eds_graph.specs.Ways.{course, all_courses, all_reached, is_reached, is_met, is_on_circle, is_circular, reaches_circle}
 use Rattle.eds_generic.specs.declared.face.Face.{Face}
-use Rattle.eds_generic.specs.Faces.{bases, bases_by}
 use Rattle.eds_generic.specs.Every.{over_from}
-use Rattle.eds_generic.specs.Cycles.{reaches, is_marked, marked, cycle_at, cycles_from}
+use Rattle.eds_generic.specs.Cycles.{graph_of, cycle_if, cycle_at, cycles_from, circular_at, circular_by, marked_at, marked_by}
 
-pub any-alike : {A : Type 0} (f g : A → Bool) → ((x : A) → f x ≡ g x) → (xs : List A) → list_any f xs ≡ list_any g xs
-any-alike f g h [] = refl
-any-alike f g h (x ∷ xs) = rw (h x, any-alike f g h xs) refl
-
--- what a list of flags has at a number
-pub marked-in : (f : ℕ → Bool) (n i : ℕ) → i < n → marked (map f (range_with_len 0 n)) i ≡ f i
-marked-in f n i h =
+-- what a list of all numbers has at a number
+pub ranged : {A : Type 0} (f : ℕ → A) (n i : ℕ) → i < n → slice_get (map f (range_with_len 0 n)) i ≡ Some (f i)
+ranged f n i h =
     let long : length (map f (range_with_len 0 n)) ≡ n = length-map-range_with_len f 0 n in
-    ap is_marked (slice_get-get_or (map f (range_with_len 0 n)) i true (omega arith)) ∙ get_or-map-range_with_len f 0 n i i true (omega arith) (omega arith)
+    slice_get-get_or (map f (range_with_len 0 n)) i (f i) (omega arith) ∙ ap Some (get_or-map-range_with_len f 0 n i i (f i) (omega arith) (omega arith))
 
-pub marked-past : (f : ℕ → Bool) (n i : ℕ) → n ≤ i → marked (map f (range_with_len 0 n)) i ≡ false
-marked-past f n i h =
-    let long : length (map f (range_with_len 0 n)) ≡ n = length-map-range_with_len f 0 n in
-    ap is_marked (slice_get_past (map f (range_with_len 0 n)) i (omega arith))
+pub graph-length : (faces : List Face) → length (graph_of faces) ≡ length faces
+graph-length [] = refl
+graph-length (x ∷ xs) = ap suc (graph-length xs)
 
-pub no-bases : (faces : List Face) (f : ℕ) → length faces ≤ f → bases faces f ≡ []
-no-bases faces f h = ap bases_by (slice_get_past faces f h)
-
-pub split : (a b : ℕ) → (a < b) ⊎ (b ≤ a)
-split a b = go (nat_lt a b) refl
+circular-course : (g : List (List ℕ)) (a : ℕ) → is_circular (course g a) ≡ is_on_circle g a
+circular-course g a = go (is_on_circle g a) refl (reaches_circle g a) refl
   where
-    go : (t : Bool) → nat_lt a b ≡ t → (a < b) ⊎ (b ≤ a)
-    go true e = inl (grind (arith, nat_tests))
-    go false e = inr (grind (arith, nat_tests))
+    go : (b : Bool) → is_on_circle g a ≡ b → (r : Bool) → reaches_circle g a ≡ r → is_circular (course g a) ≡ is_on_circle g a
+    go true e r f = rw e refl
+    go false e true f = rw (e, f) refl
+    go false e false f = rw (e, f) refl
 
-pub past-reaches : (k : ℕ) (faces : List Face) (f g : ℕ) → length faces ≤ f → reaches (suc k) faces f g ≡ false
-unfolding reaches
-past-reaches k faces f g h = ap (list_any (λ (b : Base). (b.face.0 == g) || reaches k faces b.face.0 g)) (no-bases faces f h)
+pub circular-in : (faces : List Face) (courses : List Course) (i : ℕ) → i < length faces → courses ≡ all_courses (graph_of faces) → circular_at courses i ≡ is_on_circle (graph_of faces) i
+circular-in faces courses i h e =
+    let long = graph-length faces in
+    ap (λ cs. circular_at cs i) e ∙ ap circular_by (ranged (course (graph_of faces)) (length (graph_of faces)) i (omega arith)) ∙ circular-course (graph_of faces) i
+
+or-false : (b : Bool) → (b || false) ≡ b
+or-false true = refl
+or-false false = refl
+
+pub met-in : (faces : List Face) (marks : List Bool) (from i : ℕ) → i < length faces → marks ≡ all_reached (graph_of faces) (from ∷ []) → marked_at marks i ≡ is_met (graph_of faces) from i
+met-in faces marks from i h e =
+    let long = graph-length faces in
+    ap (λ ms. marked_at ms i) e ∙ ap marked_by (ranged (is_reached (graph_of faces) (from ∷ [])) (length (graph_of faces)) i (omega arith)) ∙ or-false (is_met (graph_of faces) from i)
 
 -- `found` stands for the interfaces before
 pub least-next_face : (faces : List Face) (from i : ℕ) (x : Face) (found here next whole : Option Refusal)
@@ -62,3 +65,17 @@ least-next_over f faces i x found here next whole lt e h n inv =
     let this : least (over_from f i (drop i faces)) ≡ first_of here (least (over_from f (i + 1) (drop (i + 1) faces))) =
     ap (λ qs. least (over_from f i qs)) opened ∙ least-append (f i x) _ ∙ rw (← h) refl in
     rw n (first_assoc found here (least (over_from f (i + 1) (drop (i + 1) faces))) ∙ ap (first_of found) (sym this) ∙ inv)
+
+-- ---- the break at one that is met, or not
+
+module _ (faces : List Face) (marks : List Bool) (courses : List Course) (from i : ℕ) (at : Place) (lt : i < length faces)
+    (met : marks ≡ all_reached (graph_of faces) (from ∷ [])) (all : courses ≡ all_courses (graph_of faces)) where
+  pub here-met : marked_at marks i ≡ true → least (cycle_if (circular_at courses i) at) ≡ least (cycle_at faces from i at)
+  here-met t =
+      let m : is_met (graph_of faces) from i ≡ true = sym (met-in faces marks from i lt met) ∙ t in
+      ap (λ b. least (cycle_if b at)) (circular-in faces courses i lt all ∙ sym (ap (λ b. b && is_on_circle (graph_of faces) i) m))
+
+  pub here-unmet : marked_at marks i ≡ false → None ≡ least (cycle_at faces from i at)
+  here-unmet t =
+      let m : is_met (graph_of faces) from i ≡ false = sym (met-in faces marks from i lt met) ∙ t in
+      sym (ap (λ b. least (cycle_if (b && is_on_circle (graph_of faces) i) at)) m)

@@ -9,6 +9,8 @@ use Rattle.eds_generic.specs.declared.pair.Pair.{Pair}
 use Rattle.eds_generic.specs.Faces.{bases}
 use Rattle.eds_generic.specs.Pairs.{below, below_by, gathered, ends_within, most, same_pair, is_among, put, put_all, IsClosed}
 use Rattle.eds_generic.proofs.Once.{all-implied, and-both, and-left, and-right, put-keeps, put-either, put_all-append, put_all-there, put_all-has}
+use Rattle.eds_generic.specs.Members.{declared_count}
+use Rattle.eds_generic.proofs.Counting.{many-grow}
 use Rattle.eds_generic.proofs.Same.{pair-itself, pair-face, below-same}
 
 pub gathered-next : (n : ℕ) (faces : List Face) (p : Pair) → 0 < n → gathered n faces p ≡ flat_map (gathered (n - 1) faces) (below faces p) ++ p ∷ []
@@ -91,6 +93,30 @@ gather-step found new whole n faces p q bs i b h e u w inv =
     let rest : List Pair = flat_map (gathered n faces) (map (below_by faces p.types) (drop (i + 1) bs)) in
     ap (λ fs. put_all fs rest) w ∙ ap (λ r. put_all (put_all found (gathered n faces r)) rest) u ∙ sym (put_all-append found (gathered n faces (below_by faces p.types b)) rest)
     ∙ ap (λ cs. put_all found (flat_map (gathered n faces) (map (below_by faces p.types) cs))) (sym opened) ∙ inv
+
+-- ---- too many members
+
+module _ (faces : List Face) where
+  pub put-many : (found mid : List Pair) (n : ℕ) (p : Pair) → ends_within n faces p.face.0 ≡ true → mid ≡ put_all found (flat_map (gathered (n - 1) faces) (below faces p))
+      → 1024 < declared_count faces (put mid p) → 1024 < declared_count faces (put_all found (gathered n faces p))
+  put-many found mid n p e m h = let whole = put-gathered faces found mid (put mid p) n p e m refl in rw (← whole) h
+
+  pub gathered-many : (found : List Pair) (n : ℕ) (p : Pair) → ends_within n faces p.face.0 ≡ true
+      → 1024 < declared_count faces (put_all found (flat_map (gathered (n - 1) faces) (below faces p))) → 1024 < declared_count faces (put_all found (gathered n faces p))
+  gathered-many found n p e h =
+      let mid : List Pair = put_all found (flat_map (gathered (n - 1) faces) (below faces p)) in
+      put-many found mid n p e refl (many-grow faces 1024 mid (p ∷ []) (put mid p) refl h)
+
+  pub bases-many : (first found : List Pair) (n : ℕ) (p q : Pair) (bs : List Base) (i : ℕ) (b : Base) → i < length bs → b ≡ get_or bs i b
+      → q ≡ below_by faces p.types b → bs ≡ bases faces p.face.0
+      → put_all found (flat_map (gathered n faces) (map (below_by faces p.types) (drop i bs))) ≡ put_all first (flat_map (gathered n faces) (map (below_by faces p.types) bs))
+      → 1024 < declared_count faces (put_all found (gathered n faces q)) → 1024 < declared_count faces (put_all first (flat_map (gathered n faces) (below faces p)))
+  bases-many first found n p q bs i b lt e u same inv h =
+      let rest : List Pair = flat_map (gathered n faces) (map (below_by faces p.types) (drop (i + 1) bs)) in
+      let whole : List Pair = put_all first (flat_map (gathered n faces) (map (below_by faces p.types) bs)) in
+      let next = gather-step found (put_all found (gathered n faces q)) whole n faces p q bs i b lt e u refl inv in
+      let many = many-grow faces 1024 (put_all found (gathered n faces q)) rest whole (sym next) h in
+      rw same at many
 
 pub ends-here : (n : ℕ) (faces : List Face) (bs : List Base) (i : ℕ) (b : Base) → i < length bs → b ≡ get_or bs i b
     → list_all (λ (b : Base). ends_within n faces b.face.0) (drop i bs) ≡ true → ends_within n faces b.face.0 ≡ true

@@ -1,12 +1,13 @@
 pub mod Once
+pub mod Counting
 pub mod Same
 pub mod Gathering
 pub mod Judging
 pub mod NameLaws
 pub mod NameBreaks
+pub mod Many
 pub mod Deriving
 pub mod Cycling
 pub mod Endless
 pub mod ReadingFacts
 pub mod InTurn
-pub mod Marking

@@ -53,11 +53,6 @@ least-duplicate at ws = least-keeping DuplicateMember (λ v w. refl) at ws
 pub least-joined : (xs ys : List Refusal) (a b p : Option Refusal) → a ≡ least xs → b ≡ least ys → p ≡ first_of a b → p ≡ least (xs ++ ys)
 least-joined xs ys a b p ha hb hp = hp ∙ rw (ha, hb) (sym (least-append xs ys))
 
-pub least-of_five : (v w x y z : List Refusal) (a b c d e p q r s : Option Refusal) → a ≡ least v → b ≡ least w → c ≡ least x → d ≡ least y → e ≡ least z
-    → p ≡ first_of a b → q ≡ first_of p c → r ≡ first_of q d → s ≡ first_of r e → s ≡ least (v ++ w ++ x ++ y ++ z)
-least-of_five v w x y z a b c d e p q r s ha hb hc hd he hp hq hr hs =
-    least-joined (v ++ w ++ x ++ y) z r e s (least-joined (v ++ w ++ x) y q d r (least-joined (v ++ w) x p c q (least-joined v w a b p ha hb hp) hc hq) hd hr) he hs
-
 pub least-none : (rs : List Refusal) → least rs ≡ None → rs ≡ []
 least-none [] h = refl
 least-none (r ∷ rs) h = go (least rs) h
@@ -65,3 +60,8 @@ least-none (r ∷ rs) h = go (least rs) h
     go : (o : Option Refusal) → first_of (Some r) o ≡ None → r ∷ rs ≡ []
     go None k = cc
     go (Some q) k = cc
+
+pub least-of_four : (w x y z : List Refusal) (b c d e q r s : Option Refusal) → b ≡ least w → c ≡ least x → d ≡ least y → e ≡ least z
+    → q ≡ first_of b c → r ≡ first_of q d → s ≡ first_of r e → s ≡ least (w ++ x ++ y ++ z)
+least-of_four w x y z b c d e q r s hb hc hd he hq hr hs =
+    least-joined (w ++ x ++ y) z r e s (least-joined (w ++ x) y q d r (least-joined w x b c q hb hc hq) hd hr) he hs

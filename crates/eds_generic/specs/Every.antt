@@ -5,7 +5,7 @@ use Rattle.eds_base.specs.declared.ids.TypeId.{TypeId}
 use Rattle.eds_base.specs.declared.refusal.Refusal.{Refusal}
 use Rattle.eds_generic.specs.declared.face.Face.{Face}
 use Rattle.eds_generic.specs.declared.face.Generic.{Generic}
-use Rattle.eds_generic.specs.Cycles.{is_own_base, cycle_of}
+use Rattle.eds_generic.specs.Cycles.{is_own_base, cycle_if}
 use Rattle.eds_generic.specs.Members.{under}
 use Rattle.eds_generic.specs.Resolved.{judged_first, pair_breaks}
 
@@ -16,7 +16,7 @@ over_from breaks g (x ∷ xs) = breaks g x ++ over_from breaks (g + 1) xs
 
 -- no interface is its own base
 abbrev pub own_cycle_at : List Face → ℕ → Face → List Refusal
-own_cycle_at faces g x = if is_own_base faces g then cycle_of x.place ∷ [] else []
+own_cycle_at faces g x = cycle_if (is_own_base faces g) x.place
 
 abbrev pub own_cycles : List Face → List Refusal
 own_cycles faces = over_from (own_cycle_at faces) 0 faces

@@ -1,4 +1,5 @@
 pub mod Faces
+pub mod Stops
 pub mod Pairs
 pub mod Members
 pub mod Cycles
@@ -8,3 +9,4 @@ pub mod Reading
 pub mod Every
 pub mod EachOnce
 pub mod Sameness
+pub mod Sheets

@@ -1,5 +1,5 @@
 -- The members of an interface under a map of its generic names.
-use Rattle.std.specs.Prelude.{ℕ, Bool, List, [], ◌∷◌, ◌++◌, map, if◌then◌else◌}
+use Rattle.std.specs.Prelude.{ℕ, Bool, List, [], ◌∷◌, ◌++◌, length, map, if◌then◌else◌}
 use Rattle.std.specs.List.{flat_map, list_any}
 use Rattle.eds_base.specs.Reading.{same}
 use Rattle.eds_base.specs.declared.ids.TypeId.{TypeId}
@@ -52,6 +52,10 @@ each_once faces p = put_all [] (gathered (most faces) faces p)
 -- declaration under one map counts once, at its first place
 unfoldable pub members : List Face → Pair → List Member
 members faces p = flat_map (members_of faces) (each_once faces p)
+
+-- how many members some interfaces under maps declare
+abbrev pub declared_count : List Face → List Pair → ℕ
+declared_count faces ps = length (flat_map (members_of faces) ps)
 
 -- ---- an interface under a given map
 

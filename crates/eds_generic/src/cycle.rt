@@ -1,16 +1,49 @@
 //! Interfaces that are their own bases.
 
-ghost use Rattle.std.specs.Prelude.{◌≡◌, ◌≤◌, ◌<◌, ◌+◌, ℕ, length, IfOk};
+ghost use Rattle.std.specs.Prelude.{◌≡◌, ◌<◌, ◌∷◌, [], length, IfOk};
 ghost use Rattle.eds_base.specs.Refusals.{least};
-ghost use Rattle.eds_generic.specs.Faces.{bases as bases_in};
-ghost use Rattle.eds_generic.specs.Cycles.{marked as marked_in, trues, Visits, VisitsAll, is_above, cycle_of as cycle_of_place, cycle_at as cycle_at_in, breaks_cycle};
+ghost use Rattle.eds_graph.specs.Ways.{all_courses, all_reached};
+ghost use Rattle.eds_generic.specs.Cycles.{base_numbers as base_numbers_of, graph_of as graph_of_faces, cycle_of as cycle_of_place, cycle_if, cycle_at as cycle_at_in, breaks_cycle, circular_at, marked_at};
+ghost use Rattle.eds_generic.specs.Every.{own_cycle_at, own_cycles};
 
 use crate::face::{Base, Face};
 use eds_base::{FaceId, Kept, Memory, Place, Refusal, Rule};
+use eds_graph::{Course, Graph, courses, reached};
 use std::alloc::Global;
 
-pub(crate) fn marked(marks: &[bool], id: usize) -> bool
-    ensures { result ≡ marked_in marks.now id }
+fn base_numbers(alloc: Global, bases: &[Base]) -> Result<Vec<usize>, Memory>
+    ensures { IfOk result (λ v. v.items ≡ base_numbers_of bases.now) }
+{
+    let mut numbers = Vec::new(alloc);
+    for base in bases {
+        numbers.push(base.face.0 as usize)?;
+    }
+    Ok(numbers)
+}
+
+/// Each interface leads to its bases.
+fn graph_of(alloc: Global, faces: &[Face]) -> Result<Graph, Memory>
+    ensures { IfOk result (λ g. g ≡ graph_of_faces faces.now) }
+{
+    let mut graph = Graph::new(alloc);
+    for face in faces {
+        let numbers = base_numbers(alloc, face.bases.as_slice())?;
+        graph.push(numbers)?;
+    }
+    Ok(graph)
+}
+
+fn is_circular(courses: &[Course], id: usize) -> bool
+    ensures { result ≡ circular_at courses.now id }
+{
+    match courses.get(id) {
+        None => false,
+        Some(course) => course.is_on_circle(),
+    }
+}
+
+fn is_marked(marks: &[bool], id: usize) -> bool
+    ensures { result ≡ marked_at marks.now id }
 {
     match marks.get(id) {
         None => false,
@@ -18,50 +51,7 @@ pub(crate) fn marked(marks: &[bool], id: usize) -> bool
     }
 }
 
-fn bases_of(faces: &[Face], id: usize) -> &[Base]
-    ensures { result.now ≡ bases_in faces.now id }
-{
-    match faces.get(id) {
-        None => &[],
-        Some(face) => face.bases.as_slice(),
-    }
-}
-
-/// Marks an interface, its bases, their bases and so on, as far as they are not marked yet.
-#[cycle(visit)]
-fn visit(faces: &[Face], marks: &mut [bool], left: usize, id: usize)
-    requires long { length marks.old ≡ length faces.now }
-    requires few { length faces.now ≤ left + trues marks.old }
-    ensures visited { Visits faces.now id marks.old marks.new }
-{
-    if id >= marks.len() || marks[id] {
-        return;
-    }
-    marks[id] = true;
-    visit_bases(faces, marks, left - 1, id);
-}
-
-#[cycle(visit)]
-fn visit_bases(faces: &[Face], marks: &mut [bool], left: usize, id: usize)
-    requires long { length marks.old ≡ length faces.now }
-    requires few { length faces.now ≤ left + trues marks.old }
-    ensures visited { VisitsAll faces.now (bases_in faces.now id) marks.old marks.new }
-{
-    for base in bases_of(faces, id) {
-        visit(faces, marks, left, base.face.0 as usize);
-    }
-}
-
-/// Marks the interfaces that are bases of a given one, over one step or more.
-pub(crate) fn marks_of(alloc: Global, faces: &[Face], from: usize) -> Result<Vec<bool>, Memory>
-    ensures { IfOk result (λ v. (g : ℕ) → g < length faces.now → marked_in v.items g ≡ is_above faces.now from g) }
-{
-    let mut marks = vec![in alloc; false; faces.len()]?;
-    visit_bases(faces, marks.as_mut_slice(), faces.len(), from);
-    Ok(marks)
-}
-
-pub(crate) fn cycle_of(at: Place) -> Refusal
+fn cycle_of(at: Place) -> Refusal
     ensures { result ≡ cycle_of_place at }
 {
     Refusal {
@@ -71,26 +61,56 @@ pub(crate) fn cycle_of(at: Place) -> Refusal
     }
 }
 
+fn cycle_where(circular: bool, at: Place) -> Option<Refusal>
+    ensures { result ≡ least (cycle_if circular at) }
+{
+    if circular { Some(cycle_of(at)) } else { None }
+}
+
+// ---- all interfaces
+
+fn own_cycle(faces: &[Face], courses: &[Course], id: usize, face: &Face) -> Option<Refusal>
+    requires within { id < length faces.now }
+    requires courses { courses.now ≡ all_courses (graph_of_faces faces.now) }
+    ensures { result ≡ least (own_cycle_at faces.now id face.now) }
+{
+    cycle_where(is_circular(courses, id), face.place)
+}
+
+/// The first interface by place that is its own base.
+pub(crate) fn least_own_cycle(alloc: Global, faces: &[Face]) -> Result<Option<Refusal>, Memory>
+    ensures { IfOk result (λ r. r ≡ least (own_cycles faces.now)) }
+{
+    let graph = graph_of(alloc, faces)?;
+    let courses = courses(alloc, &graph)?;
+    let mut found = None;
+    for id in 0..faces.len() {
+        let here = own_cycle(faces, &courses, id, &faces[id]);
+        found = Refusal::first(found, here);
+    }
+    Ok(found)
+}
+
+// ---- the interfaces that are met from one
+
 fn cycle_at(
-    alloc: Global,
     faces: &[Face],
     from: usize,
-    above: &[bool],
+    met: &[bool],
+    courses: &[Course],
     id: usize,
-    at: Place,
-) -> Result<Option<Refusal>, Memory>
+    face: &Face,
+) -> Option<Refusal>
     requires within { id < length faces.now }
-    requires above { (g : ℕ) → g < length faces.now → marked_in above.now g ≡ is_above faces.now from g }
-    ensures { IfOk result (λ r. r ≡ least (cycle_at_in faces.now from id at)) }
+    requires met { met.now ≡ all_reached (graph_of_faces faces.now) (from ∷ []) }
+    requires courses { courses.now ≡ all_courses (graph_of_faces faces.now) }
+    ensures { result ≡ least (cycle_at_in faces.now from id face.now.place) }
 {
-    if from != id && !marked(above, id) {
-        return Ok(None);
-    }
-    let marks = marks_of(alloc, faces, id)?;
-    if marked(&marks, id) {
-        Ok(Some(cycle_of(at)))
+    let circular = is_circular(courses, id);
+    if is_marked(met, id) {
+        cycle_where(circular, face.place)
     } else {
-        Ok(None)
+        None
     }
 }
 
@@ -103,10 +123,12 @@ pub(crate) fn least_cycle(
     ensures { IfOk result (λ r. r ≡ least (breaks_cycle faces.now from.0)) }
 {
     let start = from.0 as usize;
-    let above = marks_of(alloc, faces, start)?;
+    let graph = graph_of(alloc, faces)?;
+    let met = reached(alloc, &graph, &[start])?;
+    let courses = courses(alloc, &graph)?;
     let mut found = None;
     for id in 0..faces.len() {
-        let here = cycle_at(alloc, faces, start, &above, id, faces[id].place)?;
+        let here = cycle_at(faces, start, &met, &courses, id, &faces[id]);
         found = Refusal::first(found, here);
     }
     Ok(found)

@@ -3,43 +3,14 @@
 ghost use Rattle.std.specs.Prelude.{◌≡◌, ◌<◌, ◌^◌, ℕ, length, true, IfOk};
 ghost use Rattle.eds_base.specs.Refusals.{least};
 ghost use Rattle.eds_generic.specs.Pairs.{ends_within, most};
-ghost use Rattle.eds_generic.specs.Every.{own_cycle_at, own_cycles, alone_at as alone_at_in, alone_breaks, interface_breaks};
+ghost use Rattle.eds_generic.specs.Every.{alone_at as alone_at_in, alone_breaks, interface_breaks};
 
-use crate::cycle::{cycle_of, marked, marks_of};
+use crate::cycle::least_own_cycle;
 use crate::face::Face;
 use crate::resolving::least_here;
 use crate::rules::Asked;
 use eds_base::{FaceId, Memory, Refusal, TypeId};
 use std::alloc::Global;
-
-fn own_cycle(
-    alloc: Global,
-    faces: &[Face],
-    id: usize,
-    face: &Face,
-) -> Result<Option<Refusal>, Memory>
-    requires { id < length faces.now }
-    ensures { IfOk result (λ r. r ≡ least (own_cycle_at faces.now id face.now)) }
-{
-    let marks = marks_of(alloc, faces, id)?;
-    if marked(&marks, id) {
-        Ok(Some(cycle_of(face.place)))
-    } else {
-        Ok(None)
-    }
-}
-
-/// The first interface by place that is its own base.
-fn least_own_cycle(alloc: Global, faces: &[Face]) -> Result<Option<Refusal>, Memory>
-    ensures { IfOk result (λ r. r ≡ least (own_cycles faces.now)) }
-{
-    let mut found = None;
-    for id in 0..faces.len() {
-        let here = own_cycle(alloc, faces, id, &faces[id])?;
-        found = Refusal::first(found, here);
-    }
-    Ok(found)
-}
 
 fn alone_at(
     alloc: Global,
@@ -91,9 +62,11 @@ pub fn judge_faces(
     faces: &[Face],
     types: &[Option<TypeId>],
 ) -> Result<Option<Refusal>, Memory>
-    requires { length faces.now < 2 ^ 32 }
     ensures { IfOk result (λ r. r ≡ least (interface_breaks faces.now types.now)) }
 {
+    if faces.len() > u32::MAX as usize {
+        return Err(Memory);
+    }
     match least_own_cycle(alloc, faces)? {
         Some(refusal) => Ok(Some(refusal)),
         None => least_alone(alloc, faces, types),

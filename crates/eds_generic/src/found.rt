@@ -1,6 +1,6 @@
 //! The interfaces under maps that were found, each once.
 
-ghost use Rattle.std.specs.Prelude.{◌≡◌, [], OnOk};
+ghost use Rattle.std.specs.Prelude.{◌≡◌, [], not, IfOk, OnOk};
 ghost use Rattle.eds_generic.specs.Pairs.{is_among, put as put_in};
 
 use crate::pair::Pair;
@@ -50,9 +50,10 @@ impl Found {
         self.pairs.contains(pair)
     }
 
-    /// Puts a pair last, unless it is there; its bases have so many places for types.
-    pub(crate) fn put(&mut self, pair: Pair, places: u64) -> Result<(), Memory>
-        ensures { OnOk result (self.new ≡ put_in self.old pair) }
+    /// Puts a pair last, unless it is there, and says whether it was not; its bases have so many places for types.
+    pub(crate) fn put(&mut self, pair: Pair, places: u64) -> Result<bool, Memory>
+        ensures put { OnOk result (self.new ≡ put_in self.old pair) }
+        ensures added { IfOk result (λ added. added ≡ not (is_among self.old pair)) }
     {
         if self.pairs.len() >= PAIRS {
             return Err(Memory);
@@ -61,8 +62,8 @@ impl Found {
             None => return Err(Memory),
             Some(left) => self.left = left,
         }
-        let _added = self.pairs.insert(pair)?;
-        Ok(())
+        let added = self.pairs.insert(pair)?;
+        Ok(added)
     }
 
     /// All of them.

@@ -14,8 +14,10 @@ mod pair;
 mod read;
 mod resolving;
 mod rules;
+mod sheet;
 
 pub use every::judge_faces;
 pub use face::{Base, Face, Faces, Generic, Mapped, OwnArgument, OwnMember, Source};
 pub use read::read_faces;
 pub use resolving::resolve_face;
+pub use sheet::{bases_of, check_faces, resolve};

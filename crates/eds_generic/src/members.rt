@@ -1,17 +1,18 @@
 //! The members of an interface under a map.
 
-ghost use Rattle.std.specs.Prelude.{◌≡◌, ◌++◌, [], map, option_map, true, IfOk, OnOk};
+ghost use Rattle.std.specs.Prelude.{◌≡◌, ◌≤◌, ◌<◌, ◌++◌, [], map, length, option_map, true, IfOk, OnOk};
 ghost use Rattle.std.specs.List.{flat_map, list_any};
 ghost use Rattle.eds_plan.specs.declared.instance.Member.{Member as member};
 ghost use Rattle.eds_generic.specs.Pairs.{ends_within, most};
-ghost use Rattle.eds_generic.specs.Members.{id_or_first as id_or_first_of, type_in as type_in_bounds, argument_of as argument_in, member_of as member_in, members_of, members as members_in, each_once as each_once_in, bound_named as bound_by_name, further_named, under as under_map, name_of as name_in, is_name_of, repeated};
+ghost use Rattle.eds_generic.specs.Members.{id_or_first as id_or_first_of, type_in as type_in_bounds, argument_of as argument_in, member_of as member_in, members_of, members as members_in, each_once as each_once_in, declared_count, bound_named as bound_by_name, further_named, under as under_map, name_of as name_in, is_name_of, repeated};
+ghost use Rattle.eds_generic.specs.Stops.{OnNamed};
 ghost use Rattle.eds_generic.specs.NameRules.{first};
 
 use crate::face::{Face, Generic, OwnArgument, OwnMember, Source, generics, is_generic, own};
 use crate::found::Found;
-use crate::gather::gather;
+use crate::gather::{Gathered, TooMany, gather};
 use crate::pair::{Bound, Further, Pair, meant};
-use eds_base::{FaceId, Items, Memory, Text, TypeId};
+use eds_base::{FaceId, Fail, Items, Memory, Text, TypeId};
 use eds_plan::{Argument, Member};
 use std::alloc::Global;
 
@@ -88,17 +89,18 @@ fn push_members(
     Ok(())
 }
 
-fn each_once(alloc: Global, faces: &[Face], pair: Pair) -> Result<Found, Memory>
+fn each_once(alloc: Global, faces: &[Face], pair: Pair) -> Result<Found, Fail<TooMany>>
     requires { ends_within (most faces.now) faces.now pair.face.0 ≡ true }
-    ensures { IfOk result (λ ps. ps ≡ each_once_in faces.now pair) }
+    ensures found { IfOk result (λ ps. ps ≡ each_once_in faces.now pair) }
+    ensures few { OnOk result (declared_count faces.now (each_once_in faces.now pair) ≤ 1024) }
+    ensures many { OnNamed result (1024 < declared_count faces.now (each_once_in faces.now pair)) }
 {
-    let mut found = Found::new(alloc);
-    let depth = faces.len().checked_add(2);
-    match depth {
-        None => Err(Memory),
+    let mut gathered = Gathered::new(alloc);
+    match faces.len().checked_add(2) {
+        None => Err(Fail::Memory),
         Some(depth) => {
-            gather(alloc, &mut found, faces, depth, pair)?;
-            Ok(found)
+            gather(alloc, &mut gathered, faces, depth, pair)?;
+            Ok(gathered.found)
         }
     }
 }
@@ -113,14 +115,21 @@ fn members_over(alloc: Global, faces: &[Face], pairs: &[Pair]) -> Result<Vec<Mem
     Ok(members)
 }
 
-/// The members of an interface under a map: those of its bases in order, and then its own.
+/// The members of an interface under a map: those of its bases in order, and then its own. They are not gathered where there are
+/// more than 1,024.
 #[tactic(auto, unfolding(crate::specs::Members::members))]
-pub(crate) fn members(alloc: Global, faces: &[Face], pair: Pair) -> Result<Vec<Member>, Memory>
+pub(crate) fn members(
+    alloc: Global,
+    faces: &[Face],
+    pair: Pair,
+) -> Result<Vec<Member>, Fail<TooMany>>
     requires { ends_within (most faces.now) faces.now pair.face.0 ≡ true }
-    ensures { IfOk result (λ ms. ms.items ≡ members_in faces.now pair) }
+    ensures members { IfOk result (λ ms. ms.items ≡ members_in faces.now pair) }
+    ensures few { OnOk result (length (members_in faces.now pair) ≤ 1024) }
+    ensures many { OnNamed result (1024 < length (members_in faces.now pair)) }
 {
     let pairs = each_once(alloc, faces, pair)?;
-    members_over(alloc, faces, pairs.as_slice())
+    Ok(members_over(alloc, faces, pairs.as_slice())?)
 }
 
 fn bound_named(given: &[(Text, TypeId)], name: &str) -> Bound

@@ -1,12 +1,13 @@
 //! An interface resolved.
 
-ghost use Rattle.std.specs.Prelude.{◌≡◌, ◌++◌, true, map, option_map, IfOk};
+ghost use Rattle.std.specs.Prelude.{◌≡◌, ◌≤◌, length, codes, true, IfOk};
 ghost use Rattle.eds_base.specs.Answering.{Answers};
 ghost use Rattle.eds_base.specs.Refusals.{least};
+ghost use Rattle.eds_base.specs.declared.rule.Rule.TheVariants.{Limit};
 ghost use Rattle.eds_generic.specs.Pairs.{ends_within, most};
 ghost use Rattle.eds_generic.specs.Members.{members as members_in, under as under_map};
-ghost use Rattle.eds_generic.specs.NameRules.{duplicates_of, limit_of};
-ghost use Rattle.eds_generic.specs.Resolved.{breaks_given, pair_breaks, unless, instance_of, resolved};
+ghost use Rattle.eds_generic.specs.NameRules.{duplicates_of, keeping as keeping_word};
+ghost use Rattle.eds_generic.specs.Resolved.{breaks_given, pair_breaks, members_or_limit, unless, instance_of, resolved};
 
 use crate::cycle::least_cycle;
 use crate::face::Face;
@@ -18,15 +19,23 @@ use eds_base::{FaceId, Fail, Items, Memory, Place, Refusal, Rule, Text, TypeId};
 use eds_plan::{Instance, Member, TypeMap};
 use std::alloc::Global;
 
-/// More than 1,024 members.
-fn least_limit(alloc: Global, at: Place, members: &[Member]) -> Result<Option<Refusal>, Memory>
-    ensures { IfOk result (λ r. r ≡ least (limit_of at members.now)) }
+fn limit_at(alloc: Global, at: Place) -> Result<Refusal, Memory>
+    ensures { IfOk result (λ r. r ≡ keeping_word Limit at (codes "members")) }
 {
-    if members.len() > 1024 {
-        let word = Text::of(alloc, "members")?;
-        Ok(Some(keeping(Rule::Limit, at, word)))
-    } else {
-        Ok(None)
+    let word = Text::of(alloc, "members")?;
+    Ok(keeping(Rule::Limit, at, word))
+}
+
+/// The members of what is asked, or the refusal that there are more than 1,024.
+fn few_members(alloc: Global, asked: &Asked) -> Result<Vec<Member>, Fail<Refusal>>
+    requires { ends_within (most asked.now.faces.now) asked.now.faces.now asked.now.face.0 ≡ true }
+    ensures { Answers (λ ms. ms.items) result (members_or_limit asked.now.faces.now asked.now.at (under_map asked.now.faces.now asked.now.face asked.now.given.now)) }
+{
+    let pair = under(alloc, asked.faces, asked.face, asked.given)?;
+    match members(alloc, asked.faces, pair) {
+        Ok(members) => Ok(members),
+        Err(Fail::Named(_)) => Err(Fail::Named(limit_at(alloc, asked.at)?)),
+        Err(Fail::Memory) => Err(Fail::Memory),
     }
 }
 
@@ -38,18 +47,17 @@ fn least_duplicate(alloc: Global, at: Place, members: &[Member]) -> Result<Optio
     Ok(keeping_where(Rule::DuplicateMember, at, word))
 }
 
-/// The first break of the rules on generic names and on members.
+/// The first break of the rules on generic names and on the names of members, of which there are at most 1,024.
 fn least_break(alloc: Global, asked: &Asked, members: &[Member]) -> Result<Option<Refusal>, Memory>
-    requires { ends_within (most asked.now.faces.now) asked.now.faces.now asked.now.face.0 ≡ true }
+    requires ends { ends_within (most asked.now.faces.now) asked.now.faces.now asked.now.face.0 ≡ true }
+    requires few { length members.now ≤ 1024 }
     ensures { IfOk result (λ r. r ≡ least (breaks_given asked.now.faces.now asked.now.types.now asked.now.at (under_map asked.now.faces.now asked.now.face asked.now.given.now) members.now)) }
 {
-    let limit = least_limit(alloc, asked.at, members)?;
     let duplicate = least_duplicate(alloc, asked.at, members)?;
     let unmapped = least_unmapped(alloc, asked)?;
     let unknown = least_unknown(alloc, asked)?;
     let generic = least_generic_base(alloc, asked)?;
-    let found = Refusal::first(limit, duplicate);
-    let found = Refusal::first(found, unmapped);
+    let found = Refusal::first(duplicate, unmapped);
     let found = Refusal::first(found, unknown);
     Ok(Refusal::first(found, generic))
 }
@@ -70,17 +78,18 @@ pub(crate) fn least_here(alloc: Global, asked: &Asked) -> Result<Option<Refusal>
     requires { ends_within (most asked.now.faces.now) asked.now.faces.now asked.now.face.0 ≡ true }
     ensures { IfOk result (λ r. r ≡ least (pair_breaks asked.now.faces.now asked.now.types.now asked.now.at (under_map asked.now.faces.now asked.now.face asked.now.given.now))) }
 {
-    let pair = under(alloc, asked.faces, asked.face, asked.given)?;
-    let members = members(alloc, asked.faces, pair)?;
-    least_break(alloc, asked, &members)
+    match few_members(alloc, asked) {
+        Ok(members) => least_break(alloc, asked, &members),
+        Err(Fail::Named(refusal)) => Ok(Some(refusal)),
+        Err(Fail::Memory) => Err(Memory),
+    }
 }
 
 fn resolve_acyclic(alloc: Global, asked: &Asked) -> Result<Instance, Fail<Refusal>>
     requires { ends_within (most asked.now.faces.now) asked.now.faces.now asked.now.face.0 ≡ true }
     ensures { Answers (λ i. i) result (unless (least (pair_breaks asked.now.faces.now asked.now.types.now asked.now.at (under_map asked.now.faces.now asked.now.face asked.now.given.now))) (instance_of asked.now.faces.now asked.now.face asked.now.given.now)) }
 {
-    let pair = under(alloc, asked.faces, asked.face, asked.given)?;
-    let members = members(alloc, asked.faces, pair)?;
+    let members = few_members(alloc, asked)?;
     match least_break(alloc, asked, &members)? {
         Some(refusal) => Err(Fail::Named(refusal)),
         None => {

@@ -7,3 +7,4 @@ pub mod Searching
 pub mod Stacking
 pub mod Marking
 pub mod Depth
+pub mod OtherWay

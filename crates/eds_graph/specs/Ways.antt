@@ -1,5 +1,5 @@
 -- Numbers that lead to numbers: a graph has, at each number, the numbers that it leads to in one step.
-use Rattle.std.specs.Prelude.{ℕ, zero, suc, List, [], ◌∷◌, map, length, Bool, true, false, ◌||◌, ◌&&◌, ◌==◌, nat_lt, if◌then◌else◌, Option, Some, None, slice_get, unwrap_or}
+use Rattle.std.specs.Prelude.{ℕ, zero, suc, List, [], ◌∷◌, map, filter, length, Bool, true, false, ◌||◌, ◌&&◌, ◌==◌, nat_lt, if◌then◌else◌, Option, Some, None, slice_get, unwrap_or}
 use Rattle.std.specs.List.{list_any, range_with_len}
 use Rattle.eds_graph.specs.declared.course.Course.{Course}
 use Rattle.eds_graph.specs.declared.course.Course.TheVariants.{OnCircle, ToCircle, Ends}
@@ -36,6 +36,20 @@ reaches_circle g a = list_any (is_circle_met g a) (range_with_len 0 (length g))
 -- b is one of some numbers, or one of them leads to it
 abbrev pub is_reached : List (List ℕ) → List ℕ → ℕ → Bool
 is_reached g from b = list_any (λ a. is_met g a b) from
+
+-- ---- the other way round
+
+-- a number is one of those that another leads to in one step
+abbrev pub is_child : List (List ℕ) → (b a : ℕ) → Bool
+is_child g b a = list_any (λ c. c == b) (children g a)
+
+-- the numbers that lead to b in one step, in rising order
+abbrev pub parents : List (List ℕ) → ℕ → List ℕ
+parents g b = filter (is_child g b) (range_with_len 0 (length g))
+
+-- at each number those that lead to it in one step
+abbrev pub reversed : List (List ℕ) → List (List ℕ)
+reversed g = map (parents g) (range_with_len 0 (length g))
 
 -- ---- how long ways are
 

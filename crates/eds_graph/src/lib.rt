@@ -2,6 +2,7 @@
 //! and what is reached.
 #![tactic(auto)]
 
+mod backwards;
 mod course;
 mod graph;
 pub mod law;
@@ -9,6 +10,7 @@ mod marks;
 mod search;
 mod stack;
 
+pub use backwards::reversed;
 pub use course::Course;
 pub use graph::Graph;
 pub use marks::reached;

@@ -1,6 +1,6 @@
 -- Families of types, and how they hold one another by the types of parts and items.
-use Rattle.std.specs.Prelude.{ℕ, zero, suc, ◌+◌, List, [], ◌∷◌, ◌++◌, map, length, Bool, ◌&&◌, ◌==◌, if◌then◌else◌, Option, Some, None, is_some, option_to_list, slice_get, unwrap_or}
-use Rattle.std.specs.List.{flat_map, range_with_len}
+use Rattle.std.specs.Prelude.{ℕ, zero, suc, ◌+◌, List, [], ◌∷◌, ◌++◌, map, filter, length, Bool, ◌&&◌, ◌==◌, if◌then◌else◌, Option, Some, None, is_some, option_to_list, slice_get, unwrap_or}
+use Rattle.std.specs.List.{flat_map, list_any, range_with_len}
 use Rattle.eds_types.specs.declared.row.TypeRow.{TypeRow}
 use Rattle.eds_types.specs.declared.row.Kind.{Kind}
 use Rattle.eds_types.specs.declared.row.Kind.TheVariants as kind
@@ -9,7 +9,7 @@ use Rattle.eds_types.specs.Fields.{type_by}
 use Rattle.eds_types.specs.Rows.{Table, base_of, container_by}
 use Rattle.eds_graph.specs.declared.course.Course.{Course}
 use Rattle.eds_graph.specs.declared.course.Course.TheVariants.{Ends}
-use Rattle.eds_graph.specs.Ways.{all_courses}
+use Rattle.eds_graph.specs.Ways.{is_met, all_courses}
 
 -- ---- families
 
@@ -79,6 +79,20 @@ course_at courses name = unwrap_or (slice_get courses name) (Ends 1)
 -- for each type where the ways go on which its family holds others
 abbrev pub nesting : Table → List ℕ → List Course
 nesting t names = map (course_at (all_courses (holding t names))) names
+
+-- ---- families whose bases have no end
+
+-- those of the types' families whose last base has a base, so that their bases go in a circle
+abbrev pub endless : Table → List ℕ → List ℕ
+endless t names = filter (λ name. is_some (base_of t name)) names
+
+-- a family is one of these, or holds one over any number of steps
+abbrev pub meets_endless : Table → List ℕ → ℕ → Bool
+meets_endless t names name = list_any (is_met (holding t names) name) (endless t names)
+
+-- for each type whether its family does
+abbrev pub endless_met : Table → List ℕ → List Bool
+endless_met t names = map (meets_endless t names) names
 
 -- ---- the containers of a family
 

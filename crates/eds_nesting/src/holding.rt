@@ -76,7 +76,7 @@ fn held(
 }
 
 /// The graph of all families, by the types that name them.
-fn holding(alloc: Global, rows: &[TypeRow], families: &[usize]) -> Result<Graph, Memory>
+pub(crate) fn holding(alloc: Global, rows: &[TypeRow], families: &[usize]) -> Result<Graph, Memory>
     ensures { IfOk result (λ g. g ≡ holding_of rows.now families.now) }
 {
     let mut graph = Graph::new(alloc);

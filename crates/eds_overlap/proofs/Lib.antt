@@ -22,3 +22,5 @@ pub mod UnderivedTables
 pub mod Parting
 pub mod Meeting
 pub mod UsedTypes
+pub mod Gathering
+pub mod CommonNumbers

@@ -1,6 +1,6 @@
 -- Which pairs of containers overlap, by their sets.
 use Rattle.std.proofs.Common.{◌≡◌, ℕ, zero, suc, ◌+◌, ◌<◌, ◌≤◌, ℤ, Bool, true, false, cond, List, [], ◌∷◌, ◌++◌, length, map, get_or, take, Option, Some, None, refl, sym, ap, subst, ◌∙◌, arith, inl, inr}
-use Rattle.std.specs.Prelude.{slice_get, ◌⊎◌, IsTrue, IfSome, IfNone}
+use Rattle.std.specs.Prelude.{slice_get, ◌⊎◌, IfSome, IfNone}
 use Rattle.std.proofs.lemmas.Bool.{cases_lt, both_ways}
 use Rattle.std.proofs.lemmas.Option.{slice_get_past}
 use Rattle.std.specs.List.{AllByRecursion}
@@ -12,32 +12,32 @@ use Rattle.eds_bits.specs.Lists.{Has, HasOne}
 use Rattle.eds_types.specs.declared.row.Constraint.{Constraint}
 use Rattle.eds_types.specs.declared.sets.PathSet.{PathSet}
 use Rattle.eds_types.specs.Rows.{Table, id_of, chain, is_concrete, concrete_in, container_in}
-use Rattle.eds_types.specs.Fields.{StartsInEntries, IsAtOrUnder, constraints_along}
+use Rattle.eds_types.specs.Fields.{StartsInEntries, constraints_along}
 use Rattle.eds_types.specs.Domains.{InDomain}
 use Rattle.eds_types.specs.Rules.{KeepsRules}
 use Rattle.eds_types.specs.Overlap.{IsSolution, IsConstrained, Overlapping}
 use Rattle.eds_types.proofs.AllOf.{All-weaker, All-both, All-front, All-back, All-at}
 use Rattle.eds_types.proofs.ChainLaws.{same_chain}
 use Rattle.eds_types.proofs.RuleFacts.{table_of}
-use Rattle.eds_overlap.specs.Pairs.{Steps, IsSolved, AreSets, AllSets, Agrees, ArePartedAt, IsReadThrough, IsFirstWith, IsFirstPair, IsWithinOn, Meets, same_path, set_on, shared}
+use Rattle.eds_overlap.specs.Pairs.{Steps, IsSolved, AreSets, AllSets, Agrees, ArePartedAt, IsFirstWith, IsFirstPair, IsWithinOn, Meets, same_path, set_on, shared}
 use Rattle.eds_overlap.proofs.Solutions.{same_is, on_none, one_later}
 use Rattle.eds_overlap.proofs.Parting.{shared_is}
 
-has_of_one : {A : Type 0} (P : A → Type 0) (xs : List A) → HasOne P xs → (x : A) × Has xs x × P x
+pub has_of_one : {A : Type 0} (P : A → Type 0) (xs : List A) → HasOne P xs → (x : A) × Has xs x × P x
 has_of_one P [] h = absurd h
 has_of_one P (x ∷ xs) (inl h) = (x, record { before = []; after = xs; is = refl }, h)
 has_of_one P (x ∷ xs) (inr h) = let k = has_of_one P xs h in (k.0, record { before = x ∷ (k.1).before; after = (k.1).after; is = ap (λ r. x ∷ r) (k.1).is }, k.2)
 
-one_either : {A : Type 0} (P : A → Type 0) (xs ys : List A) → HasOne P (xs ++ ys) → HasOne P xs ⊎ HasOne P ys
+pub one_either : {A : Type 0} (P : A → Type 0) (xs ys : List A) → HasOne P (xs ++ ys) → HasOne P xs ⊎ HasOne P ys
 one_either P [] ys h = inr h
 one_either P (x ∷ xs) ys (inl h) = inl (inl h)
 one_either P (x ∷ xs) ys (inr h) = elim (one_either P xs ys h) [ inl k ↦ inl (inr k) | inr k ↦ inr k ]
 
-one_before : {A : Type 0} (P : A → Type 0) (xs ys : List A) → HasOne P ys → HasOne P (xs ++ ys)
+pub one_before : {A : Type 0} (P : A → Type 0) (xs ys : List A) → HasOne P ys → HasOne P (xs ++ ys)
 one_before P [] ys h = h
 one_before P (x ∷ xs) ys h = inr (one_before P xs ys h)
 
-on_found : (sets : List PathSet) (path : Steps) (set : List Span) → set_on sets path ≡ Some set → (s : PathSet) × Has sets s × (s.path ≡ path) × (s.set ≡ set)
+pub on_found : (sets : List PathSet) (path : Steps) (set : List Span) → set_on sets path ≡ Some set → (s : PathSet) × Has sets s × (s.path ≡ path) × (s.set ≡ set)
 on_found [] path set e = absurd cc
 on_found (x ∷ sets) path set e = go (same_path x.path path) refl e (on_found sets path set)
   where
@@ -54,21 +54,21 @@ all_free [] path n f = tt
 all_free (c ∷ cs) path n f = (λ e. absurd (f (inl e)), all_free cs path n (λ h. f (inr h)))
 
 module _ (t : Table) where
-  within_other : (cs : List Constraint) (theirs : List PathSet) (path : Steps) (n : ℤ) → AreSets t cs theirs → (o : Option (List Span)) → set_on theirs path ≡ o → IsWithinOn o n → AllByRecursion (λ c. c.path ≡ path → IsWithin c.set n) cs
+  pub within_other : (cs : List Constraint) (theirs : List PathSet) (path : Steps) (n : ℤ) → AreSets t cs theirs → (o : Option (List Span)) → set_on theirs path ≡ o → IsWithinOn o n → AllByRecursion (λ c. c.path ≡ path → IsWithin c.set n) cs
   within_other cs theirs path n are None e w = all_free cs path n (λ h. on_none theirs path e (are.all path h))
   within_other cs theirs path n are (Some set) e w =
       let k = on_found theirs path set e in
       let solved = All-at (IsSolved t cs) theirs k.0 k.1 are.each in
       subst (λ p. AllByRecursion (λ c. c.path ≡ p → IsWithin c.set n) cs) k.2 (solved.solves n (subst (λ s. IsWithin s n) (sym k.3) w)).constraints
 
-  other_within : (cs : List Constraint) (theirs : List PathSet) (path : Steps) (n : ℤ) → AreSets t cs theirs → InDomain t path n → AllByRecursion (λ c. c.path ≡ path → IsWithin c.set n) cs → (o : Option (List Span)) → set_on theirs path ≡ o → IsWithinOn o n
+  pub other_within : (cs : List Constraint) (theirs : List PathSet) (path : Steps) (n : ℤ) → AreSets t cs theirs → InDomain t path n → AllByRecursion (λ c. c.path ≡ path → IsWithin c.set n) cs → (o : Option (List Span)) → set_on theirs path ≡ o → IsWithinOn o n
   other_within cs theirs path n are d a None e = tt
   other_within cs theirs path n are d a (Some set) e =
       let k = on_found theirs path set e in
       let solved = All-at (IsSolved t cs) theirs k.0 k.1 are.each in
       subst (λ s. IsWithin s n) k.3 (solved.all n (subst (λ p. IsSolution t cs p n) (sym k.2) (record { domain = d; constraints = a })))
 
-  swap : (cs ds : List Constraint) (path : Steps) (n : ℤ) → IsSolution t (cs ++ ds) path n → IsSolution t (ds ++ cs) path n
+  pub swap : (cs ds : List Constraint) (path : Steps) (n : ℤ) → IsSolution t (cs ++ ds) path n → IsSolution t (ds ++ cs) path n
   swap cs ds path n s = record {
     domain = s.domain;
     constraints = All-both (λ c. c.path ≡ path → IsWithin c.set n) ds cs (All-back (λ c. c.path ≡ path → IsWithin c.set n) cs ds s.constraints) (All-front (λ c. c.path ≡ path → IsWithin c.set n) cs ds s.constraints);
@@ -192,7 +192,7 @@ module _ (t : Table) (Used : ℕ → Type 0) where
   not_itself : (x k : ℕ) → Overlapping t Used x k k → ⊥
   not_itself x k o = o.differ (cancel (chain t x) o.one o.other (o.to_first).0 (o.to_second).0 (sym (o.to_first).1 ∙ (o.to_second).1))
 
-  there : (k : ℕ) → is_concrete t k ≡ true → k < length t
+  pub there : (k : ℕ) → is_concrete t k ≡ true → k < length t
   there k c = elim (cases_lt k (length t)) [ inl l ↦ l | inr past ↦ absurd (no_row (ap (λ o. concrete_in (container_in o)) (slice_get_past t k past))) ]
     where
       no_row : concrete_in (container_in (slice_get t k)) ≡ false → ⊥

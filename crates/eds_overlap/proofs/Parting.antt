@@ -1,5 +1,5 @@
 -- Where two chains part.
-use Rattle.std.proofs.Common.{◌≡◌, ℕ, zero, suc, ◌+◌, ◌-◌, ◌<◌, ◌≤◌, Bool, true, false, cond, List, [], ◌∷◌, ◌++◌, length, map, get_or, take, drop, refl, sym, ap, subst, ◌∙◌, append_assoc, arith, inl, inr}
+use Rattle.std.proofs.Common.{◌≡◌, ℕ, zero, suc, ◌+◌, ◌-◌, ◌<◌, ◌≤◌, Bool, true, false, cond, List, [], ◌∷◌, ◌++◌, length, map, get_or, take, refl, sym, ap, subst, ◌∙◌, append_assoc, arith}
 use Rattle.std.specs.Prelude.{◌==◌, ◌≢◌, ◌↔◌, ◌&&◌, nat_lt, IsTrue}
 use Rattle.std.proofs.lemmas.Bool.{eqb-true, eq-eqb, ne_eqb, both_ways}
 use Rattle.std.proofs.lemmas.List.{take_more, length-map, length-append, map-append}
@@ -9,9 +9,8 @@ use Rattle.eds_types.specs.Rows.{Table, id_of, chain, list_has, entries_of}
 use Rattle.eds_types.specs.Fields.{StartsInEntries}
 use Rattle.eds_types.specs.Reading.{starts_above}
 use Rattle.eds_types.specs.declared.row.Part.{Part}
-use Rattle.eds_types.proofs.Tables.{IsTable}
 use Rattle.eds_types.specs.Rules.{KeepsRules}
-use Rattle.eds_types.proofs.ChainLaws.{chain_end, under_is, same_chain}
+use Rattle.eds_types.proofs.ChainLaws.{chain_end, under_is}
 use Rattle.eds_types.proofs.ReadingTests.{has_from, has_in, starts_from, starts_in}
 use Rattle.eds_types.proofs.RuleFacts.{table_of}
 use Rattle.eds_overlap.specs.Pairs.{shared, ArePartedAt, numbers_of, has_used, Named, IsReadThrough}

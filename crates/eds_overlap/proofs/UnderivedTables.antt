@@ -6,7 +6,7 @@ use Rattle.eds_types.specs.declared.row.TypeRow.{TypeRow}
 use Rattle.eds_types.specs.declared.row.Kind.{Kind}
 use Rattle.eds_types.specs.declared.row.Kind.TheVariants as kind
 use Rattle.eds_types.specs.declared.row.Container.{Container}
-use Rattle.eds_types.specs.FlatTables.{IsFlat, IsFlatKind, IsFlatTable}
+use Rattle.eds_types.specs.FlatTables.{IsFlatKind, IsFlatTable}
 use Rattle.eds_types.specs.Overlap.{IsClear}
 use Rattle.eds_types.specs.Rows.{Table, base_of, container_of, container_in, container_by, concrete_in, is_concrete, chain, chain_before, chain_within}
 use Rattle.eds_types.specs.Rules.{IsContainer}

@@ -3,3 +3,5 @@ pub mod Example
 pub mod Pairs
 pub mod Underived
 pub mod Used
+pub mod PathTexts
+pub mod Common

@@ -6,20 +6,32 @@ ghost use Rattle.eds_base.specs.Spans.{IsWithin};
 ghost use Rattle.eds_types.specs.Rows.{list_has};
 ghost use Rattle.eds_types.specs.Reading.{starts_above};
 ghost use Rattle.eds_types.specs.Overlap.{Overlapping};
+ghost use Rattle.eds_overlap.specs.Common.{AreLeastCommon};
 ghost use Rattle.eds_overlap.specs.Pairs.{AllSets, Meets, Agrees, ArePartedAt, IsReadThrough, Named, IsWithinOn, IsFirstPair, IsFirstWith, set_on, shared, numbers_of, has_used};
 
+use crate::common::{Common, common_numbers};
 use crate::paths::find_set;
 use crate::sets::solution_sets;
 use eds_base::{Items, Memory, TypeId};
 use eds_types::{PathSet, Sets, TypeTable, Used};
 use std::alloc::Global;
 
-/// Two concrete containers that overlap, and the nearest base that both have.
-#[derive(Clone, Copy, Debug, PartialEq, Eq)]
+/// Two concrete containers that overlap, the nearest base that both have, and for each path that is judged the least number
+/// that both can have there, in the order of the paths' texts.
+#[derive(Debug, Drop)]
 pub struct Overlap {
     pub first: TypeId,
     pub second: TypeId,
     pub ancestor: TypeId,
+    pub common: Items<Common>,
+}
+
+// Two containers that overlap, and the nearest base that both have.
+#[derive(Clone, Copy)]
+struct Pair {
+    first: TypeId,
+    second: TypeId,
+    ancestor: TypeId,
 }
 
 /// The first two containers that overlap where these types are used: of all such pairs the one with the least second, and
@@ -30,10 +42,23 @@ pub fn find_overlap(
     used: &Used,
 ) -> Result<Option<Overlap>, Memory>
     ensures found { IfOk result (λ found. IfSome found (λ o. IsFirstPair table.now (Named used.now) o.ancestor.0 o.first.0 o.second.0)) }
+    ensures common { IfOk result (λ found. IfSome found (λ o. AreLeastCommon table.now o.ancestor.0 o.first.0 o.second.0 o.common)) }
     ensures none { IfOk result (λ found. IfNone found ((x k l : ℕ) → Overlapping table.now (Named used.now) x k l → ⊥)) }
 {
     let sets = all_sets(alloc, table)?;
-    Ok(first_pair(table, used.as_slice(), sets.as_slice()))
+    let sets = sets.as_slice();
+    let Some(pair) = first_pair(table, used.as_slice(), sets) else {
+        return Ok(None);
+    };
+    let ours = sets[pair.first.0 as usize].as_slice();
+    let theirs = sets[pair.second.0 as usize].as_slice();
+    let common = common_numbers(alloc, table, pair.ancestor, ours, theirs)?;
+    Ok(Some(Overlap {
+        first: pair.first,
+        second: pair.second,
+        ancestor: pair.ancestor,
+        common,
+    }))
 }
 
 // How many types two chains have in common at their front.
@@ -111,8 +136,8 @@ fn has_used_one(used: &[TypeId], ids: &[TypeId]) -> bool
     false
 }
 
-// Whether a path starts in an entry of a container or of one of its bases.
-fn starts_in(table: &TypeTable, id: TypeId, path: &[(TypeId, u16)]) -> bool
+/// Whether a path starts in an entry of a container or of one of its bases.
+pub(crate) fn starts_in(table: &TypeTable, id: TypeId, path: &[(TypeId, u16)]) -> bool
     ensures { result ≡ starts_above table.now id.0 path.now }
 {
     let [step, ..] = path else {
@@ -209,7 +234,7 @@ fn met_at(
 }
 
 // The first of the types before another one with which it overlaps.
-fn first_with(table: &TypeTable, used: &[TypeId], sets: &[Sets], second: TypeId) -> Option<Overlap>
+fn first_with(table: &TypeTable, used: &[TypeId], sets: &[Sets], second: TypeId) -> Option<Pair>
     requires sets { AllSets table.now sets.now }
     requires second { second.0 < length table.now }
     ensures some { IfSome result (λ p. (p.second ≡ second) × IsFirstWith table.now (Named used.now) p.ancestor.0 p.first.0 second.0) }
@@ -219,7 +244,7 @@ fn first_with(table: &TypeTable, used: &[TypeId], sets: &[Sets], second: TypeId)
         let first = TypeId(first);
         match overlap_of(table, used, sets, first, second) {
             Some(ancestor) => {
-                return Some(Overlap {
+                return Some(Pair {
                     first,
                     second,
                     ancestor,
@@ -232,7 +257,7 @@ fn first_with(table: &TypeTable, used: &[TypeId], sets: &[Sets], second: TypeId)
 }
 
 // The first pair of types that overlap.
-fn first_pair(table: &TypeTable, used: &[TypeId], sets: &[Sets]) -> Option<Overlap>
+fn first_pair(table: &TypeTable, used: &[TypeId], sets: &[Sets]) -> Option<Pair>
     requires { AllSets table.now sets.now }
     ensures some { IfSome result (λ p. IsFirstPair table.now (Named used.now) p.ancestor.0 p.first.0 p.second.0) }
     ensures none { IfNone result ((x k l : ℕ) → Overlapping table.now (Named used.now) x k l → ⊥) }

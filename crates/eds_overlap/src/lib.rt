@@ -1,10 +1,13 @@
 //! Containers whose values can't be told apart, and the laws that hold where there are none.
 #![tactic(auto)]
 
+mod common;
 mod find;
 pub mod law;
 mod paths;
 mod sets;
+mod texts;
 
+pub use common::Common;
 pub use find::{Overlap, find_overlap};
 pub use sets::solution_sets;

@@ -4,6 +4,13 @@ pub mod Scalars
 pub mod Seeking
 pub mod Counts
 pub mod Looking
+pub mod Ranks
+pub mod LengthEntries
+pub mod LengthNumbers
+pub mod OwnSizes
+pub mod Chains
+pub mod Listing
+pub mod Paths
 pub mod Containers
 pub mod Nested
 pub mod Wholes

@@ -1,5 +1,5 @@
 -- Sizes of arrays, lists and containers by their values.
-use Rattle.std.proofs.Common.{◌≡◌, ℕ, ◌+◌, ◌<◌, Bool, true, false, cond, List, [], ◌∷◌, ◌==◌, length, map, drop, take, get_or, Option, Some, Ok, Err, sym, ap, ◌∙◌}
+use Rattle.std.proofs.Common.{◌≡◌, ℕ, ◌+◌, ◌<◌, Bool, true, false, cond, List, [], ◌∷◌, ◌==◌, length, map, drop, get_or, Option, Some, Ok, Err, sym, ap, subst, ◌∙◌, arith}
 use Rattle.std.proofs.lemmas.Bool.{eq-eqb, eqb-true, false_from_ne_true}
 use Rattle.std.proofs.lemmas.List.{drop_more}
 use Rattle.eds_base.specs.declared.fault.Step.{Step}
@@ -10,15 +10,14 @@ use Rattle.eds_types.specs.declared.row.Part.{Part}
 use Rattle.eds_types.specs.Failing.{entry}
 use Rattle.std.specs.Prelude.{slice_get, IsTrue}
 use Rattle.eds_types.specs.declared.value.Value.{Value}
-use Rattle.eds_types.specs.Fields.{Field, has_value, paired, value_at}
+use Rattle.eds_types.specs.Fields.{Field, has_value, value_at}
 use Rattle.eds_types.specs.Packing.{pack_fault_at, pack_fault_here}
 use Rattle.eds_types.specs.PackedSizes.{Size, array_size, items_size, list_size, tells, packed_part_size, stations_size}
 use Rattle.eds_types.specs.Plain.{Plain, items, plain, plains_of}
-use Rattle.eds_types.specs.Rows.{Table, Placed, id_of, placed_from, sequence}
+use Rattle.eds_types.specs.Rows.{Table, Placed, id_of, placed_from}
 use Rattle.eds_pack.specs.Counting.{added, found}
 use Rattle.eds_pack.proofs.Counts.{Counted, entry_next, entry_stops}
-use Rattle.eds_pack.specs.Seeking.{values_in}
-use Rattle.eds_pack.proofs.Looking.{own_value}
+use Rattle.eds_pack.specs.Seeking.{AreNext, values_in}
 use Rattle.eds_pack.proofs.Plains.{list_of-plains_of}
 
 module _ (size : Plain → Size) (n : ℕ) (v : Plain) (vs : List Plain) (is : v ≡ items (plains_of vs)) where
@@ -46,30 +45,34 @@ module _ (t : Table) (size : ℕ → Plain → Size) (fs : List Field) (item : �
   pub list_wrong : (total : ℕ) (path : List Step) → tells told (length vs) ≡ false → path ≡ [] → ◌≡◌ {A = Counted} (Err (pack_fault_at reason.CountWrong path)) (added total (list_size t size fs item told (Some v)))
   list_wrong total path e root = ap (λ (p : List Step). Err (pack_fault_at reason.CountWrong p)) root ∙ sym (ap (added total) (list_by false e))
 
--- ---- the entries of a container
+-- ---- parts of a container, of which the first has a given place
 
-module _ (t : Table) (size : ℕ → Plain → Size) (fs : List Field) (k : ℕ) (es : List Part) (i : ℕ) (p : Part) (within : i < length es) (is : p ≡ get_or es i p) where
+module _ (t : Table) (size : ℕ → Plain → Size) (fs : List Field) (k y first : ℕ) (es : List Part) (i : ℕ) (p : Part) (within : i < length es) (is : p ≡ get_or es i p) where
   abbrev here_it : Placed
-  here_it = record { container = k; place = i; part = p }
+  here_it = record { container = y; place = first + i; part = p }
 
-  left : drop i es ≡ p ∷ drop (i + 1) es
-  left = drop_more es i p within ∙ ap (λ (q : Part). q ∷ drop (i + 1) es) (sym is)
+  left : placed_from y (first + i) (drop i es) ≡ here_it ∷ placed_from y (first + (i + 1)) (drop (i + 1) es)
+  left =
+      ap (placed_from y (first + i)) (drop_more es i p within ∙ ap (λ (q : Part). q ∷ drop (i + 1) es) (sym is))
+      ∙ ap (λ j. here_it ∷ placed_from y j (drop (i + 1) es)) (omega arith)
 
-  abbrev Rest : ℕ → List Part → Size
-  Rest j ps = stations_size t size fs k 0 (map entry (placed_from k j ps))
+  abbrev Rest : List Placed → Size
+  Rest ps = stations_size t size fs k 0 (map entry ps)
 
-  pub goes_here : (total new : ℕ) (whole : Size) → ◌≡◌ {A = Counted} (Ok new) (added total (packed_part_size t size fs here_it p)) → added total (Rest i (drop i es)) ≡ whole → added new (Rest (i + 1) (drop (i + 1) es)) ≡ whole
-  goes_here total new whole e inv = entry_next t size fs k here_it (placed_from k (i + 1) (drop (i + 1) es)) total new whole e (ap (λ ps. added total (Rest i ps)) (sym left) ∙ inv)
+  pub goes_here : (total new : ℕ) (whole : Size) → ◌≡◌ {A = Counted} (Ok new) (added total (packed_part_size t size fs here_it p)) → added total (Rest (placed_from y (first + i) (drop i es))) ≡ whole → added new (Rest (placed_from y (first + (i + 1)) (drop (i + 1) es))) ≡ whole
+  goes_here total new whole e inv = entry_next t size fs k here_it (placed_from y (first + (i + 1)) (drop (i + 1) es)) total new whole e (ap (λ ps. added total (Rest ps)) (sym left) ∙ inv)
 
-  pub stops_here : (total : ℕ) (r : PackReason) (path new : List Step) (whole : Size) → ◌≡◌ {A = Counted} (Err (pack_fault_at r path)) (added total (packed_part_size t size fs here_it p)) → added total (Rest i (drop i es)) ≡ whole → new ≡ step.Part (id_of k) i ∷ path → ◌≡◌ {A = Counted} (Err (pack_fault_at r new)) whole
+  pub stops_here : (total : ℕ) (r : PackReason) (path new : List Step) (whole : Size) → ◌≡◌ {A = Counted} (Err (pack_fault_at r path)) (added total (packed_part_size t size fs here_it p)) → added total (Rest (placed_from y (first + i) (drop i es))) ≡ whole → new ≡ step.Part (id_of y) (first + i) ∷ path → ◌≡◌ {A = Counted} (Err (pack_fault_at r new)) whole
   stops_here total r path new whole e inv put =
-      ap (λ (q : List Step). Err (pack_fault_at r q)) put ∙ entry_stops t size fs k here_it (placed_from k (i + 1) (drop (i + 1) es)) total r path whole e (ap (λ ps. added total (Rest i ps)) (sym left) ∙ inv)
+      ap (λ (q : List Step). Err (pack_fault_at r q)) put ∙ entry_stops t size fs k here_it (placed_from y (first + (i + 1)) (drop (i + 1) es)) total r path whole e (ap (λ ps. added total (Rest ps)) (sym left) ∙ inv)
 
--- the value of a part of a container that is the number of the values before it
-pub own_here : (t : Table) (k : ℕ) (es : List Part) (i : ℕ) (p : Part) → i < length es → p ≡ get_or es i p → (f : List Plain) (used : ℕ) (v : Option Plain) → sequence t k ≡ placed_from k 0 es → used ≡ values_in (take i es) → v ≡ slice_get f used → IsTrue (has_value p)
-    → value_at (paired (sequence t k) f) k i ≡ v
-own_here t k es i p within is f used v seq count found has =
-    ap (λ ps. value_at (paired ps f) k i) seq ∙ own_value k f es i p within (ap has_value (sym is) ∙ has) ∙ ap (slice_get f) (sym count) ∙ sym found
+  module _ (f : List Plain) (used : ℕ) (next : AreNext fs f used (placed_from y (first + i) (drop i es))) where
+    -- the value of the part is the next one
+    pub next_here : (v : Option Plain) → v ≡ slice_get f used → IsTrue (has_value p) → value_at fs y (first + i) ≡ v
+    next_here v found has = (subst (AreNext fs f used) left next).0 has ∙ sym found
+
+    pub next_later : (more : ℕ) → more ≡ used + values_in (p ∷ []) → AreNext fs f more (placed_from y (first + (i + 1)) (drop (i + 1) es))
+    next_later more count = subst (λ n. AreNext fs f n (placed_from y (first + (i + 1)) (drop (i + 1) es))) (sym count) (subst (AreNext fs f used) left next).1
 
 -- the items of a list from one on
 pub items_left : (xs : List Value) (i : ℕ) (v : Value) → i < length xs → v ≡ get_or xs i v → map plain (drop i xs) ≡ plain v ∷ map plain (drop (i + 1) xs)

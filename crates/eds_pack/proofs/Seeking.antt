@@ -43,7 +43,7 @@ along_last f front d = ap (flat_map f) (reverse-append front (d ∷ []))
 
 -- ---- a sequence
 
-by_number : (f : ℕ → List Placed) (xs : List ℕ) → flat_map (λ (id : TypeId). f id.0) (map id_of xs) ≡ flat_map f xs
+pub by_number : (f : ℕ → List Placed) (xs : List ℕ) → flat_map (λ (id : TypeId). f id.0) (map id_of xs) ≡ flat_map f xs
 by_number f [] = refl
 by_number f (x ∷ xs) = ap (λ b. f x ++ b) (by_number f xs)
 

@@ -1,5 +1,5 @@
 -- The canonical bits of a value, taken apart by the kind of its type.
-use Rattle.std.proofs.Common.{◌≡◌, ℕ, zero, suc, ◌+◌, ◌-◌, ◌<◌, ◌≤◌, List, [], ◌∷◌, drop, length, get_or, Option, Some, sym, ap, subst, ◌∙◌, arith}
+use Rattle.std.proofs.Common.{◌≡◌, ℕ, zero, suc, ◌+◌, ◌-◌, ◌<◌, ◌≤◌, List, [], ◌∷◌, drop, take, length, get_or, Option, Some, sym, ap, subst, ◌∙◌, arith}
 use Rattle.std.specs.Prelude.{slice_get, true}
 use Rattle.std.specs.List.{AllByRecursion}
 use Rattle.eds_bits.specs.Bits.{Bits}
@@ -20,6 +20,11 @@ pub all_at : {A : Type 0} (P : A → Type 0) (xs : List A) (i : ℕ) (d : A) →
 all_at P [] i d lt h = absurd (omega arith)
 all_at P (x ∷ xs) zero d lt h = h.0
 all_at P (x ∷ xs) (suc i) d lt h = all_at P xs i d (omega arith) h.1
+
+pub all_take : {A : Type 0} (P : A → Type 0) (n : ℕ) (xs : List A) → AllByRecursion P xs → AllByRecursion P (take n xs)
+all_take P zero xs h = tt
+all_take P (suc n) [] h = tt
+all_take P (suc n) (x ∷ xs) h = (h.0, all_take P n xs h.1)
 
 -- room for bits of one kind is room for those of another
 pub room_as : (P Q : Bits → Type 0) (at : ℕ) (room : List ℕ) → ((b : Bits) → P b → Q b) → HasRoom P at room → HasRoom Q at room

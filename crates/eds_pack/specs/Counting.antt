@@ -35,3 +35,8 @@ found (Err r) bits path = Err (pack_fault_at r path)
 abbrev pub given : Size → Result ℕ PackFail
 given (Ok n) = Ok n
 given (Err g) = Err (fail_at g)
+
+-- a size that a function found and counted, or this path to a fault
+abbrev pub tallied : Result ℕ PackReason → List Step → Size
+tallied (Ok n) path = Ok n
+tallied (Err r) path = Err (pack_fault_at r path)

@@ -1,5 +1,7 @@
 pub mod BuiltTables
+pub mod Choices
 pub mod Counting
+pub mod Lengths
 pub mod Nesting
 pub mod Packs
 pub mod Putting

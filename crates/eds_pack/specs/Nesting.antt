@@ -5,10 +5,14 @@ use Rattle.eds_types.specs.declared.row.Part.TheVariants as part
 use Rattle.eds_types.specs.Rows.{Table}
 use Rattle.eds_types.specs.Rules.{KeepsRules}
 
+-- fewer than n types are nested in each other under the type
+abbrev pub IsLow : Table → ℕ → ℕ → Type 0
+IsLow t n id = (rules : KeepsRules t) → rules.rank id < n
+
 -- the type is there, and at most n types are nested in each other from it on
 pub record Nests (t : Table) (n id : ℕ) : Type 0 where
   pub known : id < length t
-  pub rank : (rules : KeepsRules t) → rules.rank id < n
+  pub rank : IsLow t n id
 
 -- so is that of the part
 abbrev pub PartNests : Table → ℕ → Part → Type 0

@@ -1,11 +1,12 @@
 -- Looking for the values of the parts of containers.
-use Rattle.std.specs.Prelude.{ℕ, ◌+◌, List, [], ◌∷◌, Option, None, Result, Ok, Err, ◌&&◌, ◌==◌, if◌then◌else◌, slice_get}
+use Rattle.std.specs.Prelude.{◌≡◌, ℕ, ◌+◌, List, [], ◌∷◌, map, Option, None, Result, Ok, Err, ◌&&◌, ◌==◌, if◌then◌else◌, slice_get, IsTrue}
 use Rattle.std.specs.List.{flat_map}
 use Rattle.eds_base.specs.declared.ids.TypeId.{TypeId}
 use Rattle.eds_types.specs.declared.row.Part.{Part}
-use Rattle.eds_types.specs.Fields.{has_value}
-use Rattle.eds_types.specs.Plain.{Plain}
-use Rattle.eds_types.specs.Rows.{Table, Placed, placed_entries, placed_trailers}
+use Rattle.eds_types.specs.declared.value.Value.{Value}
+use Rattle.eds_types.specs.Fields.{Field, has_value, fields_in, paired, value_at}
+use Rattle.eds_types.specs.Plain.{Plain, plain}
+use Rattle.eds_types.specs.Rows.{Table, Placed, placed_entries, placed_trailers, sequence}
 
 -- looking for the part at place i of the container y: the number of values before it, or of all values
 abbrev pub seek : List Placed → ℕ → ℕ → ℕ → Result ℕ ℕ
@@ -26,3 +27,22 @@ trailers_along t ids = flat_map (λ (id : TypeId). placed_trailers t id.0) ids
 abbrev pub values_in : List Part → ℕ
 values_in [] = 0
 values_in (p ∷ ps) = (if has_value p then 1 else 0) + values_in ps
+
+abbrev pub numbers_of : List TypeId → List ℕ
+numbers_of ids = map (λ (id : TypeId). id.0) ids
+
+-- ---- fields
+
+-- the fields of the container k with these values
+abbrev pub fields_of : Table → ℕ → List Value → List Field
+fields_of t k vs = paired (sequence t k) (map plain vs)
+
+-- the value that a path leads to from a value
+abbrev pub along : Table → Option Plain → List (TypeId × ℕ) → Option Plain
+along t v [] = v
+along t v (p ∷ path) = along t (value_at (fields_in t v) (p.0).0 p.1) path
+
+-- the values of the parts are the next ones, behind so many
+abbrev pub AreNext : List Field → List Plain → ℕ → List Placed → Type 0
+AreNext fs f used [] = Unit {0}
+AreNext fs f used (p ∷ ps) = (IsTrue (has_value p.part) → value_at fs p.container p.place ≡ slice_get f used) × AreNext fs f (used + values_in (p.part ∷ [])) ps

@@ -7,10 +7,9 @@ ghost use Rattle.eds_bits.specs.Style.{canonical, is_zero};
 ghost use Rattle.eds_types.specs.Plain.{plain};
 ghost use Rattle.eds_pack.specs.Putting.{HasRoom, Writes, NumberSpells, LabelSpells, TruthSpells, TextSpells, BitsSpell};
 
-use crate::plain::number_of;
 use eds_bits::{BoolForm, IntForm, TextForm, encode_int, put};
 use eds_codec::{write_binary, write_bool, write_text};
-use eds_types::{Listing, Value};
+use eds_types::{Listing, Value, number_of_label};
 
 // Writes a number of a form.
 fn put_number(form: IntForm, number: i128, room: &mut [u8], at: u64) -> u64
@@ -47,7 +46,7 @@ pub(crate) fn write_label(
     ensures { Writes (LabelSpells form listing.now (plain value.now)) at room.old room.new result }
 {
     match value {
-        Value::Label(label) => match number_of(listing.as_slice(), label.as_str()) {
+        Value::Label(label) => match number_of_label(listing.as_slice(), label.as_str()) {
             Some(number) => put_number(form, number, room, at),
             None => unreachable!(),
         },

@@ -1,9 +1,13 @@
 //! Packing: the canonical bits of a value, or where and why it has none.
 #![tactic(auto)]
 
+mod choice;
+mod constraint;
 mod fail;
+mod fields;
 pub mod law;
 mod leaf;
+mod length;
 mod octets;
 mod plain;
 mod room;

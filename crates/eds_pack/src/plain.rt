@@ -3,7 +3,6 @@
 ghost use Rattle.std.specs.Prelude.{◌≡◌, ◌↔◌, IsTrue, option_map};
 ghost use Rattle.std.specs.Option.{option_copied};
 ghost use Rattle.eds_bits.specs.Scalars.{IsCoded};
-ghost use Rattle.eds_types.specs.Fields.{listed};
 ghost use Rattle.eds_types.specs.PackedSizes.{number_size as number_size_of, label_size as label_size_of, truth_size as truth_size_of, text_size as text_size_of, binary_size as binary_size_of, text_fits as text_fits_of, tells as tells_of};
 ghost use Rattle.eds_types.specs.Plain.{plain};
 ghost use Rattle.eds_types.specs.Rows.{list_has};
@@ -11,7 +10,7 @@ ghost use Rattle.eds_pack.specs.Counting.{at_once};
 
 use eds_base::{Spans, Text};
 use eds_bits::{BoolForm, IntForm, TextForm};
-use eds_types::{Listing, PackReason, Value, is_binary};
+use eds_types::{Listing, PackReason, Value, is_binary, number_of_label};
 
 /// How many bits a number has, or why it doesn't pack.
 pub(crate) fn number_size(form: IntForm, spans: &Spans, value: &Value) -> Result<u32, PackReason>
@@ -24,26 +23,12 @@ pub(crate) fn number_size(form: IntForm, spans: &Spans, value: &Value) -> Result
     }
 }
 
-/// The number of a label.
-pub(crate) fn number_of(listing: &[(Text, i128)], label: &str) -> Option<i128>
-    ensures { result ≡ listed listing.now label.now }
-{
-    let mut rest = listing;
-    while let [(name, number), after @ ..] = rest {
-        if name.as_str() == label {
-            return Some(*number);
-        }
-        rest = after;
-    }
-    None
-}
-
 /// How many bits a label has, or why it doesn't pack.
 pub(crate) fn label_size(form: IntForm, listing: &Listing, value: &Value) -> Result<u32, PackReason>
     ensures { at_once result ≡ label_size_of form listing.now (plain value.now) }
 {
     match value {
-        Value::Label(label) => match number_of(listing.as_slice(), label.as_str()) {
+        Value::Label(label) => match number_of_label(listing.as_slice(), label.as_str()) {
             Some(_) => Ok(form.bits),
             None => Err(PackReason::NoLabel),
         },

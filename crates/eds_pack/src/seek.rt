@@ -2,13 +2,11 @@
 
 ghost use Rattle.std.specs.Prelude.{◌≡◌, [], ◌∷◌, ◌&&◌, ◌==◌, is_some, ◌≤◌, ◌<◌, ◌+◌, ◌^◌, ◌*◌, length, map, reverse, IfErr, option_map, slice_get};
 ghost use Rattle.std.specs.Option.{option_copied};
-ghost use Rattle.eds_base.specs.declared.ids.TypeId.{TypeId as Id};
-ghost use Rattle.eds_types.specs.Fields.{paired, value_at};
-ghost use Rattle.eds_pack.specs.BuiltTables.{IsBuiltTable};
+ghost use Rattle.eds_types.specs.Fields.{fields_in, value_at};
 ghost use Rattle.eds_types.specs.Packing.{valued as valued_of};
 ghost use Rattle.eds_types.specs.Plain.{plain};
 ghost use Rattle.eds_types.specs.Rows.{chain, container_of, list_has, placed_from, sequence};
-ghost use Rattle.eds_pack.specs.Seeking.{seek, nth, entries_along, trailers_along, values_in};
+ghost use Rattle.eds_pack.specs.Seeking.{along, seek, nth, entries_along, fields_of, numbers_of, trailers_along, values_in};
 
 use eds_base::TypeId;
 use eds_types::{Part, TypeTable, Value};
@@ -119,9 +117,38 @@ pub(crate) fn value_of<'a>(
     values: &'a [Value],
     wanted: (TypeId, u16),
 ) -> Option<&'a Value>
-    ensures { option_map plain (option_copied result) ≡ value_at (paired (sequence table.now own.0) (map plain values.now)) wanted.0.0 wanted.1 }
+    ensures { option_map plain (option_copied result) ≡ value_at (fields_of table.now own.0 values.now) wanted.0.0 wanted.1 }
 {
     nth(values, place_of(table, own, wanted))
+}
+
+/// The value of a part, where a value is the fields of a container.
+fn field_of<'a>(
+    table: &TypeTable,
+    value: Option<&'a Value>,
+    wanted: (TypeId, u16),
+) -> Option<&'a Value>
+    ensures { option_map plain (option_copied result) ≡ value_at (fields_in table.now (option_map plain (option_copied value.entry))) wanted.0.0 wanted.1 }
+{
+    match value {
+        Some(Value::Fields(own, values)) => value_of(table, *own, values.as_slice(), wanted),
+        _ => None,
+    }
+}
+
+/// The value that a path leads to from a value.
+pub(crate) fn value_along<'a>(
+    table: &TypeTable,
+    value: Option<&'a Value>,
+    path: &[(TypeId, u16)],
+) -> Option<&'a Value>
+    ensures { option_map plain (option_copied result) ≡ along table.now (option_map plain (option_copied value.entry)) path.now }
+{
+    let mut at = value;
+    for wanted in path {
+        at = field_of(table, at, *wanted);
+    }
+    at
 }
 
 /// How many of the parts have a value.
@@ -149,20 +176,32 @@ pub(crate) fn behind(used: usize, part: &Part) -> usize
     if part.has_value() { used + 1 } else { used }
 }
 
+/// How many of the parts of a chain of containers have a value.
+fn valued_along(table: &TypeTable, chain: &[TypeId]) -> usize
+    requires few { length chain.now ≤ 16 }
+    ensures { result ≡ valued_of (entries_along table.now chain.now) + valued_of (trailers_along table.now chain.now) }
+{
+    let mut count = 0;
+    let mut rest = chain;
+    while let [id, after @ ..] = rest {
+        count += valued(table.entries_of(*id)) + valued(table.trailers_of(*id));
+        rest = after;
+    }
+    count
+}
+
 /// Whether a type is a container with so many values.
 pub(crate) fn has_fields(table: &TypeTable, own: TypeId, count: usize) -> bool
-    requires { IsBuiltTable table.now }
     ensures { result ≡ (is_some (container_of table.now own.0) && count == valued_of (sequence table.now own.0)) }
 {
-    table.keeps_rules();
     match table.container_of(own) {
-        Some(_) => count == valued(table.entries_of(own)),
+        Some(_) => count == valued_along(table, table.chain_of(own).as_slice()),
         None => false,
     }
 }
 
-fn has(ids: &[TypeId], id: TypeId) -> bool
-    ensures { result ≡ list_has (map (λ (x : Id). x.0) ids.now) id.0 }
+pub(crate) fn has(ids: &[TypeId], id: TypeId) -> bool
+    ensures { result ≡ list_has (numbers_of ids.now) id.0 }
 {
     let mut rest = ids;
     while let [first, after @ ..] = rest {

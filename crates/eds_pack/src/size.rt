@@ -1,17 +1,23 @@
 //! The first pass: how many bits a value has, or why it doesn't pack.
 
-ghost use Rattle.std.specs.Prelude.{◌≡◌, ◌+◌, ◌*◌, ◌^◌, ◌<◌, ◌≤◌, [], Some, length, map, option_map, slice_get, IsTrue, IsSome, true, ℕ, List, OnOk};
-ghost use Rattle.std.specs.List.{AllByRecursion};
+ghost use Rattle.std.specs.Prelude.{◌≡◌, ◌+◌, ◌*◌, ◌^◌, ◌<◌, ◌≤◌, [], Some, length, map, option_map, reverse, slice_get, IsTrue, IfOk, OnOk};
+ghost use Rattle.std.specs.List.{AllByRecursion, flat_map};
 ghost use Rattle.std.specs.Option.{option_copied};
-ghost use Rattle.eds_pack.specs.BuiltTables.{IsBuiltPart, IsBuiltTable};
-ghost use Rattle.eds_types.specs.Failing.{entry};
-ghost use Rattle.eds_types.specs.Fields.{has_value as has_value_of, paired, value_at};
-ghost use Rattle.eds_types.specs.PackedSizes.{Size, own_size, packed_size_within, packed_kind_size, array_size, items_size, container_size, fields_size, packed_part_size, list_size, stations_size};
-ghost use Rattle.eds_types.specs.Plain.{Plain, plain};
-ghost use Rattle.eds_types.specs.Rows.{Placed, chain, container_of, list_has, placed_entries, sequence, entries_of};
-ghost use Rattle.eds_pack.specs.Counting.{added, found};
-ghost use Rattle.eds_pack.specs.Nesting.{Nests, PartNests};
+ghost use Rattle.eds_base.specs.declared.ids.TypeId.{TypeId as Id};
+ghost use Rattle.eds_types.specs.Failing.{entry, own_stations};
+ghost use Rattle.eds_types.specs.Fields.{has_value as has_value_of, value_at};
+ghost use Rattle.eds_types.specs.Packing.{valued};
+ghost use Rattle.eds_types.specs.PackedSizes.{own_size as own_size_of, packed_size_within, packed_kind_size, array_size, items_size, container_size, fields_size, packed_part_size, list_size, row_bits, stations_size};
+ghost use Rattle.eds_types.specs.Plain.{plain};
+ghost use Rattle.eds_types.specs.Rows.{Placed, placed_from};
+ghost use Rattle.eds_pack.specs.Counting.{added, counted, found, tallied};
+ghost use Rattle.eds_pack.specs.Nesting.{IsLow, Nests, PartNests};
+ghost use Rattle.eds_pack.specs.Seeking.{AreNext, entries_along, fields_of, numbers_of, trailers_along, values_in};
 
+use crate::choice::check_most_derived;
+use crate::constraint::check_constraints;
+use crate::fields::Fields;
+use crate::length::check_length;
 use crate::plain::{binary_size, label_size, number_size, tells, text_size, truth_size};
 use crate::seek::{behind, has_fields, is_under, value_in, value_of};
 use crate::tally::Tally;
@@ -30,7 +36,6 @@ pub(crate) fn add_value(
 ) -> Result<(), PackReason>
     requires nests { Nests table.now depth id.0 }
     requires few { depth ≤ 32 }
-    requires built { IsBuiltTable table.now }
     requires root { path.old ≡ [] }
     ensures adds { found result total.new path.new ≡ added total.old (packed_size_within depth table.now id.0 (plain value.now)) }
     ensures near { length path.new ≤ 2 * depth }
@@ -54,7 +59,6 @@ fn add_row(
     requires row { slice_get table.now id.0 ≡ Some row.now }
     requires nests { Nests table.now (depth + 1) id.0 }
     requires few { depth < 32 }
-    requires built { IsBuiltTable table.now }
     requires root { path.old ≡ [] }
     ensures adds { found result total.new path.new ≡ added total.old (packed_kind_size table.now (packed_size_within depth table.now) id.0 row.now.kind (plain value.now)) }
     ensures near { length path.new ≤ 2 * depth + 2 }
@@ -85,7 +89,6 @@ fn add_array(
 ) -> Result<(), PackReason>
     requires nests { Nests table.now depth item.0 }
     requires few { depth < 32 }
-    requires built { IsBuiltTable table.now }
     requires root { path.old ≡ [] }
     ensures adds { found result total.new path.new ≡ added total.old (array_size (packed_size_within depth table.now item.0) count (plain value.now)) }
     ensures near { length path.new ≤ 2 * depth + 1 }
@@ -113,7 +116,6 @@ fn add_items(
 ) -> Result<(), PackReason>
     requires nests { Nests table.now depth item.0 }
     requires few { depth < 32 }
-    requires built { IsBuiltTable table.now }
     requires root { path.old ≡ [] }
     ensures adds { found result total.new path.new ≡ added total.old (items_size (packed_size_within depth table.now item.0) 0 0 (map plain items.now)) }
     ensures near { length path.new ≤ 2 * depth + 1 }
@@ -142,7 +144,6 @@ fn add_list(
 ) -> Result<(), PackReason>
     requires nests { Nests table.now depth item.0 }
     requires few { depth < 32 }
-    requires built { IsBuiltTable table.now }
     requires root { path.old ≡ [] }
     ensures adds { found result total.new path.new ≡ added total.old (list_size table.now (packed_size_within depth table.now) [] item.0 (option_map plain (option_copied told.entry)) (Some (plain value.now))) }
     ensures near { length path.new ≤ 2 * depth + 1 }
@@ -158,26 +159,37 @@ fn add_list(
     add_items(table, depth, item, items, total, path)
 }
 
-// Adds the bits of a part of the container `own`, whose own value is the one given.
+/// How many bits each pattern of an integer type has; another type has none.
+fn form_bits(table: &TypeTable, id: TypeId) -> u32
+    requires known { id.0 < length table.now }
+    ensures { result ≡ row_bits (slice_get table.now id.0) }
+{
+    match &table.row(id).kind {
+        Kind::Int(form, _) => form.bits,
+        Kind::Enum(form, _) => form.bits,
+        Kind::Bool(form) => form.bits,
+        _ => 0,
+    }
+}
+
+// Adds the bits of a part of a container, whose own value is the one given.
 #[cycle(size)]
 fn add_part(
-    table: &TypeTable,
-    depth: u32,
+    fields: &Fields<'_>,
     part: &Part,
-    fields: (TypeId, &[Value]),
     value: Option<&Value>,
     total: &mut Tally,
     path: &mut Path,
 ) -> Result<(), PackReason>
-    requires part { IsBuiltPart part.now }
-    requires nests { PartNests table.now depth part.now }
-    requires few { depth < 32 }
-    requires built { IsBuiltTable table.now }
+    requires nests { PartNests fields.now.table.now fields.now.depth part.now }
+    requires few { fields.now.depth < 32 }
     requires root { path.old ≡ [] }
-    ensures adds { (p : Placed) → (IsTrue (has_value_of part.now) → value_at (paired (sequence table.now fields.entry.0.0) (map plain fields.entry.1.now)) p.container p.place ≡ option_map plain (option_copied value.entry)) → found result total.new path.new ≡ added total.old (packed_part_size table.now (packed_size_within depth table.now) (paired (sequence table.now fields.entry.0.0) (map plain fields.entry.1.now)) p part.now) }
-    ensures near { length path.new ≤ 2 * depth + 1 }
+    ensures adds { (p : Placed) → (IsTrue (has_value_of part.now) → value_at (fields_of fields.now.table.now fields.now.own.0 fields.now.values.now) p.container p.place ≡ option_map plain (option_copied value.entry)) → found result total.new path.new ≡ added total.old (packed_part_size fields.now.table.now (packed_size_within fields.now.depth fields.now.table.now) (fields_of fields.now.table.now fields.now.own.0 fields.now.values.now) p part.now) }
+    ensures near { length path.new ≤ 2 * fields.now.depth + 1 }
     ensures calm { OnOk result (path.new ≡ []) }
 {
+    let table = fields.table;
+    let depth = fields.depth;
     match part {
         Part::Plain(_, id) => match value {
             Some(value) => add_value(table, depth, *id, value, total, path),
@@ -192,7 +204,7 @@ fn add_part(
             Ok(())
         }
         Part::List(_, id, owner, place) => {
-            let told = value_of(table, fields.0, fields.1, (*owner, *place));
+            let told = value_of(table, fields.own, fields.values, (*owner, *place));
             match value {
                 Some(value) => add_list(table, depth, *id, told, value, total, path),
                 None => {
@@ -201,91 +213,189 @@ fn add_part(
                 }
             }
         }
-        Part::Length(_, _, _, _) => unreachable!(),
-        Part::Check(_, _, _) => unreachable!(),
+        Part::Length(_, id, _, _) => {
+            total.add(form_bits(table, *id));
+            Ok(())
+        }
+        Part::Check(_, id, _) => {
+            total.add(form_bits(table, *id));
+            Ok(())
+        }
     }
 }
 
-// Adds the bits of the entries of a container.
+// Adds the bits of parts of a container, of which the first stands at a given place, and its value behind so many others.
+// Says how many values stand before the next part.
 #[cycle(size)]
-fn add_entries(
-    table: &TypeTable,
-    depth: u32,
-    own: TypeId,
-    values: &[Value],
+fn add_parts(
+    fields: &Fields<'_>,
+    first: (TypeId, u16),
+    parts: &[Part],
+    before: usize,
     total: &mut Tally,
     path: &mut Path,
-) -> Result<(), PackReason>
-    requires parts { AllByRecursion IsBuiltPart (entries_of table.now own.0) }
-    requires nests { AllByRecursion (PartNests table.now depth) (entries_of table.now own.0) }
-    requires sequence { sequence table.now own.0 ≡ placed_entries table.now own.0 }
-    requires few { depth < 32 }
-    requires built { IsBuiltTable table.now }
+) -> Result<usize, PackReason>
+    requires nests { AllByRecursion (PartNests fields.now.table.now fields.now.depth) parts.now }
+    requires places { first.1 + length parts.now < 2 ^ 16 }
+    requires next { AreNext (fields_of fields.now.table.now fields.now.own.0 fields.now.values.now) (map plain fields.now.values.now) before (placed_from first.0.0 first.1 parts.now) }
+    requires before { before < 2 ^ 31 }
+    requires few { fields.now.depth < 32 }
     requires root { path.old ≡ [] }
-    ensures adds { found result total.new path.new ≡ added total.old (stations_size table.now (packed_size_within depth table.now) (paired (sequence table.now own.0) (map plain values.now)) own.0 0 (map entry (placed_entries table.now own.0))) }
-    ensures near { length path.new ≤ 2 * depth + 2 }
+    ensures adds { found result total.new path.new ≡ added total.old (stations_size fields.now.table.now (packed_size_within fields.now.depth fields.now.table.now) (fields_of fields.now.table.now fields.now.own.0 fields.now.values.now) fields.now.own.0 0 (map entry (placed_from first.0.0 first.1 parts.now))) }
+    ensures used { IfOk result (λ n. n ≡ before + values_in parts.now) }
+    ensures near { length path.new ≤ 2 * fields.now.depth + 2 }
     ensures calm { OnOk result (path.new ≡ []) }
 {
-    let mut used = 0;
-    for (i, part) in table.entries_of(own).iter().enumerate() {
-        let value = value_in(values, used);
-        if let Err(reason) = add_part(table, depth, part, (own, values), value, total, path) {
-            path.put_first(Step::Part(own, i as u16));
+    let mut used = before;
+    for (i, part) in parts.iter().enumerate() {
+        let value = value_in(fields.values, used);
+        if let Err(reason) = add_part(fields, part, value, total, path) {
+            path.put_first(Step::Part(first.0, first.1 + i as u16));
             return Err(reason);
         }
         used = behind(used, part);
     }
     total.keeps_bound();
-    Ok(())
+    Ok(used)
 }
 
-// Adds the bits of the fields of the container `own`, where the type `id` is packed.
+// Adds the bits of the entries of a chain of containers, where each one's constraints hold. Says how many values stand
+// before the next part.
 #[cycle(size)]
-fn add_fields(
-    table: &TypeTable,
-    depth: u32,
-    id: TypeId,
-    fields: (TypeId, &[Value]),
+fn add_chain(
+    fields: &Fields<'_>,
+    chain: &[TypeId],
+    total: &mut Tally,
+    path: &mut Path,
+) -> Result<usize, PackReason>
+    requires low { AllByRecursion (λ (id : Id). IsLow fields.now.table.now (fields.now.depth + 1) id.0) chain.now }
+    requires short { length chain.now ≤ 16 }
+    requires next { AreNext (fields_of fields.now.table.now fields.now.own.0 fields.now.values.now) (map plain fields.now.values.now) 0 (entries_along fields.now.table.now chain.now) }
+    requires few { fields.now.depth < 32 }
+    requires root { path.old ≡ [] }
+    ensures adds { found result total.new path.new ≡ added total.old (stations_size fields.now.table.now (packed_size_within fields.now.depth fields.now.table.now) (fields_of fields.now.table.now fields.now.own.0 fields.now.values.now) fields.now.own.0 0 (flat_map (own_stations fields.now.table.now) (numbers_of chain.now))) }
+    ensures used { IfOk result (λ n. (n ≡ valued (entries_along fields.now.table.now chain.now)) × (n ≤ 32767 * length chain.now)) }
+    ensures near { length path.new ≤ 2 * fields.now.depth + 2 }
+    ensures calm { OnOk result (path.new ≡ []) }
+{
+    let table = fields.table;
+    table.keeps_rules();
+    let mut used = 0;
+    for id in chain {
+        if let Err(reason) = check_constraints(fields, table.constraints_of(*id), path) {
+            return Err(reason);
+        }
+        match add_parts(fields, (*id, 0), table.entries_of(*id), used, total, path) {
+            Ok(more) => used = more,
+            Err(reason) => return Err(reason),
+        }
+    }
+    total.keeps_bound();
+    Ok(used)
+}
+
+// Adds the bits of the trailers of a chain of containers, those of the last container first.
+#[cycle(size)]
+fn add_trailers(
+    fields: &Fields<'_>,
+    chain: &[TypeId],
+    before: usize,
     total: &mut Tally,
     path: &mut Path,
 ) -> Result<(), PackReason>
-    requires nests { Nests table.now (depth + 1) id.0 }
-    requires few { depth < 32 }
-    requires built { IsBuiltTable table.now }
+    requires low { AllByRecursion (λ (id : Id). IsLow fields.now.table.now (fields.now.depth + 1) id.0) chain.now }
+    requires short { length chain.now ≤ 16 }
+    requires next { AreNext (fields_of fields.now.table.now fields.now.own.0 fields.now.values.now) (map plain fields.now.values.now) before (trailers_along fields.now.table.now (reverse chain.now)) }
+    requires before { before < 2 ^ 30 }
+    requires few { fields.now.depth < 32 }
     requires root { path.old ≡ [] }
-    ensures adds { found result total.new path.new ≡ added total.old (fields_size table.now (packed_size_within depth table.now) id.0 fields.entry.0.0 (map plain fields.entry.1.now)) }
-    ensures near { length path.new ≤ 2 * depth + 2 }
+    ensures adds { found result total.new path.new ≡ added total.old (stations_size fields.now.table.now (packed_size_within fields.now.depth fields.now.table.now) (fields_of fields.now.table.now fields.now.own.0 fields.now.values.now) fields.now.own.0 0 (map entry (trailers_along fields.now.table.now (reverse chain.now)))) }
+    ensures near { length path.new ≤ 2 * fields.now.depth + 2 }
     ensures calm { OnOk result (path.new ≡ []) }
 {
+    let table = fields.table;
     table.keeps_rules();
-    let (own, values) = fields;
-    if !has_fields(table, own, values.len()) {
-        return Err(PackReason::WrongKind);
+    let mut used = before;
+    let mut rest = chain;
+    while let [front @ .., id] = rest {
+        let first = table.entries_of(*id).len() as u16;
+        match add_parts(
+            fields,
+            (*id, first),
+            table.trailers_of(*id),
+            used,
+            total,
+            path,
+        ) {
+            Ok(more) => used = more,
+            Err(reason) => return Err(reason),
+        }
+        rest = front;
     }
-    if !is_under(table, own, id) {
-        path.put_first(Step::Choice(own));
-        return Err(PackReason::NotDerived);
-    }
-    if !table.is_concrete(own) {
-        path.put_first(Step::Choice(own));
-        return Err(PackReason::Abstract);
-    }
-    entries_nest(table, depth, id, own);
-    add_entries(table, depth, own, values, total, path)
+    total.keeps_bound();
+    Ok(())
 }
 
-/// What is known of the entries of the container `own` where the type `id` is packed.
-pub(crate) fn entries_nest(table: &TypeTable, depth: u32, id: TypeId, own: TypeId)
-    requires nests { Nests table.now (depth + 1) id.0 }
-    requires built { IsBuiltTable table.now }
-    requires container { IsSome (container_of table.now own.0) }
-    requires under { list_has (chain table.now own.0) id.0 ≡ true }
-    ensures parts { AllByRecursion IsBuiltPart (entries_of table.now own.0) }
-    ensures nests { AllByRecursion (PartNests table.now depth) (entries_of table.now own.0) }
-    ensures sequence { sequence table.now own.0 ≡ placed_entries table.now own.0 }
-    ensures size { (size : ℕ → Plain → Size) (f : List Plain) → own_size table.now size own.0 f ≡ stations_size table.now size (paired (sequence table.now own.0) f) own.0 0 (map entry (placed_entries table.now own.0)) }
+/// The bits of the fields of a concrete container with as many values, or the first station that they don't pass.
+#[cycle(size)]
+pub(crate) fn own_size(fields: &Fields<'_>, path: &mut Path) -> Result<Tally, PackReason>
+    requires low { IsLow fields.now.table.now (fields.now.depth + 1) fields.now.own.0 }
+    requires few { fields.now.depth < 32 }
+    requires root { path.old ≡ [] }
+    ensures size { tallied result path.new ≡ counted (own_size_of fields.now.table.now (packed_size_within fields.now.depth fields.now.table.now) fields.now.own.0 (map plain fields.now.values.now)) }
+    ensures near { length path.new ≤ 2 * fields.now.depth + 2 }
+    ensures calm { OnOk result (path.new ≡ []) }
 {
+    fields.table.keeps_rules();
+    let chain = fields.table.chain_of(fields.own);
+    let mut size = Tally::new();
+    let used = match add_chain(fields, chain.as_slice(), &mut size, path) {
+        Ok(used) => used,
+        Err(reason) => return Err(reason),
+    };
+    if let Err(reason) = check_most_derived(fields, path) {
+        return Err(reason);
+    }
+    if let Err(reason) = add_trailers(fields, chain.as_slice(), used, &mut size, path) {
+        return Err(reason);
+    }
+    match check_length(fields, &size, path) {
+        Ok(()) => Ok(size),
+        Err(reason) => Err(reason),
+    }
+}
+
+// Adds the bits of the fields of a container where the type `id` is packed.
+#[cycle(size)]
+fn add_fields(
+    fields: &Fields<'_>,
+    id: TypeId,
+    total: &mut Tally,
+    path: &mut Path,
+) -> Result<(), PackReason>
+    requires low { IsLow fields.now.table.now (fields.now.depth + 1) id.0 }
+    requires few { fields.now.depth < 32 }
+    requires root { path.old ≡ [] }
+    ensures adds { found result total.new path.new ≡ added total.old (fields_size fields.now.table.now (packed_size_within fields.now.depth fields.now.table.now) id.0 fields.now.own.0 (map plain fields.now.values.now)) }
+    ensures near { length path.new ≤ 2 * fields.now.depth + 2 }
+    ensures calm { OnOk result (path.new ≡ []) }
+{
+    let table = fields.table;
     table.keeps_rules();
+    if !has_fields(table, fields.own, fields.values.len()) {
+        return Err(PackReason::WrongKind);
+    }
+    if !is_under(table, fields.own, id) {
+        path.put_first(Step::Choice(fields.own));
+        return Err(PackReason::NotDerived);
+    }
+    if !table.is_concrete(fields.own) {
+        path.put_first(Step::Choice(fields.own));
+        return Err(PackReason::Abstract);
+    }
+    let size = own_size(fields, path)?;
+    total.join(&size);
+    Ok(())
 }
 
 // Adds the bits of a value of a container type.
@@ -300,7 +410,6 @@ fn add_container(
 ) -> Result<(), PackReason>
     requires nests { Nests table.now (depth + 1) id.0 }
     requires few { depth < 32 }
-    requires built { IsBuiltTable table.now }
     requires root { path.old ≡ [] }
     ensures adds { found result total.new path.new ≡ added total.old (container_size table.now (packed_size_within depth table.now) id.0 (plain value.now)) }
     ensures near { length path.new ≤ 2 * depth + 2 }
@@ -308,7 +417,13 @@ fn add_container(
 {
     match value {
         Value::Fields(own, values) => {
-            add_fields(table, depth, id, (*own, values.as_slice()), total, path)
+            let fields = Fields {
+                table,
+                depth,
+                own: *own,
+                values: values.as_slice(),
+            };
+            add_fields(&fields, id, total, path)
         }
         _ => Err(PackReason::WrongKind),
     }

@@ -1,6 +1,6 @@
 //! Counting bits.
 
-ghost use Rattle.std.specs.Prelude.{◌≡◌, ◌≤◌, ◌+◌, ◌^◌, ℤ, pos, [], Ok, Err, IfSome, IfNone};
+ghost use Rattle.std.specs.Prelude.{◌≡◌, ◌≤◌, ◌+◌, ◌^◌, [], Ok, Err, IfSome, IfNone};
 ghost use Rattle.eds_bits.specs.Bits.{octets_for};
 ghost use Rattle.eds_types.specs.Packing.{most_bits};
 ghost use Rattle.eds_types.specs.PackedSizes.{not_long};
@@ -69,10 +69,11 @@ impl Tally {
     }
 
     /// How many octets hold the bits.
-    pub(crate) fn octets(&self) -> i128
-        ensures { result ≡ pos (octets_for self.now) }
+    pub(crate) fn octets(&self) -> u128
+        ensures value { result ≡ octets_for self.now }
+        ensures bound { self.now ≤ 2 ^ 100 }
     {
-        self.bits.div_ceil(8) as i128
+        self.bits.div_ceil(8)
     }
 
     /// The bits, where a packed value may have as many.

@@ -1,7 +1,6 @@
 //! The size of a whole value, or its first fault.
 
 ghost use Rattle.std.specs.Prelude.{◌≡◌, ◌↔◌, ◌<◌, ℕ, Ok, Err, length, IfOk, IfErr, IsTrue};
-ghost use Rattle.eds_pack.specs.BuiltTables.{IsBuiltTable};
 ghost use Rattle.eds_types.specs.Packing.{PackFault, PackFailsAt};
 ghost use Rattle.eds_types.specs.PackedSizes.{packed_size};
 ghost use Rattle.eds_types.specs.Plain.{plain};
@@ -20,7 +19,6 @@ pub(crate) const MOST_NESTED: u32 = 32;
 
 fn size_of(table: &TypeTable, id: TypeId, value: &Value) -> Result<u32, PackFail>
     requires known { id.0 < length table.now }
-    requires built { IsBuiltTable table.now }
     ensures { result ≡ given (packed_size table.now id.0 (plain value.now)) }
 {
     table.keeps_rules();
@@ -38,7 +36,6 @@ fn size_of(table: &TypeTable, id: TypeId, value: &Value) -> Result<u32, PackFail
 /// How many bits the canonical spelling of a value of a type has, or the first fault: `need` is 0. It takes no memory.
 pub fn packed_bits(table: &TypeTable, id: TypeId, value: &Value) -> Result<u32, PackFail>
     requires known { id.0 < length table.now }
-    requires built { IsBuiltTable table.now }
     ensures size { IfOk result (λ n. Packs table.now id.0 (plain value.now) n) }
     ensures packs { (n : ℕ) → Packs table.now id.0 (plain value.now) n → result ≡ Ok n }
     ensures fault { IfErr result (λ f. PackFailsAt table.now id.0 (plain value.now) (where_of f)) }
@@ -52,7 +49,6 @@ pub fn packed_bits(table: &TypeTable, id: TypeId, value: &Value) -> Result<u32, 
 /// Whether a value packs as a type.
 pub fn conforms(table: &TypeTable, id: TypeId, value: &Value) -> bool
     requires known { id.0 < length table.now }
-    requires built { IsBuiltTable table.now }
     ensures { IsTrue result ↔ ((n : ℕ) × Packs table.now id.0 (plain value.now) n) }
 {
     packed_bits(table, id, value).is_ok()

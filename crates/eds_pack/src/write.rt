@@ -1,12 +1,12 @@
 //! The second pass: writing a value that packs.
 
-ghost use Rattle.std.specs.Prelude.{◌≡◌, ◌+◌, ◌<◌, ◌≤◌, map, option_map, slice_get};
+ghost use Rattle.std.specs.Prelude.{◌≡◌, ◌+◌, ◌<◌, ◌≤◌, map, option_map, slice_get, IsSome, true};
 ghost use Rattle.std.specs.List.{AllByRecursion};
 ghost use Rattle.std.specs.Option.{option_copied};
 ghost use Rattle.eds_bits.specs.Style.{canonical};
 ghost use Rattle.eds_pack.specs.BuiltTables.{IsBuiltPart, IsBuiltTable};
 ghost use Rattle.eds_types.specs.Plain.{plain};
-ghost use Rattle.eds_types.specs.Rows.{entries_of, placed_entries, sequence};
+ghost use Rattle.eds_types.specs.Rows.{chain, container_of, entries_of, list_has, placed_entries, sequence};
 ghost use Rattle.eds_types.specs.Spelling.{ItemsSpell, KindSpells, SpellsWithin};
 ghost use Rattle.eds_pack.specs.Nesting.{Nests, PartNests};
 ghost use Rattle.eds_pack.specs.Putting.{HasRoom, Writes, EntriesSpell, FieldsSpell, ListSpells, PartSpells};
@@ -15,7 +15,6 @@ use crate::leaf::{
     write_bits, write_label, write_number, write_padding, write_string, write_truth,
 };
 use crate::seek::{behind, value_in};
-use crate::size::entries_nest;
 use eds_base::TypeId;
 use eds_types::{Kind, Part, TypeRow, TypeTable, Value};
 
@@ -171,6 +170,19 @@ fn write_entries(
         used = behind(used, part);
     }
     end
+}
+
+// What is known of the entries of the container `own` where the type `id` is packed.
+fn entries_nest(table: &TypeTable, depth: u32, id: TypeId, own: TypeId)
+    requires nests { Nests table.now (depth + 1) id.0 }
+    requires built { IsBuiltTable table.now }
+    requires container { IsSome (container_of table.now own.0) }
+    requires under { list_has (chain table.now own.0) id.0 ≡ true }
+    ensures parts { AllByRecursion IsBuiltPart (entries_of table.now own.0) }
+    ensures nests { AllByRecursion (PartNests table.now depth) (entries_of table.now own.0) }
+    ensures sequence { sequence table.now own.0 ≡ placed_entries table.now own.0 }
+{
+    table.keeps_rules();
 }
 
 // Writes the fields of a container where the type `id` is packed.

@@ -76,7 +76,7 @@ module _ (bases : List (Option TypeId)) (places : List Place) (known : (id : ℕ
       go None e = ap (list_any (λ base. base == id)) (no_bases bases (length bases) id (known id e))
       go (Some at) e = unmet (is_in_cycle bases id) _ (over-none (cycle_at bases) 0 places no_cycles id at e id (omega arith))
 
-  pub meets_none : (id : ℕ) → meets_cycle bases id ≡ false
+  meets_none : (id : ℕ) → meets_cycle bases id ≡ false
   meets_none id = none-any (is_in_cycle bases) in_no_cycle (id ∷ all_bases bases id)
 
   pub few_bases : (id : ℕ) → level bases id < 16

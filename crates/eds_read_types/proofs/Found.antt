@@ -37,7 +37,7 @@ module _ (trees : List (List Node)) (names : Names) (named : names_in trees ≡ 
   unfolding look_up
   found_there at text id e = first_there (candidates (around_at names at) text) id e
 
-  number_there : (at : Place) (reference : Option (List ℕ)) (id : TypeId) → id_found names at reference ≡ Some id → id.0 < length (types names)
+  pub number_there : (at : Place) (reference : Option (List ℕ)) (id : TypeId) → id_found names at reference ≡ Some id → id.0 < length (types names)
   number_there at None id e = absurd cc
   number_there at (Some text) id e = go (look_up names at text) refl e
     where

@@ -10,14 +10,19 @@ mod BaseSteps
 mod NumberSteps
 mod RowSteps
 pub mod SheetPlaces
+pub mod LevelFacts
+pub mod NestingFacts
 mod Unbroken
+pub mod EmptyFacts
 pub mod TableFacts
 pub mod PlainRules
 pub mod PartFacts
 pub mod PartNames
+pub mod FaceFacts
 pub mod SortFacts
 pub mod Found
 pub mod ChainFacts
+pub mod Circles
 pub mod NumberFacts
 pub mod TableRules
 pub mod Limits

@@ -15,15 +15,6 @@ use Rattle.eds_read_types.specs.TableRows.{table_rows}
 use Rattle.eds_read_types.specs.Parts.{PartJudgement, parts_in, judged_part, judged_part_by, judged_parts, at_parts}
 use Rattle.eds_read_types.proofs.ChainFacts.{over-none}
 
--- a container nests one level deeper than any other type
-abbrev pub rank_by : Option Container → ℕ
-rank_by None = 0
-rank_by (Some c) = 1
-
-pub few_ranks : (o : Option Container) → rank_by o < 32
-few_ranks None = lit< tt
-few_ranks (Some c) = lit< tt
-
 -- an item that a list is made of
 pub mapped_there : {A B : Type 0} (f : A → B) (xs : List A) (k : ℕ) (y : B) → slice_get (map f xs) k ≡ Some y → (x : A) × (slice_get xs k ≡ Some x) × (f x ≡ y)
 mapped_there {A} {B} f xs k y e = go (slice_get xs k) refl (sym (slice_get-map f xs k) ∙ e)

@@ -22,6 +22,10 @@ use Rattle.eds_read_types.proofs.RowRules.{AreLeveled, AreRows, keeps_all}
 abbrev pub IsSolid : Table → ℕ → Type 0
 IsSolid t id = IsHollow t id → ⊥
 
+-- the type, if it is a container, has entries of its own
+abbrev pub HasEntries : Table → ℕ → Type 0
+HasEntries t id = (c : Container) → container_of t id ≡ Some c → c.entries ≡ [] → ⊥
+
 -- what an entry of a container keeps; length entries and error controls are none yet
 abbrev pub PartFits : Table → Placed → Part → Type 0
 PartFits t p (part.Plain name id) = IsSolid t id.0 × (open_of t id.0 ≡ None)
@@ -139,7 +143,7 @@ none_of f (z ∷ ys) y e h = elim (has-cases z y ys h) [
     last_nil (x ∷ xs) zs e = absurd cc
 
 -- a container that has entries of its own is not hollow, whatever derives from it
-pub solid_own : (t : Table) → ((id base : ℕ) → base_of t id ≡ Some base → is_some (container_of t base) ≡ is_some (container_of t id)) → (id : ℕ) → ((c : Container) → container_of t id ≡ Some c → c.entries ≡ [] → ⊥) → IsSolid t id
+pub solid_own : (t : Table) → ((id base : ℕ) → base_of t id ≡ Some base → is_some (container_of t base) ≡ is_some (container_of t id)) → (id : ℕ) → HasEntries t id → IsSolid t id
 solid_own t alike id some = go (container_of t id) refl
   where
     unplaced : (y i : ℕ) (ps : List Part) → placed_from y i ps ≡ [] → ps ≡ []

@@ -86,7 +86,7 @@ module _ (t : Table) (r : AreRows t) where
     level = r.levels.level;
     chains = r.levels.low;
     base_level = r.levels.base_level;
-    family = λ id is. (let some = derived_few t r.levels.level r.levels.base_level there alike id is in let most = r.family_few id is in omega arith);
+    family = λ id is. (let some = derived_few t (record { level = r.levels.level; base_level = r.levels.base_level; base_within = there }) alike id is in let most = r.family_few id is in omega arith);
     rank = r.rank;
     nesting = r.nesting;
     base_rank = r.base_rank;

@@ -15,10 +15,12 @@ use Rattle.eds_read_types.specs.declared.table.SheetTypes.{SheetTypes}
 use Rattle.eds_read_types.specs.Places.{types}
 use Rattle.eds_read_types.specs.References.{word_place}
 use Rattle.eds_read_types.specs.ReadTypes.{word_type}
-use Rattle.eds_read_types.specs.EmptyType.{is_hollow, may_be_empty, empty_where, empty_by}
+use Rattle.eds_read_types.specs.EmptyType.{may_be_empty, empty_by}
 use Rattle.eds_read_types.specs.TableRows.{rows_from, table_rows}
 use Rattle.eds_read_types.specs.TableBreaks.{table_breaks}
 use Rattle.eds_read_types.specs.TableRead.{typed_of, unless, table_read}
+use Rattle.eds_read_types.proofs.ChainFacts.{unmet}
+use Rattle.eds_read_types.proofs.EmptyFacts.{has_bits, closed}
 use Rattle.eds_read_types.proofs.NoBreaks.{least-none, known}
 use Rattle.eds_read_types.proofs.Unbroken.{unbroken}
 
@@ -43,10 +45,6 @@ table_word trees names word t h =
     subst (λ (u : SheetTypes). IfSome u.asked_type (λ id. id.0 < length u.table) × (is_some u.asked_type ≡ is_some word)) parts.1
     (subst (λ n. IfSome (word_type trees names word) (λ id. id.0 < n)) (sym (length-rows_from trees names 0 (types names))) both.0, both.1)
 
-none_of : {A : Type 0} (o : Option A) → is_some o ≡ false → o ≡ None
-none_of None e = refl
-none_of (Some x) e = absurd cc
-
 -- the type that the TYPE word names is no open binary
 pub table_closed : (trees : List (List Node)) (names : Names) (word : Option (List ℕ)) (t : SheetTypes) → table_read trees names word ≡ Ok t → IfSome t.asked_type (λ id. open_of t.table id.0 ≡ None)
 table_closed trees names word t h =
@@ -54,14 +52,9 @@ table_closed trees names word t h =
     let all = unbroken trees names word (least-none (table_breaks trees names word) parts.0) in
     subst (λ (u : SheetTypes). IfSome u.asked_type (λ id. open_of u.table id.0 ≡ None)) parts.1 (go (word_type trees names word) all.empties)
   where
-    second : (a b : Bool) (at : Place) → empty_where (a || b) at ≡ [] → b ≡ false
-    second true b at e = absurd cc
-    second false true at e = absurd cc
-    second false false at e = refl
-
     go : (o : Option TypeId) → empty_by (table_rows trees names) (word_place trees) o ≡ [] → IfSome o (λ id. open_of (table_rows trees names) id.0 ≡ None)
     go None e = tt
-    go (Some id) e = none_of (open_of (table_rows trees names) id.0) (second (is_hollow (table_rows trees names) id.0) (is_some (open_of (table_rows trees names) id.0)) (word_place trees) e)
+    go (Some id) e = closed (open_of (table_rows trees names) id.0) (has_bits (table_rows trees names) id.0 (unmet (may_be_empty (table_rows trees names) id.0) _ e)).1
 
 -- what holds of the table that is read holds of the one that is answered
 pub table_answered : (P : SheetTypes → Type 0) (r : Result SheetTypes (Fail Refusal)) (read : Result SheetTypes Refusal) → ((t : SheetTypes) → read ≡ Ok t → P t) → Answers (λ t. t) r read → IfOk r P

@@ -1,6 +1,6 @@
 -- The rows of a sheet that breaks no rule on types keep the rules of a table.
 use Rattle.std.proofs.Common.{◌≡◌, ℕ, zero, suc, ◌+◌, ◌<◌, ◌≤◌, Bool, true, false, ◌||◌, ◌&&◌, List, [], ◌∷◌, ◌++◌, length, map, slice_get, option_map, Option, Some, None, refl, sym, ap, subst, ◌∙◌, ◌⊎◌, inl, inr, arith, lit≤}
-use Rattle.std.specs.Prelude.{nat_le, nat_lt, is_some, IsSome, unwrap_or, codes, not, Ok, if◌then◌else◌}
+use Rattle.std.specs.Prelude.{nat_le, nat_lt, is_some, IsSome, unwrap_or, option_to_list, codes, not, Ok, if◌then◌else◌}
 use Rattle.std.specs.List.{AllByRecursion, filter_map, flat_map, list_all}
 use Rattle.std.proofs.Common.{leb-true}
 use Rattle.std.proofs.lemmas.Bool.{and_parts, ltb-false}
@@ -32,6 +32,9 @@ use Rattle.eds_types.specs.declared.row.Part.{Part}
 use Rattle.eds_types.specs.declared.row.Part.TheVariants as part
 use Rattle.eds_types.specs.Rows.{base_in, base_of, own_parts, placed_from, chain_before, chain_within, container_by, container_in, container_of, number_of_id, entries_in}
 use Rattle.eds_types.specs.Sizes.{open_of}
+use Rattle.eds_types.specs.Fields.{type_by}
+use Rattle.eds_graph.specs.Ways.{is_circular, is_endless}
+use Rattle.eds_graph.specs.Search.{Has as is_one_of}
 use Rattle.eds_types.specs.Rules.{AreDistinct, IsContainer, IsListing, KindKeeps, HasKind, DerivesFrom, IsNested, name_of, KeepsRules}
 use Rattle.eds_read_types.specs.declared.numbers.FormAndDomain.{FormAndDomain}
 use Rattle.eds_read_types.specs.Places.{element, is_element, is_container, is_sub_range, is_number, attribute, own_name, elements, types, type_places}
@@ -44,7 +47,7 @@ use Rattle.eds_read_types.specs.Parts.{parts_in}
 use Rattle.eds_read_types.specs.PartRows.{entry_id, padding_bits, unread, plain_part, part_by, part_at}
 use Rattle.eds_read_types.specs.Forms.{int_form_of, bool_form_of}
 use Rattle.eds_read_types.specs.Listings.{listing_of}
-use Rattle.eds_read_types.specs.Bases.{base_found, bases_of, base_at}
+use Rattle.eds_read_types.specs.Bases.{base_named, base_found, bases_of, base_at}
 use Rattle.eds_read_types.specs.Numbers.{form_or_wide, numbers_of}
 use Rattle.eds_read_types.specs.TableRows.{container_at, scalar_kind_by, scalar_kind_in, kind_of, table_row, rows_from, table_rows, has_few_entries, are_few}
 use Rattle.eds_read_types.specs.TableBreaks.{table_breaks}
@@ -56,7 +59,10 @@ use Rattle.eds_read_types.specs.ScalarKinds.{breaks_in, breaks_at}
 use Rattle.eds_read_types.specs.BadEncoding.{encoding_breaks}
 use Rattle.eds_read_types.specs.BadEnumeration.{enumeration_breaks}
 use Rattle.eds_read_types.specs.WrongKind.{kind_by, wrong_kind_by, wrong_kind_at}
-use Rattle.eds_read_types.specs.UnsupportedEntry.{unsupported_by, unsupported_entry_at}
+use Rattle.eds_read_types.specs.Nesting.{course_of, meets_base_cycle}
+use Rattle.eds_read_types.specs.TypeCycle.{type_cycle_at}
+use Rattle.eds_read_types.specs.LimitNesting.{is_too_deep, nesting_at}
+use Rattle.eds_read_types.specs.EmptyType.{may_be_empty, is_empty_entry, empty_part_at}
 use Rattle.eds_read_types.specs.LengthField.{untold_by, length_field_at}
 use Rattle.eds_read_types.specs.declared.reference_row.Wanted.TheVariants.{NumberType, ContainerType}
 use Rattle.eds_read_types.proofs.NoBreaks.{none_at, least-none, append-none, types-apart, no_repeats}
@@ -64,19 +70,21 @@ use Rattle.eds_read_types.proofs.Unbroken.{IsUnbroken, unbroken}
 use Rattle.eds_read_types.proofs.SheetPlaces.{at_one, each-none as nowhere, of_types}
 use Rattle.eds_read_types.proofs.Limits.{few_types, length-rows}
 use Rattle.eds_read_types.proofs.LawFacts.{name_apart, enumerated_unbroken}
-use Rattle.eds_read_types.proofs.PlainRules.{EntryKeeps, IsPlainKind, KeepsRow, ArePlainRows, solid_other, own_placed, keeps_by_rows}
+use Rattle.eds_read_types.proofs.PlainRules.{IsSolid, EntryKeeps, IsPlainKind, KeepsRow, ArePlainRows, solid_own, own_placed, keeps_by_rows}
 use Rattle.eds_read_types.proofs.PartOrder.{by_lists}
 use Rattle.eds_read_types.proofs.RowRules.{AreLeveled, alike_kinds}
 use Rattle.eds_read_types.proofs.SequenceFacts.{OwnDiffer, AreDisjoint, name_mark, parts_above, has-parts, disjoint-by}
 use Rattle.eds_read_types.proofs.FamilyFacts.{size_is}
-use Rattle.eds_nesting.specs.Families.{families, family, containers, family_sizes}
-use Rattle.eds_read_types.specs.LimitChain.{meets_cycle}
-use Rattle.eds_read_types.specs.LimitFamily.{family_at}
-use Rattle.eds_read_types.proofs.PartFacts.{rank_by, few_ranks, mapped_there, placed_all, part_none}
+use Rattle.eds_nesting.specs.Families.{families, family, containers, types_of, types_in}
+use Rattle.eds_read_types.specs.LimitFamily.{family_size, family_at}
+use Rattle.eds_read_types.proofs.LevelFacts.{HasLevels}
+use Rattle.eds_read_types.proofs.NestingFacts.{no_base_cycle, course-ends, rank as rank_in, few_ranks, nested, base_ranks, part_named}
+use Rattle.eds_read_types.proofs.EmptyFacts.{has_bits, solid}
+use Rattle.eds_read_types.proofs.PartFacts.{mapped_there, placed_all, no_item, part_none}
 use Rattle.eds_read_types.proofs.PartNames.{among_has, among_parts, element_names, row_names as parts_named, names_distinct, padding_keeps}
-use Rattle.eds_read_types.proofs.Found.{id_there}
+use Rattle.eds_read_types.proofs.Found.{id_there, number_there}
 use Rattle.eds_read_types.proofs.SortFacts.{sort_named, binary_keeps}
-use Rattle.eds_read_types.proofs.ChainFacts.{each-none, over-none, unmet, meets_none, level}
+use Rattle.eds_read_types.proofs.ChainFacts.{each-none, over-none, unmet, level}
 use Rattle.eds_read_types.proofs.NumberFacts.{HasNumbers, IsNoContainer, known_bases, base_there, base_is_sub, few_levels, less_levels, domains, derives_from}
 
 all_there : (p : TypeRow → Bool) (rows : List TypeRow) → list_all p rows ≡ true → (k : ℕ) (row : TypeRow) → slice_get rows k ≡ Some row → p row ≡ true
@@ -339,9 +347,54 @@ module _ (trees : List (List Node)) (names : Names) (word : Option (List ℕ)) (
   derives_number : (id : ℕ) (d : Declared) → slice_get (types names) id ≡ Some d → (base : ℕ) → number_of_id (base_found trees names d.place) ≡ Some base → HasKind (table_rows trees names) base (DerivesFrom (kind_of trees names id d.place))
   derives_number id d there base e = let some = number_some (base_found trees names d.place) base e in subst (λ n. HasKind (table_rows trees names) n (DerivesFrom (kind_of trees names id d.place))) some.2 (derives id d there some.0 some.1)
 
-  -- how deep types are nested: in a container there are types that nest no further
-  rank : ℕ → ℕ
-  rank id = rank_by (container_of (table_rows trees names) id)
+  -- ---- levels and ranks
+
+  base_row : (id base : ℕ) → base_of (table_rows trees names) id ≡ Some base → level (bases_of trees names) id ≡ suc (level (bases_of trees names) base)
+  base_row id base e =
+      let h = has_base id base e in
+      subst (λ n. level (bases_of trees names) id ≡ suc (level (bases_of trees names) n)) h.number
+      (less_levels trees names u.cycles u.chains u.encodings u.ranges u.subs on_numbers id h.found (base_there trees names id h.declared.place (place_there (types names) id h.declared h.there) ∙ h.by_name))
+
+  base_within : (id base : ℕ) → base_of (table_rows trees names) id ≡ Some base → base < length (table_rows trees names)
+  base_within id base e =
+      let h = has_base id base e in
+      let within = number_there trees names named h.declared.place (base_named trees h.declared.place) h.found h.by_name in
+      subst (λ n. n < length (table_rows trees names)) h.number (subst (λ n. (h.found).0 < n) (sym (length-rows trees names 0 (types names))) within)
+
+  levels : HasLevels (table_rows trees names)
+  levels = record { level = level (bases_of trees names); base_level = base_row; base_within = base_within }
+
+  leveled : AreLeveled (table_rows trees names)
+  leveled = record { level = level (bases_of trees names); low = few_levels trees names u.cycles u.chains u.encodings u.ranges u.subs on_numbers; base_level = base_row }
+
+  -- the element of a type that is there
+  place_of : (id : ℕ) → id < length (table_rows trees names) → (at : Place) × (slice_get (type_places names) id ≡ Some at)
+  place_of id lt = go (slice_get (types names) id) refl
+    where
+      go : (o : Option Declared) → slice_get (types names) id ≡ o → (at : Place) × (slice_get (type_places names) id ≡ Some at)
+      go None e = absurd (no_item (types names) id (subst (λ n. id < n) (length-rows trees names 0 (types names)) lt) e)
+      go (Some d) e = (d.place, place_there (types names) id d e)
+
+  -- no type reaches itself
+  apart : (id : ℕ) → id < length (table_rows trees names) → is_circular (course_of (table_rows trees names) id) ≡ false
+  apart id lt =
+      let at = place_of id lt in
+      let here = unmet (is_circular (course_of (table_rows trees names) id) && not (meets_base_cycle (table_rows trees names) id)) _ (over-none (type_cycle_at trees (table_rows trees names)) 0 (type_places names) u.type_cycles id at.0 at.1 id (omega arith)) in
+      alone (is_circular (course_of (table_rows trees names) id)) (meets_base_cycle (table_rows trees names) id) (no_base_cycle (table_rows trees names) levels id) here
+    where
+      alone : (a b : Bool) → b ≡ false → (a && not b) ≡ false → a ≡ false
+      alone true true e h = cc
+      alone true false e h = cc
+      alone false b e h = refl
+
+  -- none is nested too deep
+  few_nested : (id : ℕ) → id < length (table_rows trees names) → is_too_deep (course_of (table_rows trees names) id) ≡ false
+  few_nested id lt = let at = place_of id lt in unmet (is_too_deep (course_of (table_rows trees names) id)) _ (over-none (nesting_at trees (table_rows trees names)) 0 (type_places names) u.nestings id at.0 at.1 id (omega arith))
+
+  abbrev rank : ℕ → ℕ
+  rank = rank_in (table_rows trees names)
+
+  -- ---- entries
 
   -- the type of an entry is there
   entry_there : (q : Place) (id : ℕ) (d : Declared) → slice_get (types names) id ≡ Some d → (entry_id trees names q).0 < length (table_rows trees names)
@@ -356,23 +409,27 @@ module _ (trees : List (List Node)) (names : Names) (word : Option (List ℕ)) (
       → slice_get (parts_in (container_of (table_rows trees names) id)) k ≡ Some (part_at trees names q)
   part_there id d is k q e = ap (λ ps. slice_get ps k) (parts_from id d is) ∙ (slice_get-map (part_at trees names) (own_parts_at trees d.place) k ∙ ap (option_map (part_at trees names)) e)
 
-  -- an entry's type is no container, and no open binary
-  entry_scalar : (id : ℕ) (d : Declared) → slice_get (types names) id ≡ Some d → container_of (table_rows trees names) id ≡ Some (container_at trees names d.place) → (k : ℕ) (q : Place) → slice_get (own_parts_at trees d.place) k ≡ Some q → sort_at trees q ≡ Some sorts.Entry
-      → (container_of (table_rows trees names) (entry_id trees names q).0 ≡ None) × (open_of (table_rows trees names) (entry_id trees names q).0 ≡ None)
-  entry_scalar id d there is k q e s =
-      let place = place_there (types names) id d there in
-      let part = part_there id d is k q e ∙ ap (λ s. Some (part_by s trees names q)) s in (
-        no_container (container_of (table_rows trees names) (entry_id trees names q).0) q (part_none unsupported_entry_at trees names u.flat id d.place place k (plain_part trees names q) part q e),
-        no_open (open_of (table_rows trees names) (entry_id trees names q).0) q (part_none length_field_at trees names u.lengths id d.place place k (plain_part trees names q) part q e),
-      )
-    where
-      no_container : (o : Option Container) (at : Place) → unsupported_by at o ≡ [] → o ≡ None
-      no_container None at h = refl
-      no_container (Some c) at h = absurd cc
+  container_is : (id : ℕ) (d : Declared) → slice_get (types names) id ≡ Some d → is_container trees d.place ≡ true → container_of (table_rows trees names) id ≡ Some (container_at trees names d.place)
+  container_is id d there con = ap container_in (row_of id d there) ∙ rw con refl
 
+  -- the type of an entry has bits, and is no open binary
+  entry_solid : (id : ℕ) (d : Declared) → slice_get (types names) id ≡ Some d → is_container trees d.place ≡ true → (k : ℕ) (q : Place) → slice_get (own_parts_at trees d.place) k ≡ Some q → sort_at trees q ≡ Some sorts.Entry
+      → IsSolid (table_rows trees names) (entry_id trees names q).0 × (open_of (table_rows trees names) (entry_id trees names q).0 ≡ None)
+  entry_solid id d there con k q e s =
+      let place = place_there (types names) id d there in
+      let part = part_there id d (container_is id d there con) k q e ∙ ap (λ s. Some (part_by s trees names q)) s in
+      let open_none = no_open (open_of (table_rows trees names) (entry_id trees names q).0) q (part_none length_field_at trees names u.lengths id d.place place k (plain_part trees names q) part q e) in
+      let bits = full (open_of (table_rows trees names) (entry_id trees names q).0) (may_be_empty (table_rows trees names) (entry_id trees names q).0) open_none
+          (unmet (is_empty_entry (table_rows trees names) (entry_id trees names q).0) _ (part_none empty_part_at trees names u.empty_parts id d.place place k (plain_part trees names q) part q e)) in
+      (solid_own (table_rows trees names) base_alike (entry_id trees names q).0 (solid (table_rows trees names) (entry_id trees names q).0 (has_bits (table_rows trees names) (entry_id trees names q).0 bits).0), open_none)
+    where
       no_open : (o : Option ℕ) (at : Place) → untold_by at o ≡ [] → o ≡ None
       no_open None at h = refl
       no_open (Some n) at h = absurd cc
+
+      full : (o : Option ℕ) (empty : Bool) → o ≡ None → (not (is_some o) && empty) ≡ false → empty ≡ false
+      full None empty e h = h
+      full (Some n) empty e h = cc
 
   -- padding keeps its size, and has no type
   pad_keeps : (id k n : ℕ) → 1 ≤ n → n ≤ 524288 → EntryKeeps (table_rows trees names) rank (record { container = id; place = k; part = part.Pad n })
@@ -381,52 +438,58 @@ module _ (trees : List (List Node)) (names : Names) (word : Option (List ℕ)) (
   unread_keeps : (id k : ℕ) → EntryKeeps (table_rows trees names) rank (record { container = id; place = k; part = unread })
   unread_keeps id k = pad_keeps id k 8 (lit≤ tt) (lit≤ tt)
 
-  plain_keeps : (id : ℕ) (d : Declared) → slice_get (types names) id ≡ Some d → container_of (table_rows trees names) id ≡ Some (container_at trees names d.place) → (k : ℕ) (q : Place) → slice_get (own_parts_at trees d.place) k ≡ Some q → sort_at trees q ≡ Some sorts.Entry
+  -- what a part names, its container names
+  holds_part : (id : ℕ) (d : Declared) → is_container trees d.place ≡ true → (k : ℕ) (q : Place) → slice_get (own_parts_at trees d.place) k ≡ Some q → (x : ℕ) → type_by (Some (part_at trees names q)) ≡ Some x → is_one_of (types_in (table_row trees names id d).kind) x
+  holds_part id d con k q e x h =
+      let there = slice_get-map (part_at trees names) (own_parts_at trees d.place) k ∙ ap (option_map (part_at trees names)) e in
+      let all : types_of (map (part_at trees names) (own_parts_at trees d.place)) ≡ types_of (map (part_at trees names) (entries_at trees d.place)) ++ types_of (map (part_at trees names) (trailers_at trees d.place)) = ap types_of (map-append (part_at trees names) (entries_at trees d.place) (trailers_at trees d.place)) ∙ flat_map-append (λ (p : Part). option_to_list (type_by (Some p))) (map (part_at trees names) (entries_at trees d.place)) (map (part_at trees names) (trailers_at trees d.place)) in
+      rw con (subst (λ xs. is_one_of xs x) all (part_named (map (part_at trees names) (own_parts_at trees d.place)) k (part_at trees names q) there x h))
+
+  plain_keeps : (id : ℕ) (d : Declared) → slice_get (types names) id ≡ Some d → is_container trees d.place ≡ true → (k : ℕ) (q : Place) → slice_get (own_parts_at trees d.place) k ≡ Some q → sort_at trees q ≡ Some sorts.Entry
       → EntryKeeps (table_rows trees names) rank (record { container = id; place = k; part = plain_part trees names q })
-  unfolding rank
-  plain_keeps id d there is k q e s =
-      let scalar = entry_scalar id d there is k q e s in
+  plain_keeps id d there con k q e s =
       record {
-        fits = (solid_other (table_rows trees names) base_alike (entry_id trees names q).0 scalar.0, scalar.1);
-        nests = λ inner same_type. nests (entry_id trees names q).0 inner same_type (entry_there q id d there) scalar.0;
+        fits = entry_solid id d there con k q e s;
+        nests = λ inner same_type. nests inner same_type;
       }
     where
-      nests : (n inner : ℕ) → Some n ≡ Some inner → n < length (table_rows trees names) → container_of (table_rows trees names) n ≡ None → IsNested (table_rows trees names) (λ id. rank_by (container_of (table_rows trees names) id)) id inner
-      nests n inner same_type lt none =
-          let i : n ≡ inner = cc in
-          let low = ap rank_by none in
-          let high = ap rank_by is in
-          subst (IsNested (table_rows trees names) (λ id. rank_by (container_of (table_rows trees names) id)) id) i (lt, omega (arith, low, high))
+      here : part_at trees names q ≡ plain_part trees names q
+      here = ap (λ s. part_by s trees names q) s
 
-  part_keeps : (id : ℕ) (d : Declared) → slice_get (types names) id ≡ Some d → container_of (table_rows trees names) id ≡ Some (container_at trees names d.place) → (k : ℕ) (q : Place) → slice_get (own_parts_at trees d.place) k ≡ Some q
+      nests : (inner : ℕ) → type_by (Some (plain_part trees names q)) ≡ Some inner → IsNested (table_rows trees names) rank id inner
+      nests inner same_type =
+          let is : (entry_id trees names q).0 ≡ inner = cc in
+          let lt = subst (λ n. n < length (table_rows trees names)) is (entry_there q id d there) in
+          nested (table_rows trees names) levels apart id (table_row trees names id d) (row_of id d there) inner lt (holds_part id d con k q e inner (ap (λ p. type_by (Some p)) here ∙ same_type))
+
+  part_keeps : (id : ℕ) (d : Declared) → slice_get (types names) id ≡ Some d → is_container trees d.place ≡ true → (k : ℕ) (q : Place) → slice_get (own_parts_at trees d.place) k ≡ Some q
       → EntryKeeps (table_rows trees names) rank (record { container = id; place = k; part = part_at trees names q })
-  part_keeps id d there is k q e = go (sort_at trees q) refl
+  part_keeps id d there con k q e = go (sort_at trees q) refl
     where
       go : (s : Option PartSort) → sort_at trees q ≡ s → EntryKeeps (table_rows trees names) rank (record { container = id; place = k; part = part_by s trees names q })
       go None s = unread_keeps id k
-      go (Some sorts.Entry) s = plain_keeps id d there is k q e s
+      go (Some sorts.Entry) s = plain_keeps id d there con k q e s
       go (Some sorts.FixedValue) s = unread_keeps id k
       go (Some sorts.Padding) s = let size = padding_keeps trees q in pad_keeps id k (padding_bits trees q) size.0 size.1
       go (Some sorts.List) s = unread_keeps id k
       go (Some sorts.Length) s = unread_keeps id k
       go (Some sorts.ErrorControl) s = unread_keeps id k
 
-  entry_keeps : (id : ℕ) (d : Declared) → slice_get (types names) id ≡ Some d → container_of (table_rows trees names) id ≡ Some (container_at trees names d.place) → (k : ℕ) (p : Part) → slice_get (map (part_at trees names) (own_parts_at trees d.place)) k ≡ Some p → EntryKeeps (table_rows trees names) rank (record { container = id; place = k; part = p })
-  entry_keeps id d there is k p e =
+  entry_keeps : (id : ℕ) (d : Declared) → slice_get (types names) id ≡ Some d → is_container trees d.place ≡ true → (k : ℕ) (p : Part) → slice_get (map (part_at trees names) (own_parts_at trees d.place)) k ≡ Some p → EntryKeeps (table_rows trees names) rank (record { container = id; place = k; part = p })
+  entry_keeps id d there con k p e =
       let q = mapped_there (part_at trees names) (own_parts_at trees d.place) k p e in
-      subst (λ part. EntryKeeps (table_rows trees names) rank (record { container = id; place = k; part = part })) q.2 (part_keeps id d there is k q.0 q.1)
+      subst (λ part. EntryKeeps (table_rows trees names) rank (record { container = id; place = k; part = part })) q.2 (part_keeps id d there con k q.0 q.1)
 
   container_row : (id : ℕ) (d : Declared) → slice_get (types names) id ≡ Some d → is_container trees d.place ≡ true → (length (entries_at trees d.place) ≤ 32767) × (length (trailers_at trees d.place) ≤ 32767)
       → KeepsRow (table_rows trees names) rank id (record { name = d.name; base = base_found trees names d.place; kind = kind.Con (container_at trees names d.place) })
   container_row id d there is few =
-      let container : container_of (table_rows trees names) id ≡ Some (container_at trees names d.place) = ap container_in (row_of id d there) ∙ rw is refl in
       record {
         kind_keeps = (subst (λ n. n ≤ 32767) (sym (length-map (entries_at trees d.place) (part_at trees names))) few.0, subst (λ n. n ≤ 32767) (sym (length-map (trailers_at trees d.place) (part_at trees names))) few.1);
         derives = λ base e. rw is at (derives_number id d there base e);
         plain = record {
           bare = refl;
           parts = subst (λ ps. AllByRecursion (EntryKeeps (table_rows trees names) rank) (placed_from id 0 ps)) (map-append (part_at trees names) (entries_at trees d.place) (trailers_at trees d.place))
-              (placed_all (EntryKeeps (table_rows trees names) rank) id 0 (map (part_at trees names) (own_parts_at trees d.place)) (λ k p e i same_place. subst (λ n. EntryKeeps (table_rows trees names) rank (record { container = id; place = n; part = p })) (to_sum k i same_place) (entry_keeps id d there container k p e)));
+              (placed_all (EntryKeeps (table_rows trees names) rank) id 0 (map (part_at trees names) (own_parts_at trees d.place)) (λ k p e i same_place. subst (λ n. EntryKeeps (table_rows trees names) rank (record { container = id; place = n; part = p })) (to_sum k i same_place) (entry_keeps id d there is k p e)));
         };
       }
     where
@@ -496,26 +559,6 @@ module _ (trees : List (List Node)) (names : Names) (word : Option (List ℕ)) (
           subst (λ k. KeepsRow (table_rows trees names) rank id (record { name = d.name; base = base_found trees names d.place; kind = k })) (sym kind_is) (container_row id d there is (subst (λ n. n ≤ 32767) (length-map (entries_at trees d.place) (part_at trees names)) (leb-true _ 32767 short.0), subst (λ n. n ≤ 32767) (length-map (trailers_at trees d.place) (part_at trees names)) (leb-true _ 32767 short.1)))
       go false is = scalar_row id d there is
 
-  base_row : (id base : ℕ) → base_of (table_rows trees names) id ≡ Some base → level (bases_of trees names) id ≡ suc (level (bases_of trees names) base)
-  base_row id base e =
-      let h = has_base id base e in
-      subst (λ n. level (bases_of trees names) id ≡ suc (level (bases_of trees names) n)) h.number
-      (less_levels trees names u.cycles u.chains u.encodings u.ranges u.subs on_numbers id h.found (base_there trees names id h.declared.place (place_there (types names) id h.declared h.there) ∙ h.by_name))
-
-  levels : AreLeveled (table_rows trees names)
-  levels = record { level = level (bases_of trees names); low = few_levels trees names u.cycles u.chains u.encodings u.ranges u.subs on_numbers; base_level = base_row }
-
-  -- what derives is nested as deep as its base
-  base_ranks : (id base : ℕ) → base_of (table_rows trees names) id ≡ Some base → rank id ≡ rank base
-  unfolding rank
-  base_ranks id base e = go (container_of (table_rows trees names) id) (container_of (table_rows trees names) base) (base_alike id base e)
-    where
-      go : (a b : Option Container) → is_some b ≡ is_some a → rank_by a ≡ rank_by b
-      go None None e = refl
-      go None (Some c) e = absurd cc
-      go (Some c) None e = absurd cc
-      go (Some c) (Some b) e = refl
-
   -- ---- names along chains
 
   record IsContainerRow (k : ℕ) : Type 0 where
@@ -574,14 +617,14 @@ module _ (trees : List (List Node)) (names : Names) (word : Option (List ℕ)) (
       joined a b e (inr h) = e ∙ rw h (true_or a)
 
   -- a part's name is that of no other of its container and its bases
-  own_differ : (k : ℕ) → OwnDiffer (table_rows trees names) levels.level levels.low levels.base_level name_mark k
+  own_differ : (k : ℕ) → OwnDiffer (table_rows trees names) leveled.level leveled.low leveled.base_level name_mark k
   own_differ k = elim (container_cases k) [
-      | inl none ↦ record { own = subst AreDistinct (sym (no_names k none)) tt; apart = subst (λ xs. AreDisjoint xs (filter_map name_mark (parts_above (table_rows trees names) levels.level levels.low levels.base_level k))) (sym (no_names k none)) tt }
+      | inl none ↦ record { own = subst AreDistinct (sym (no_names k none)) tt; apart = subst (λ xs. AreDisjoint xs (filter_map name_mark (parts_above (table_rows trees names) leveled.level leveled.low leveled.base_level k))) (sym (no_names k none)) tt }
       | inr c ↦ (let there = place_there (types names) k c.declared c.there in
           let above = names_above 16 (table_rows trees names) (base_of (table_rows trees names) k) in
           let ordered = parts_at trees c.declared.place in
           let parts = own_parts_at trees c.declared.place in
-          let others = filter_map name_mark (parts_above (table_rows trees names) levels.level levels.low levels.base_level k) in
+          let others = filter_map name_mark (parts_above (table_rows trees names) leveled.level leveled.low leveled.base_level k) in
           let differ : repeats trees above (named_among trees ordered) ≡ [] = rw c.is at (over-none (duplicates_at trees (table_rows trees names)) 0 (type_places names) u.duplicates k c.declared.place there k (omega arith)) in
           let apart = no_repeats trees above (named_among trees ordered) differ in
           let by = by_lists trees names c.declared.place (names_distinct trees names ordered apart.1) in
@@ -600,7 +643,7 @@ module _ (trees : List (List Node)) (names : Names) (word : Option (List ℕ)) (
   few_in_family : (id : ℕ) → IsContainer (table_rows trees names) id → containers (table_rows trees names) (families (table_rows trees names)) (family (families (table_rows trees names)) id) ≤ 512
   few_in_family id is = go (slice_get (table_rows trees names) id) refl is
     where
-      small : (s : ℕ) (meets : Bool) → meets ≡ false → (nat_lt 512 s && not meets) ≡ false → s ≤ 512
+      small : (s : ℕ) (endless : Bool) → endless ≡ false → (nat_lt 512 s && not endless) ≡ false → s ≤ 512
       small s true e h = absurd cc
       small s false e h = ltb-false 512 s (no_more (nat_lt 512 s) h)
         where
@@ -613,26 +656,30 @@ module _ (trees : List (List Node)) (names : Names) (word : Option (List ℕ)) (
       go (Some row) q h =
           let r = row_at trees names 0 (types names) id row q id (omega arith) in
           let there = place_there (types names) id r.declared r.there in
-          let size = small (unwrap_or (slice_get (family_sizes (table_rows trees names) (families (table_rows trees names))) id) 0) (meets_cycle (bases_of trees names) id) (meets_none (bases_of trees names) (type_places names) (known_bases trees names) u.cycles u.chains id)
-              (unmet (nat_lt 512 (unwrap_or (slice_get (family_sizes (table_rows trees names) (families (table_rows trees names))) id) 0) && not (meets_cycle (bases_of trees names) id)) _ (over-none (family_at (bases_of trees names) (family_sizes (table_rows trees names) (families (table_rows trees names)))) 0 (type_places names) u.families id r.declared.place there id (omega arith))) in
+          let within = slice_get_within (table_rows trees names) id row q in
+          let size = small (family_size (table_rows trees names) id) (is_endless (course_of (table_rows trees names) id)) (ap is_endless (course-ends (table_rows trees names) levels apart id within))
+              (unmet (nat_lt 512 (family_size (table_rows trees names) id) && not (is_endless (course_of (table_rows trees names) id))) _ (over-none (family_at trees (table_rows trees names)) 0 (type_places names) u.families id r.declared.place there id (omega arith))) in
           subst (λ n. n ≤ 512) (size_is (table_rows trees names) id (slice_get_within (table_rows trees names) id row q)) size
 
   plain_rows : NamesDiffer names.declared → are_few (table_rows trees names) ≡ true → ArePlainRows (table_rows trees names)
-  unfolding rank
   plain_rows apart few =
       let parts = and_parts (nat_le (length (table_rows trees names)) 4096) (list_all has_few_entries (table_rows trees names)) few in
       record {
         few = leb-true _ 4096 parts.0;
         names = subst AreDistinct (sym (row_names trees names 0 (types names))) (apart-distinct (map (λ d. d.name) (types names)) (types-apart names.declared apart));
-        levels = levels;
+        levels = leveled;
         family_few = few_in_family;
         rank = rank;
-        nesting = λ id. few_ranks (container_of (table_rows trees names) id);
-        base_rank = base_ranks;
+        nesting = few_ranks (table_rows trees names) levels apart few_nested;
+        base_rank = λ id base e. base_ranks (table_rows trees names) levels apart id base (within id base (slice_get (table_rows trees names) id) refl e) e;
         named = own_differ;
         rows = λ id row e. row_keeps id row e (all_there has_few_entries (table_rows trees names) parts.1 id row e);
       }
     where
+      within : (id base : ℕ) (o : Option TypeRow) → slice_get (table_rows trees names) id ≡ o → base_in o ≡ Some base → id < length (table_rows trees names)
+      within id base None q h = absurd cc
+      within id base (Some row) q h = slice_get_within (table_rows trees names) id row q
+
       row_keeps : (id : ℕ) (row : TypeRow) → slice_get (table_rows trees names) id ≡ Some row → has_few_entries row ≡ true → KeepsRow (table_rows trees names) rank id row
       row_keeps id row e h =
           let r = row_at trees names 0 (types names) id row e id (omega arith) in

@@ -12,12 +12,14 @@ use Rattle.eds_read_types.specs.Unresolved.{unresolved_at}
 use Rattle.eds_read_types.specs.WrongKind.{wrong_kind_at}
 use Rattle.eds_read_types.specs.BaseCycle.{breaks_cycle}
 use Rattle.eds_read_types.specs.LimitChain.{breaks_chain}
+use Rattle.eds_read_types.specs.TypeCycle.{breaks_type_cycle}
 use Rattle.eds_read_types.specs.LimitFamily.{breaks_family}
-use Rattle.eds_read_types.specs.UnsupportedEntry.{breaks_flat}
+use Rattle.eds_read_types.specs.LimitNesting.{breaks_nesting}
 use Rattle.eds_read_types.specs.BadEncoding.{breaks_encoding}
 use Rattle.eds_read_types.specs.EmptyRange.{breaks_range, breaks_sub_range}
 use Rattle.eds_read_types.specs.BadEnumeration.{breaks_enumeration}
-use Rattle.eds_read_types.specs.EmptyType.{breaks_empty}
+use Rattle.eds_read_types.specs.EmptyType.{empty_part_at, empty_item_at, empty_word}
+use Rattle.eds_read_types.specs.Parts.{at_rows, at_parts}
 use Rattle.eds_read_types.specs.DuplicateEntry.{breaks_duplicate}
 use Rattle.eds_read_types.specs.LengthField.{breaks_length}
 use Rattle.eds_read_types.specs.TableBreaks.{rules, table_breaks}
@@ -49,13 +51,16 @@ pub record IsUnbroken (trees : List (List Node)) (names : Names) (word : Option 
   pub kinds : flat_map (judged_at (wrong_kind_at trees names) trees) (elements trees) ≡ []
   pub cycles : breaks_cycle trees names ≡ []
   pub chains : breaks_chain trees names ≡ []
+  pub type_cycles : breaks_type_cycle trees names ≡ []
   pub families : breaks_family trees names ≡ []
-  pub flat : breaks_flat trees names ≡ []
+  pub nestings : breaks_nesting trees names ≡ []
   pub encodings : breaks_encoding trees names ≡ []
   pub ranges : breaks_range trees names ≡ []
   pub subs : breaks_sub_range trees names ≡ []
   pub enumerations : breaks_enumeration trees names ≡ []
-  pub empties : breaks_empty trees names word ≡ []
+  pub empty_parts : at_parts empty_part_at trees names ≡ []
+  pub empty_items : at_rows empty_item_at trees names ≡ []
+  pub empties : empty_word trees names word ≡ []
   pub duplicates : breaks_duplicate trees names ≡ []
   pub lengths : breaks_length trees names ≡ []
 
@@ -67,19 +72,24 @@ unbroken trees names word h =
     let bases = all.1.0 in
     let scalars = all.1.1.0 in
     let containers = all.1.1.1.0 in
+    let with_bits = append-none (at_parts empty_part_at trees names) _ containers.0 in
+    let further = append-none (at_rows empty_item_at trees names) _ with_bits.1 in
     record {
       resolved = found.1;
       sort = fitting.1;
       kinds = fitting.0;
       cycles = bases.0;
       chains = bases.1.0;
-      families = bases.1.1.0;
-      flat = bases.1.1.1.0;
+      type_cycles = bases.1.1.0;
+      families = bases.1.1.1.0;
+      nestings = bases.1.1.1.1.0;
       encodings = scalars.0;
       ranges = scalars.1.0;
       subs = scalars.1.1.0;
       enumerations = scalars.1.1.1.0;
-      empties = containers.0;
+      empty_parts = with_bits.0;
+      empty_items = further.0;
+      empties = further.1;
       duplicates = containers.1.0;
       lengths = containers.1.1.0;
     }

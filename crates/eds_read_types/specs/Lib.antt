@@ -19,11 +19,9 @@ pub mod WrongKind
 pub mod BaseCycle
 pub mod LimitChain
 pub mod LimitFamily
-pub mod UnsupportedEntry
 pub mod BadEncoding
 pub mod EmptyRange
 pub mod BadEnumeration
-pub mod EmptyType
 pub mod DuplicateEntry
 pub mod Calibrators
 pub mod Unbroken
@@ -32,6 +30,12 @@ pub mod PartRows
 pub mod TableRows
 pub mod Used
 pub mod Parts
+pub mod Nesting
+pub mod TypeCycle
+pub mod LimitNesting
+pub mod EmptyType
 pub mod LengthField
+pub mod FaceReferences
+pub mod FaceRules
 pub mod TableBreaks
 pub mod TableRead

@@ -1,5 +1,5 @@
 -- The forms of strings, and the sizes of binaries (CCSDS 876.0-B, string and binary data types).
-use Rattle.std.specs.Prelude.{◌≡◌, ℕ, ◌≤◌, ◌%◌, ◌==◌, ◌&&◌, ◌||◌, nat_le, ℤ, pos, negsuc, List, codes, Bool, true, false, not, if◌then◌else◌, Option, Some, None, refl}
+use Rattle.std.specs.Prelude.{◌≡◌, ℕ, ◌%◌, ◌==◌, ◌&&◌, ◌||◌, nat_le, ℤ, pos, negsuc, List, codes, Bool, true, false, not, Option, Some, None, refl}
 use Rattle.std.proofs.Common.{leb-true}
 use Rattle.std.proofs.lemmas.Bool.{and_parts}
 use Rattle.eds_base.specs.Reading.{◌>>=◌, same, only}

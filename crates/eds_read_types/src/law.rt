@@ -1,6 +1,10 @@
-//! Laws of scalar types.
+//! Laws of scalar types, and of chains of bases.
 
-ghost use Rattle.std.specs.Prelude.{◌≡◌, ◌≤◌, ◌↔◌, ℕ, ℤ, List, [], Bool, true, false, IsSome, IfSome};
+ghost use Rattle.std.specs.Prelude.{◌≡◌, ◌≤◌, ◌↔◌, ◌==◌, ℕ, ℤ, List, [], ◌∷◌, Option, Bool, true, false, IsSome, IfSome};
+ghost use Rattle.std.specs.List.{list_any};
+ghost use Rattle.eds_base.specs.declared.ids.Place.{Place as place};
+ghost use Rattle.eds_base.specs.declared.ids.TypeId.{TypeId as type_id};
+ghost use Rattle.eds_base.specs.declared.rule.Rule.TheVariants.{BaseCycle};
 ghost use Rattle.eds_base.specs.declared.spans.Span.{Span as span};
 ghost use Rattle.eds_base.specs.Spans.{IsWithin, Rises};
 ghost use Rattle.eds_bits.specs.declared.forms.Encoding.{Encoding as encoding_type};
@@ -13,6 +17,10 @@ ghost use Rattle.eds_read_types.specs.Ranges.{Admits};
 ghost use Rattle.eds_read_types.specs.Domains.{domain_of, narrowed, has_none};
 ghost use Rattle.eds_read_types.specs.Listings.{is_listing};
 ghost use Rattle.eds_read_types.specs.ScalarKinds.{is_integer, is_enumerated, is_boolean};
+ghost use Rattle.eds_read_types.specs.References.{broken};
+ghost use Rattle.eds_read_types.specs.Bases.{bases_within, all_bases, is_in_cycle};
+ghost use Rattle.eds_read_types.specs.BaseCycle.{cycle_at};
+ghost use Rattle.eds_read_types.specs.LimitChain.{meets_cycle, chain_at};
 ghost use Rattle.eds_read_types.specs.BadEncoding.{encoding_breaks};
 ghost use Rattle.eds_read_types.specs.EmptyRange.{range_breaks};
 ghost use Rattle.eds_read_types.specs.BadEnumeration.{enumeration_breaks};
@@ -63,4 +71,12 @@ pub fn unbroken_types(tree: &Tree, at: Place)
     ensures integers { is_integer tree.now at.node ≡ true → encoding_breaks tree.now at ≡ [] → range_breaks tree.now at ≡ [] → HasDomain tree.now at.node }
     ensures enumerations { is_enumerated tree.now at.node ≡ true → encoding_breaks tree.now at ≡ [] → enumeration_breaks tree.now at ≡ [] → HasListing tree.now at.node }
     ensures truths { is_boolean tree.now at.node ≡ true → encoding_breaks tree.now at ≡ [] → IsSome (bool_form_of tree.now at.node) }
+{}
+
+/// However far the bases of a type are followed, none is found that is not among its first ones, as many as there are types. A type
+/// that is its own base is refused as such, and neither it nor a type that derives from it for a long chain.
+pub fn circles()
+    ensures bases { (bases : List (Option type_id)) (id other n : ℕ) → list_any (λ base. base == other) (bases_within n bases id) ≡ true → list_any (λ base. base == other) (all_bases bases id) ≡ true }
+    ensures refused { (bases : List (Option type_id)) (id : ℕ) (at : place) → is_in_cycle bases id ≡ true → cycle_at bases id at ≡ broken BaseCycle at ∷ [] }
+    ensures apart { (bases : List (Option type_id)) (id : ℕ) (at : place) → meets_cycle bases id ≡ true → chain_at bases id at ≡ [] }
 {}

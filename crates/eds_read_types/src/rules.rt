@@ -13,14 +13,16 @@ use crate::base_cycle::BaseCycle;
 use crate::breaks::{PlaceRule, TypeRule, least_over, least_over_types};
 use crate::duplicate_entry::DuplicateEntry;
 use crate::empty_range::{EmptyRange, EmptySubRange};
-use crate::empty_type::EmptyType;
+use crate::empty_type::{EmptyItem, EmptyPart, EmptyWord};
+use crate::face_rules::{AtFaces, OpenInFace, UnresolvedInFace, WrongKindInFace};
 use crate::length_field::LengthField;
 use crate::limit_chain::LimitChain;
 use crate::limit_family::LimitFamily;
+use crate::limit_nesting::LimitNesting;
 use crate::reference::{ReferenceRule, least_over_references};
 use crate::sheet_rows::{AtParts, RowRule, SheetRows, least_over_rows};
+use crate::type_cycle::TypeCycle;
 use crate::unresolved::Unresolved;
-use crate::unsupported_entry::UnsupportedEntry;
 use crate::wrong_kind::WrongKind;
 use eds_base::{Memory, Refusal};
 use std::alloc::Global;
@@ -140,11 +142,20 @@ impl<R: ReferenceRule> SheetRule for AtReferences<R> {
 
 // ---- all rules
 
-type References = And<AtReferences<Unresolved>, And<AtReferences<WrongKind>, NoRule>>;
+type References = And<
+    AtReferences<Unresolved>,
+    And<
+        AtReferences<WrongKind>,
+        And<AtFaces<UnresolvedInFace>, And<AtFaces<WrongKindInFace>, NoRule>>,
+    >,
+>;
 
 type Bases = And<
     AtNumbers<BaseCycle>,
-    And<AtNumbers<LimitChain>, And<LimitFamily, And<AtRows<AtParts<UnsupportedEntry>>, NoRule>>>,
+    And<
+        AtNumbers<LimitChain>,
+        And<AtRows<TypeCycle>, And<AtRows<LimitFamily>, And<AtRows<LimitNesting>, NoRule>>>,
+    >,
 >;
 
 type Scalars = And<
@@ -152,9 +163,14 @@ type Scalars = And<
     And<AtTypes<EmptyRange>, And<AtNumbers<EmptySubRange>, And<AtTypes<BadEnumeration>, NoRule>>>,
 >;
 
+type EmptyType = And<AtRows<AtParts<EmptyPart>>, And<AtRows<EmptyItem>, EmptyWord>>;
+
 type Containers = And<
     EmptyType,
-    And<AtRows<DuplicateEntry>, And<AtRows<AtParts<LengthField>>, NoRule>>,
+    And<
+        AtRows<DuplicateEntry>,
+        And<AtRows<AtParts<LengthField>>, And<AtFaces<OpenInFace>, NoRule>>,
+    >,
 >;
 
 type TypeRules = Then<References, Then<Bases, Then<Scalars, Then<Containers, NoRule>>>>;

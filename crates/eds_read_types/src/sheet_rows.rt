@@ -10,21 +10,69 @@ ghost use Rattle.eds_types.specs.Sizes.{open_of};
 ghost use Rattle.eds_types.specs.Rows.{Table, Placed, container_of, entries_in, trailers_in};
 ghost use Rattle.eds_read_types.specs.Bases.{breaks_over};
 ghost use Rattle.eds_read_types.specs.TableRows.{table_rows};
+ghost use Rattle.eds_nesting.specs.Families.{families as families_of, nesting as nesting_of, family_sizes as family_sizes_of, endless_met as endless_met_of};
 ghost use Rattle.eds_read_types.specs.Parts.{parts_in, judged_part, judged_parts};
+ghost use Rattle.eds_read_types.specs.LimitFamily.{family_size};
+ghost use Rattle.eds_read_types.specs.Nesting.{course_of, meets_base_cycle};
 
 use crate::base_graph::BaseGraph;
 use crate::entry::own_parts_at;
 use eds_base::{Memory, Place, Refusal, TypeId};
+use eds_graph::Course;
 use eds_types::{Kind, Part, TypeRows};
 use std::alloc::Global;
 use std::marker::PhantomData;
 
-/// A sheet, what its types derive from, and a row for each type.
+/// A sheet, what its types derive from, a row for each type, and how the types hold one another.
 #[derive(Drop)]
 pub(crate) struct SheetRows<'a> {
     pub(crate) graph: &'a BaseGraph<'a>,
     pub(crate) rows: &'a TypeRows,
+    /// For each type the family that it belongs to.
+    pub(crate) families: &'a [usize],
+    /// For each type where the ways go on which its family holds others.
+    pub(crate) nesting: &'a [Course],
+    /// For each type whether its family has bases that go in a circle, or reaches one that has.
+    pub(crate) endless: &'a [bool],
+    /// For each type how many containers its family has.
+    pub(crate) sizes: &'a [usize],
     ghost read: { rows.now ≡ table_rows graph.now.sheet.now.trees.now graph.now.sheet.now.space.now },
+    ghost grouped: { families.now ≡ families_of rows.now },
+    ghost nested: { nesting.now ≡ nesting_of rows.now families.now },
+    ghost sized: { sizes.now ≡ family_sizes_of rows.now families.now },
+    ghost met: { endless.now ≡ endless_met_of rows.now families.now },
+}
+
+impl<'a> SheetRows<'a> {
+    /// Where the ways go on which the family of a type holds others.
+    pub(crate) fn course_of(&self, id: usize) -> Course
+        ensures { result ≡ course_of self.now.rows.now id }
+    {
+        match self.nesting.get(id) {
+            None => Course::Ends(1),
+            Some(course) => *course,
+        }
+    }
+
+    /// How many containers the family of a type has.
+    pub(crate) fn family_size(&self, id: usize) -> usize
+        ensures { result ≡ family_size self.now.rows.now id }
+    {
+        match self.sizes.get(id) {
+            None => 0,
+            Some(size) => *size,
+        }
+    }
+
+    /// Whether the family of a type has bases that go in a circle, or reaches one that has.
+    pub(crate) fn meets_base_cycle(&self, id: usize) -> bool
+        ensures { result ≡ meets_base_cycle self.now.rows.now id }
+    {
+        match self.endless.get(id) {
+            None => false,
+            Some(met) => *met,
+        }
+    }
 }
 
 /// A rule that is judged at one type at a time, by its number and its place.
@@ -59,19 +107,6 @@ pub(crate) fn least_over_rows<R: RowRule>(
 }
 
 // ---- the types of parts
-
-/// Whether a type is a container.
-pub(crate) fn is_container(rows: &TypeRows, id: TypeId) -> bool
-    ensures { result ≡ is_some (container_of rows.now id.0) }
-{
-    match rows.get(id.0 as usize) {
-        None => false,
-        Some(row) => match &row.kind {
-            Kind::Con(_) => true,
-            _ => false,
-        },
-    }
-}
 
 /// Whether a type is an open binary.
 pub(crate) fn is_open(rows: &TypeRows, id: TypeId) -> bool

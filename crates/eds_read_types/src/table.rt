@@ -10,6 +10,7 @@ ghost use Rattle.eds_read_types.specs.TableBreaks.{table_breaks};
 ghost use Rattle.eds_read_types.specs.TableRead.{typed_of, table_read};
 
 use crate::base_graph::{BaseGraph, bases_of, cycles_of};
+use crate::face_reference::push_face_types;
 use crate::named_trees::{NamedTrees, elements, type_places};
 use crate::reference::word_type;
 use crate::rules::least_break;
@@ -18,6 +19,7 @@ use crate::table_row::table_rows;
 use crate::used::used_types;
 use eds_base::{Fail, Memory, Refusal, TypeId};
 use eds_names::Space;
+use eds_nesting::{endless_met, families, family_sizes, nesting};
 use eds_tree::Trees;
 use eds_types::{TypeRows, TypeTable, Used};
 use std::alloc::Global;
@@ -27,8 +29,8 @@ use std::alloc::Global;
 pub struct SheetTypes {
     /// A row for each declared type, at its `TypeId`: in the order of files and elements.
     pub table: TypeTable,
-    /// The types that parts and arrays name, in the order of types and parts, and then that of the TYPE word. An open binary is none
-    /// of them.
+    /// The types that parts and arrays name, in the order of types and parts, then that of the TYPE word, and then those that
+    /// parameters, arguments and maps of interfaces name. An open binary is none of them.
     pub used: Used,
     /// The type that the TYPE word names, where there is a TYPE word.
     pub asked_type: Option<TypeId>,
@@ -41,7 +43,8 @@ fn typed_of(alloc: Global, sheet: &NamedTrees, rows: TypeRows) -> Result<SheetTy
     ensures { IfOk result (λ t. t ≡ typed_of sheet.now.trees.now sheet.now.space.now (option_map (λ w. w.now) sheet.now.asked)) }
 {
     let asked_type = word_type(alloc, sheet)?;
-    let used = used_types(alloc, &rows, asked_type)?;
+    let mut used = used_types(alloc, &rows, asked_type)?;
+    push_face_types(alloc, &mut used, sheet)?;
     let table = TypeTable::of(alloc, rows)?;
     Ok(SheetTypes {
         table,
@@ -50,12 +53,32 @@ fn typed_of(alloc: Global, sheet: &NamedTrees, rows: TypeRows) -> Result<SheetTy
     })
 }
 
+/// The first break of all rules on the types of a sheet, of which the rows are given.
+fn least_of(alloc: Global, graph: &BaseGraph, rows: &TypeRows) -> Result<Option<Refusal>, Memory>
+    requires read { rows.now ≡ table_rows_of graph.now.sheet.now.trees.now graph.now.sheet.now.space.now }
+    ensures { IfOk result (λ r. r ≡ least (table_breaks graph.now.sheet.now.trees.now graph.now.sheet.now.space.now (option_map (λ w. w.now) graph.now.sheet.now.asked))) }
+{
+    let families = families(alloc, rows.as_slice())?;
+    let nesting = nesting(alloc, rows.as_slice(), &families)?;
+    let sizes = family_sizes(alloc, rows.as_slice(), &families)?;
+    let endless = endless_met(alloc, rows.as_slice(), &families)?;
+    let sheet = SheetRows {
+        graph,
+        rows,
+        families: &families,
+        nesting: &nesting,
+        sizes: &sizes,
+        endless: &endless,
+    };
+    least_break(alloc, &sheet)
+}
+
 #[tactic(auto, unfolding(crate::specs::TableRead::table_read))]
 fn read_graph(alloc: Global, graph: &BaseGraph) -> Result<SheetTypes, Fail<Refusal>>
     ensures { Answers (λ t. t) result (table_read graph.now.sheet.now.trees.now graph.now.sheet.now.space.now (option_map (λ w. w.now) graph.now.sheet.now.asked)) }
 {
     let rows = table_rows(alloc, graph)?;
-    let found = least_break(alloc, &SheetRows { graph, rows: &rows })?;
+    let found = least_of(alloc, graph, &rows)?;
     match found {
         Some(refusal) => Err(Fail::Named(refusal)),
         None => Ok(typed_of(alloc, graph.sheet, rows)?),
@@ -65,9 +88,9 @@ fn read_graph(alloc: Global, graph: &BaseGraph) -> Result<SheetTypes, Fail<Refus
 /// Reads the types of a sheet (CCSDS 876.0-B, data types), of which `space` has the names: their table, those that are used, and
 /// the one that the TYPE word `asked` names, where one is given; or the first rule that is broken, by phase, then by place, then by
 /// number: a reference to a type finds nothing or no type, or the base of a
-/// sub-range is no integer type or sub-range; a type is its own base, more than 16 types are in a chain of bases, or an entry is
-/// a container; a type has no form, an integer type or sub-range no numbers, or an enumerated type no good list of labels; two
-/// entries of a container have one name, or the TYPE word names a container without entries. The elements of the sheet are as they
+/// sub-range is no integer type or sub-range; a type is its own base, more than 16 types are in a chain of bases, a type reaches
+/// itself, or more than 32 types are nested; a type has no form, an integer type or sub-range no numbers, or an enumerated type no good list of labels; two
+/// parts of a container have one name, or a part or the TYPE word names a type without bits. The elements of the sheet are as they
 /// should be, so that there are at most 4,096 types, with at most 32,767 entries each.
 pub fn read_types(
     alloc: Global,

@@ -39,4 +39,4 @@ first_in-returns-clause-clean g t c =
     let none : is_some c.in_ok-here.here ≡ false = search rules in
     let nothing : is_some c.in_ok-under.under ≡ false = search rules in
     put-clean g.R.NameRule.names c.args.faces.now c.args.types.now c.first_below.new.clean c.put.new.self c.args.depth c.args.pair c.in_ok-here.here c.in_ok-under.under c.requires.alike
-    c.requires.ends c.requires.few c.in_ok-here.ensures (none-of c.in_ok-here.here none) c.in_ok-under.ensures.first (none-of c.in_ok-under.under nothing) c.in_ok-put.ensures c.in_ok-under.ensures.clean
+    c.requires.ends c.requires.few c.in_ok-here.ensures (none-of c.in_ok-here.here none) c.in_ok-under.ensures.first (none-of c.in_ok-under.under nothing) c.in_ok-put.ensures.put c.in_ok-under.ensures.clean

@@ -1,6 +1,5 @@
-use Rattle.std.proofs.Common.{ℕ, sym, subst, ap, ◌<◌, arith}
+use Rattle.std.proofs.Common.{sym, subst, arith}
 use Rattle.eds_base.specs.declared.ids.TypeId.{TypeId}
-use Rattle.eds_types.specs.Overlap.{Overlapping}
 use Rattle.eds_overlap.specs.Pairs.{Named, IsFirstPair}
 use Rattle.eds_overlap.proofs.Meeting.{none_more, none_at_all, first_is_first}
 use Rattle.eds_overlap.proofs.find.first_pair.Goals as goal

@@ -1,4 +1,4 @@
-use Rattle.std.proofs.Common.{◌∙◌, ap}
+use Rattle.std.proofs.Common.{◌∙◌}
 use Rattle.eds_overlap.proofs.Parting.{read_through}
 use Rattle.eds_overlap.proofs.find.is_read_through.Goals as goal
 

@@ -1,8 +1,7 @@
-use Rattle.std.proofs.Common.{◌≡◌, ℕ, sym, subst, ◌∙◌}
+use Rattle.std.proofs.Common.{sym, subst, ◌∙◌}
 use Rattle.eds_base.specs.declared.ids.TypeId.{TypeId}
 use Rattle.eds_types.specs.Overlap.{Overlapping}
-use Rattle.eds_overlap.specs.Pairs.{Meets, Named}
-use Rattle.eds_overlap.proofs.Parting.{got}
+use Rattle.eds_overlap.specs.Pairs.{Named}
 use Rattle.eds_overlap.proofs.Meeting.{if_some, if_none, sets_at, overlapping_from, no_overlap, parted_of}
 use Rattle.eds_overlap.proofs.find.overlap_of.Goals as goal
 

@@ -1,4 +1,4 @@
-use Rattle.std.proofs.Common.{◌∙◌, ◌≡◌, ◌-◌, ◌≤◌, ◌<◌, get_or, length, refl, arith}
+use Rattle.std.proofs.Common.{◌∙◌, ◌-◌, get_or, arith}
 use Rattle.eds_types.specs.Rows.{id_of}
 use Rattle.eds_overlap.proofs.Parting.{parted, not_parted, got}
 use Rattle.eds_overlap.proofs.find.parting.Goals.{else-count-gt0-via-then-count-gt0+then-count-ours+else-count-theirs, else-count-gt0-via-then-count-gt0+else-count-ours, else-count-gt0-via-else-count-gt0}

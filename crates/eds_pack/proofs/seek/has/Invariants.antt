@@ -1,10 +1,10 @@
-use Rattle.std.proofs.Common.{◌≡◌, length, map}
-use Rattle.eds_base.specs.declared.ids.TypeId.{TypeId}
+use Rattle.std.proofs.Common.{◌≡◌, length}
 use Rattle.eds_types.specs.Rows.{list_has}
+use Rattle.eds_pack.specs.Seeking.{numbers_of}
 use Rattle.eds_pack.proofs.seek.has.Given as goal
 
 abbrev pub invariant-loop-rest : goal.invariant-loop-rest
-invariant-loop-rest l = list_has (map (λ (x : TypeId). x.0) l.rest) l.id.0 ≡ list_has (map (λ (x : TypeId). x.0) l.ids) l.id.0
+invariant-loop-rest l = list_has (numbers_of l.rest) l.id.0 ≡ list_has (numbers_of l.ids) l.id.0
 
 abbrev pub decreases-loop-rest : goal.decreases-loop-rest
 decreases-loop-rest l = length l.rest

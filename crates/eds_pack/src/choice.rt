@@ -1,0 +1,109 @@
+//! The choice of the most derived container.
+
+ghost use Rattle.std.specs.Prelude.{◌≡◌, ◌&&◌, ◌==◌, ◌≤◌, ℕ, [], not, length, option_map, OnOk};
+ghost use Rattle.std.specs.List.{list_all, flat_map};
+ghost use Rattle.eds_base.specs.declared.ids.TypeId.{TypeId as Id};
+ghost use Rattle.eds_pack.specs.Choices.{meets};
+ghost use Rattle.eds_pack.specs.Counting.{found};
+ghost use Rattle.eds_pack.specs.Seeking.{fields_of, numbers_of};
+ghost use Rattle.eds_types.specs.Fields.{constraints_along};
+ghost use Rattle.eds_types.specs.PackedSizes.{Size, choice_size};
+ghost use Rattle.eds_types.specs.Plain.{Plain};
+ghost use Rattle.eds_types.specs.Reading.{starts_above, is_candidate, candidate_under};
+ghost use Rattle.eds_types.specs.Rows.{chain, list_has, constraints_of};
+
+use crate::constraint::holds;
+use crate::fields::Fields;
+use crate::seek::{has, is_under};
+use eds_base::{Path, Step, TypeId};
+use eds_types::{Constraint, PackReason, TypeTable};
+
+/// Whether a path starts in an entry of a container or of its bases.
+fn starts_above(table: &TypeTable, id: TypeId, path: &[(TypeId, u16)]) -> bool
+    ensures { result ≡ starts_above table.now id.0 path.now }
+{
+    match path {
+        [] => false,
+        [first, ..] => {
+            is_under(table, id, first.0) && (first.1 as usize) < table.entries_of(first.0).len()
+        }
+    }
+}
+
+/// Whether the constraints on entries before the choice hold.
+fn meets_own(fields: &Fields<'_>, constraints: &[Constraint]) -> bool
+    ensures { result ≡ list_all (meets fields.now.table.now fields.now.own.0 (fields_of fields.now.table.now fields.now.own.0 fields.now.values.now)) constraints.now }
+{
+    let mut rest = constraints;
+    while let [constraint, after @ ..] = rest {
+        if starts_above(fields.table, fields.own, constraint.path.as_slice())
+            && !holds(fields, constraint)
+        {
+            return false;
+        }
+        rest = after;
+    }
+    true
+}
+
+/// Whether those of a chain of containers do.
+fn meets_all(fields: &Fields<'_>, chain: &[TypeId]) -> bool
+    ensures { result ≡ list_all (meets fields.now.table.now fields.now.own.0 (fields_of fields.now.table.now fields.now.own.0 fields.now.values.now)) (flat_map (constraints_of fields.now.table.now) (numbers_of chain.now)) }
+{
+    let mut rest = chain;
+    while let [one, after @ ..] = rest {
+        if !meets_own(fields, fields.table.constraints_of(*one)) {
+            return false;
+        }
+        rest = after;
+    }
+    true
+}
+
+/// Whether a container is at or under that of the fields, and the constraints of its chain on entries before the choice
+/// hold.
+fn fits_under(fields: &Fields<'_>, under: TypeId) -> bool
+    ensures { result ≡ (list_has (chain fields.now.table.now under.0) fields.now.own.0 && list_all (meets fields.now.table.now fields.now.own.0 (fields_of fields.now.table.now fields.now.own.0 fields.now.values.now)) (constraints_along fields.now.table.now under.0)) }
+{
+    let chain = fields.table.chain_of(under);
+    if has(chain.as_slice(), fields.own) {
+        meets_all(fields, chain.as_slice())
+    } else {
+        false
+    }
+}
+
+/// Whether a container strictly under that of the fields may be theirs.
+fn is_candidate(fields: &Fields<'_>, under: TypeId) -> bool
+    ensures { result ≡ (not (under.0 == fields.now.own.0) && is_candidate fields.now.table.now fields.now.own.0 under.0 (fields_of fields.now.table.now fields.now.own.0 fields.now.values.now)) }
+{
+    under.0 != fields.own.0 && fields.table.is_concrete(under) && fits_under(fields, under)
+}
+
+/// The first container strictly under that of the fields that may be theirs.
+fn candidate_under(fields: &Fields<'_>) -> Option<TypeId>
+    ensures { option_map (λ (l : Id). l.0) result ≡ candidate_under fields.now.table.now fields.now.own.0 (fields_of fields.now.table.now fields.now.own.0 fields.now.values.now) }
+{
+    for n in 0..fields.table.len() {
+        if is_candidate(fields, TypeId(n)) {
+            return Some(TypeId(n));
+        }
+    }
+    None
+}
+
+/// No container strictly under that of the fields may be theirs, or the choice is told.
+pub(crate) fn check_most_derived(fields: &Fields<'_>, path: &mut Path) -> Result<(), PackReason>
+    requires root { path.old ≡ [] }
+    ensures adds { (size : ℕ → Plain → Size) → found result 0 path.new ≡ choice_size fields.now.table.now size (fields_of fields.now.table.now fields.now.own.0 fields.now.values.now) fields.now.own.0 (candidate_under fields.now.table.now fields.now.own.0 (fields_of fields.now.table.now fields.now.own.0 fields.now.values.now)) }
+    ensures near { length path.new ≤ 1 }
+    ensures calm { OnOk result (path.new ≡ []) }
+{
+    match candidate_under(fields) {
+        Some(_) => {
+            path.put_first(Step::Choice(fields.own));
+            Err(PackReason::NotMostDerived)
+        }
+        None => Ok(()),
+    }
+}

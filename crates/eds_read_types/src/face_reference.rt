@@ -1,0 +1,311 @@
+//! The references inside interfaces.
+
+ghost use Rattle.std.specs.Prelude.{◌≡◌, ◌++◌, ◌∷◌, [], ℕ, List, map, string_bytes, IfOk, OnOk};
+ghost use Rattle.std.specs.List.{flat_map};
+ghost use Rattle.eds_names.specs.Repeats.{is_among};
+ghost use Rattle.eds_read_types.specs.Places.{held, own_name as own_name_of};
+ghost use Rattle.eds_read_types.specs.TableRows.{id_or_first};
+ghost use Rattle.eds_read_types.specs.FaceReferences.{held_in as held_in_sets, generic_places as generics_at, generic_names, base_places as bases_at, map_places as maps_at, parameter_places as parameters_at, argument_places as arguments_at, typed_places as typed_at, is_own as is_own_name, attribute_of as attribute_sought, reference_at, references_in as references_at, face_places as face_places_of, face_references as face_references_of, used_at, face_types};
+
+use crate::element::{attribute, own_name, push_held};
+use crate::named_trees::NamedTrees;
+use crate::reference::id_found;
+use eds_base::{Memory, Place, Text, TypeId};
+use eds_names::Space;
+use eds_tree::Tree;
+use eds_types::Used;
+use indexmap::IndexSet;
+use std::alloc::Global;
+
+/// What a reference inside an interface is to find.
+#[derive(Clone, Copy, Debug, PartialEq, Eq)]
+pub(crate) enum Sought {
+    /// The interface that a base names.
+    BaseInterface,
+    /// The type that all that a generic name stands for is or derives from.
+    GenericBase,
+    /// The type of a parameter, of an argument, or in a map.
+    MemberType,
+}
+
+/// A reference inside an interface.
+#[derive(Drop)]
+pub(crate) struct FaceReference {
+    pub(crate) place: Place,
+    pub(crate) text: Text,
+    pub(crate) sought: Sought,
+    /// Whether it is a generic name of the interface itself.
+    pub(crate) own: bool,
+}
+
+// ---- the elements of an interface
+
+fn held_among(
+    alloc: Global,
+    trees: &[Tree],
+    name: &str,
+    holders: &[Place],
+) -> Result<Vec<Place>, Memory>
+    ensures { IfOk result (λ p. p.items ≡ flat_map (held trees.now name.now) holders.now) }
+{
+    let mut places = Vec::new(alloc);
+    for holder in holders {
+        push_held(&mut places, trees, name, *holder)?;
+    }
+    Ok(places)
+}
+
+fn held_in(
+    alloc: Global,
+    trees: &[Tree],
+    set: &str,
+    name: &str,
+    at: Place,
+) -> Result<Vec<Place>, Memory>
+    ensures { IfOk result (λ p. p.items ≡ held_in_sets trees.now set.now name.now at) }
+{
+    let mut sets = Vec::new(alloc);
+    push_held(&mut sets, trees, set, at)?;
+    held_among(alloc, trees, name, &sets)
+}
+
+fn map_places(alloc: Global, trees: &[Tree], at: Place) -> Result<Vec<Place>, Memory>
+    ensures { IfOk result (λ p. p.items ≡ maps_at trees.now at) }
+{
+    held_in(alloc, trees, "GenericTypeMapSet", "GenericTypeMap", at)
+}
+
+/// What the bases of an interface map generic names to, its parameters, and the arguments of its commands.
+fn typed_places(
+    alloc: Global,
+    trees: &[Tree],
+    bases: &[Place],
+    at: Place,
+) -> Result<Vec<Place>, Memory>
+    requires { bases.now ≡ bases_at trees.now at }
+    ensures { IfOk result (λ p. p.items ≡ typed_at trees.now at) }
+{
+    let mut places = Vec::new(alloc);
+    push_maps(alloc, &mut places, trees, bases)?;
+    let parameters = held_in(alloc, trees, "ParameterSet", "Parameter", at)?;
+    push_all(&mut places, &parameters)?;
+    let commands = held_in(alloc, trees, "CommandSet", "Command", at)?;
+    let arguments = held_among(alloc, trees, "Argument", &commands)?;
+    push_all(&mut places, &arguments)?;
+    Ok(places)
+}
+
+fn push_all(places: &mut Vec<Place>, more: &[Place]) -> Result<(), Memory>
+    ensures { OnOk result (places.new.items ≡ places.old.items ++ more.now) }
+{
+    for at in more {
+        places.push(*at)?;
+    }
+    Ok(())
+}
+
+fn push_maps(
+    alloc: Global,
+    places: &mut Vec<Place>,
+    trees: &[Tree],
+    bases: &[Place],
+) -> Result<(), Memory>
+    ensures { OnOk result (places.new.items ≡ places.old.items ++ flat_map (maps_at trees.now) bases.now) }
+{
+    for base in bases {
+        let maps = map_places(alloc, trees, *base)?;
+        push_all(places, &maps)?;
+    }
+    Ok(())
+}
+
+// ---- own generic names
+
+/// The generic names of an interface.
+#[derive(Drop)]
+struct OwnNames<'a> {
+    trees: &'a [Tree],
+    interface: Place,
+    names: IndexSet<String>,
+    ghost held: { (q : List ℕ) → is_among (map string_bytes names.keys) q ≡ is_among (generic_names trees.now interface) q },
+}
+
+fn note_own(alloc: Global, names: &mut IndexSet<String>, name: &str) -> Result<(), Memory>
+    ensures { OnOk result ((q : List ℕ) → is_among (map string_bytes names.new.keys) q ≡ is_among (name.now ∷ map string_bytes names.old.keys) q) }
+{
+    if names.contains(name) {
+        return Ok(());
+    }
+    let name = String::from_str(alloc, name)?;
+    let _added = names.insert(name)?;
+    Ok(())
+}
+
+fn names_at(alloc: Global, trees: &[Tree], places: &[Place]) -> Result<IndexSet<String>, Memory>
+    ensures { IfOk result (λ s. (q : List ℕ) → is_among (map string_bytes s.keys) q ≡ is_among (map (own_name_of trees.now) places.now) q) }
+{
+    let mut names = IndexSet::new(alloc);
+    for at in places {
+        note_own(alloc, &mut names, own_name(trees, *at))?;
+    }
+    Ok(names)
+}
+
+fn is_own(own: &OwnNames, sought: Sought, text: &str) -> bool
+    ensures { result ≡ is_own_name (generic_names own.now.trees.now own.now.interface) sought text.now }
+{
+    match sought {
+        Sought::GenericBase => false,
+        Sought::BaseInterface => own.names.contains(text),
+        Sought::MemberType => own.names.contains(text),
+    }
+}
+
+// ---- its references
+
+fn attribute_of(sought: Sought) -> &'static str
+    ensures { result.now ≡ attribute_sought sought }
+{
+    match sought {
+        Sought::GenericBase => "baseType",
+        Sought::BaseInterface => "type",
+        Sought::MemberType => "type",
+    }
+}
+
+fn push_reference(
+    alloc: Global,
+    references: &mut Vec<FaceReference>,
+    own: &OwnNames,
+    sought: Sought,
+    at: Place,
+) -> Result<(), Memory>
+    ensures { OnOk result (references.new.items ≡ references.old.items ++ reference_at own.now.trees.now own.now.interface sought at) }
+{
+    match attribute(own.trees, attribute_of(sought), at) {
+        None => Ok(()),
+        Some(text) => {
+            let copy = Text::of(alloc, text)?;
+            references.push(FaceReference {
+                place: at,
+                text: copy,
+                sought,
+                own: is_own(own, sought, text),
+            })?;
+            Ok(())
+        }
+    }
+}
+
+fn push_references(
+    alloc: Global,
+    references: &mut Vec<FaceReference>,
+    own: &OwnNames,
+    sought: Sought,
+    places: &[Place],
+) -> Result<(), Memory>
+    ensures { OnOk result (references.new.items ≡ references.old.items ++ flat_map (reference_at own.now.trees.now own.now.interface sought) places.now) }
+{
+    for at in places {
+        push_reference(alloc, references, own, sought, *at)?;
+    }
+    Ok(())
+}
+
+/// All references in an interface.
+fn push_references_in(
+    alloc: Global,
+    references: &mut Vec<FaceReference>,
+    trees: &[Tree],
+    at: Place,
+) -> Result<(), Memory>
+    ensures { OnOk result (references.new.items ≡ references.old.items ++ references_at trees.now at) }
+{
+    let generics = held_in(alloc, trees, "GenericTypeSet", "GenericType", at)?;
+    let bases = held_in(alloc, trees, "BaseInterfaceSet", "Base", at)?;
+    let typed = typed_places(alloc, trees, &bases, at)?;
+    let own = OwnNames {
+        trees,
+        interface: at,
+        names: names_at(alloc, trees, &generics)?,
+    };
+    push_references(alloc, references, &own, Sought::GenericBase, &generics)?;
+    push_references(alloc, references, &own, Sought::BaseInterface, &bases)?;
+    push_references(alloc, references, &own, Sought::MemberType, &typed)
+}
+
+// ---- all interfaces
+
+fn face_places(alloc: Global, space: &Space) -> Result<Vec<Place>, Memory>
+    ensures { IfOk result (λ p. p.items ≡ face_places_of space.now) }
+{
+    let mut places = Vec::new(alloc);
+    for one in space.declared() {
+        if one.item.is_face() {
+            places.push(one.place)?;
+        }
+    }
+    Ok(places)
+}
+
+/// All references in the interfaces of a sheet.
+pub(crate) fn face_references(
+    alloc: Global,
+    sheet: &NamedTrees,
+) -> Result<Vec<FaceReference>, Memory>
+    ensures { IfOk result (λ r. r.items ≡ face_references_of sheet.now.trees.now sheet.now.space.now) }
+{
+    let places = face_places(alloc, sheet.space)?;
+    let mut references = Vec::new(alloc);
+    for at in places.as_slice() {
+        push_references_in(alloc, &mut references, sheet.trees, *at)?;
+    }
+    Ok(references)
+}
+
+// ---- the types that are used
+
+fn type_or_first(id: Option<TypeId>) -> TypeId
+    ensures { result ≡ id_or_first id }
+{
+    match id {
+        None => TypeId(0),
+        Some(id) => id,
+    }
+}
+
+fn push_used_at(
+    alloc: Global,
+    used: &mut Used,
+    sheet: &NamedTrees,
+    reference: &FaceReference,
+) -> Result<(), Memory>
+    ensures { OnOk result (used.new ≡ used.old ++ used_at sheet.now.space.now reference.now) }
+{
+    match reference.sought {
+        Sought::GenericBase => Ok(()),
+        Sought::BaseInterface => Ok(()),
+        Sought::MemberType => {
+            if reference.own {
+                return Ok(());
+            }
+            let id = id_found(alloc, sheet, reference.place, Some(reference.text.as_str()))?;
+            used.push(type_or_first(id))
+        }
+    }
+}
+
+/// Puts the types last that parameters, arguments and maps of interfaces name.
+pub(crate) fn push_face_types(
+    alloc: Global,
+    used: &mut Used,
+    sheet: &NamedTrees,
+) -> Result<(), Memory>
+    ensures { OnOk result (used.new ≡ used.old ++ face_types sheet.now.trees.now sheet.now.space.now) }
+{
+    let references = face_references(alloc, sheet)?;
+    for reference in references.as_slice() {
+        push_used_at(alloc, used, sheet, reference)?;
+    }
+    Ok(())
+}

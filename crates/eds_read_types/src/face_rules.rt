@@ -1,0 +1,202 @@
+//! The rules on the references inside interfaces.
+
+ghost use Rattle.std.specs.Prelude.{◌≡◌, List, IfOk, is_some, option_map};
+ghost use Rattle.std.specs.List.{flat_map};
+ghost use Rattle.eds_base.specs.declared.refusal.Refusal.{Refusal as refusal};
+ghost use Rattle.eds_base.specs.Refusals.{least};
+ghost use Rattle.eds_tree.specs.declared.tree.Node.{Node as node};
+ghost use Rattle.eds_names.specs.LookUp.{Names};
+ghost use Rattle.eds_types.specs.Rows.{Table};
+ghost use Rattle.eds_read_types.specs.declared.face_reference.FaceReference.{FaceReference as reference_of};
+ghost use Rattle.eds_read_types.specs.FaceReferences.{at_faces};
+ghost use Rattle.eds_read_types.specs.FaceRules.{suits as suits_sought, unsuited_by, generic_as, open_by};
+
+use crate::breaks::{broken, broken_with};
+use crate::face_reference::{FaceReference, Sought, face_references};
+use crate::reference::id_found;
+use crate::rules::SheetRule;
+use crate::sheet_rows::{SheetRows, is_open};
+use eds_base::{Memory, Refusal, Rule, TypeId};
+use eds_names::Item;
+use eds_types::TypeRows;
+use std::alloc::Global;
+use std::marker::PhantomData;
+
+/// A rule that is judged at one reference inside an interface at a time.
+pub(crate) trait FaceRule {
+    /// All that breaks it there, of which the trees, the names and the rows of all types are given.
+    ghost breaks: { List (List node) → Names → Table → reference_of → List refusal };
+
+    /// The least of them.
+    fn least_at(
+        alloc: Global,
+        sheet: &SheetRows,
+        reference: &FaceReference,
+    ) -> Result<Option<Refusal>, Memory>
+        ensures { IfOk result (λ r. r ≡ least (breaks sheet.now.graph.now.sheet.now.trees.now sheet.now.graph.now.sheet.now.space.now sheet.now.rows.now reference.now)) };
+}
+
+fn least_over_faces<R: FaceRule>(
+    alloc: Global,
+    sheet: &SheetRows,
+    references: &[FaceReference],
+) -> Result<Option<Refusal>, Memory>
+    ensures { IfOk result (λ r. r ≡ least (flat_map (R.breaks sheet.now.graph.now.sheet.now.trees.now sheet.now.graph.now.sheet.now.space.now sheet.now.rows.now) references.now)) }
+{
+    let mut found = None;
+    for reference in references {
+        let here = R::least_at(alloc, sheet, reference)?;
+        found = Refusal::first(found, here);
+    }
+    Ok(found)
+}
+
+/// A rule that is judged at the references inside all interfaces.
+pub(crate) struct AtFaces<R>(PhantomData<R>);
+
+impl<R: FaceRule> SheetRule for AtFaces<R> {
+    ghost use Rattle.eds_read_types.specs.FaceReferences.{at_faces};
+
+    ghost breaks = { λ trees names word. at_faces R.breaks trees names };
+
+    fn least(alloc: Global, sheet: &SheetRows) -> Result<Option<Refusal>, Memory> {
+        let references = face_references(alloc, sheet.graph.sheet)?;
+        least_over_faces::<R>(alloc, sheet, &references)
+    }
+}
+
+// ---- a reference finds something
+
+/// A reference inside an interface finds something, unless it is a generic name of the interface itself.
+pub(crate) struct UnresolvedInFace;
+
+impl FaceRule for UnresolvedInFace {
+    ghost use Rattle.eds_read_types.specs.FaceRules.{unresolved_in_face};
+
+    ghost breaks = { unresolved_in_face };
+
+    fn least_at(
+        alloc: Global,
+        sheet: &SheetRows,
+        reference: &FaceReference,
+    ) -> Result<Option<Refusal>, Memory> {
+        if reference.own {
+            return Ok(None);
+        }
+        let text = reference.text.as_str();
+        match sheet
+            .graph
+            .sheet
+            .space
+            .look_up(alloc, reference.place, text)?
+        {
+            Some(_) => Ok(None),
+            None => Ok(Some(broken_with(alloc, Rule::Unresolved, reference.place, text)?)),
+        }
+    }
+}
+
+// ---- what it finds is of the wanted kind
+
+fn suits(sought: Sought, found: Item) -> bool
+    ensures { result ≡ suits_sought sought found }
+{
+    match sought {
+        Sought::BaseInterface => found.is_face(),
+        Sought::GenericBase => found.is_sort(),
+        Sought::MemberType => found.is_sort(),
+    }
+}
+
+fn judge_item(
+    alloc: Global,
+    reference: &FaceReference,
+    found: Option<Item>,
+) -> Result<Option<Refusal>, Memory>
+    ensures { IfOk result (λ r. r ≡ least (unsuited_by reference.now found)) }
+{
+    match found {
+        None => Ok(None),
+        Some(item) => {
+            if suits(reference.sought, item) {
+                return Ok(None);
+            }
+            let text = reference.text.as_str();
+            Ok(Some(broken_with(alloc, Rule::WrongKind, reference.place, text)?))
+        }
+    }
+}
+
+fn judge_generic(alloc: Global, reference: &FaceReference) -> Result<Option<Refusal>, Memory>
+    ensures { IfOk result (λ r. r ≡ least (generic_as reference.now reference.now.sought)) }
+{
+    match reference.sought {
+        Sought::BaseInterface => {
+            let text = reference.text.as_str();
+            Ok(Some(broken_with(alloc, Rule::WrongKind, reference.place, text)?))
+        }
+        Sought::GenericBase => Ok(None),
+        Sought::MemberType => Ok(None),
+    }
+}
+
+/// What it finds is an interface for a base, and a type elsewhere; a generic name is a type.
+pub(crate) struct WrongKindInFace;
+
+impl FaceRule for WrongKindInFace {
+    ghost use Rattle.eds_read_types.specs.FaceRules.{wrong_kind_in_face};
+
+    ghost breaks = { wrong_kind_in_face };
+
+    fn least_at(
+        alloc: Global,
+        sheet: &SheetRows,
+        reference: &FaceReference,
+    ) -> Result<Option<Refusal>, Memory> {
+        if reference.own {
+            return judge_generic(alloc, reference);
+        }
+        let space = sheet.graph.sheet.space;
+        let found = space.look_up(alloc, reference.place, reference.text.as_str())?;
+        judge_item(alloc, reference, found)
+    }
+}
+
+// ---- none names an open binary
+
+fn judge_open(rows: &TypeRows, reference: &FaceReference, id: Option<TypeId>) -> Option<Refusal>
+    ensures { result ≡ least (open_by reference.now rows.now id) }
+{
+    match id {
+        None => None,
+        Some(id) => {
+            if is_open(rows, id) {
+                Some(broken(Rule::LengthField, reference.place))
+            } else {
+                None
+            }
+        }
+    }
+}
+
+/// It names no open binary: the size of one is told by a container alone.
+pub(crate) struct OpenInFace;
+
+impl FaceRule for OpenInFace {
+    ghost use Rattle.eds_read_types.specs.FaceRules.{open_in_face};
+
+    ghost breaks = { open_in_face };
+
+    fn least_at(
+        alloc: Global,
+        sheet: &SheetRows,
+        reference: &FaceReference,
+    ) -> Result<Option<Refusal>, Memory> {
+        if reference.own {
+            return Ok(None);
+        }
+        let text = Some(reference.text.as_str());
+        let id = id_found(alloc, sheet.graph.sheet, reference.place, text)?;
+        Ok(judge_open(sheet.rows, reference, id))
+    }
+}
