@@ -845,7 +845,7 @@ few_row : (trees : List (List Node)) (names : Names) (id : ℕ) (d : Declared) �
 few_row trees names id d h = go (is_container trees d.place) refl
   where
     go : (b : Bool) → is_container trees d.place ≡ b → has_few_entries (table_row trees names id d) ≡ true
-    go true e = rw e (rw (length-map (entries_at trees d.place) (part_at trees names), length-map (trailers_at trees d.place) (part_at trees names)) (and_from (nat_le (length (entries_at trees d.place)) 32767) (nat_le (length (trailers_at trees d.place)) 32767) (le-leb (length (entries_at trees d.place)) 32767 (h e).0) (le-leb (length (trailers_at trees d.place)) 32767 (h e).1)))
+    go true e = rw e (rw (length-map (entries_at trees d.place) (part_at trees names)) (and_from (nat_le (length (entries_at trees d.place)) 32767) true (le-leb (length (entries_at trees d.place)) 32767 (h e).0) refl))
     go false e = subst (λ c. (nat_le (length (entries_in c)) 32767 && nat_le (length (trailers_in c)) 32767) ≡ true) (sym (no_container trees names id d.place e)) refl
 
 few_rows : (trees : List (List Node)) (names : Names) (n : ℕ) (ds : List Declared) → AllByRecursion (λ (d : Declared). HasFew trees d.place) ds → list_all has_few_entries (rows_from trees names n ds) ≡ true

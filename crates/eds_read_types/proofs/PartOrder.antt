@@ -13,7 +13,7 @@ use Rattle.eds_tree.specs.Trees.{node_name}
 use Rattle.eds_names.specs.LookUp.{Names}
 use Rattle.eds_types.specs.Rules.{AreDistinct, name_of}
 use Rattle.eds_read_types.specs.Places.{element, is_element, children}
-use Rattle.eds_read_types.specs.Entries.{parts_held, is_part_list, entries_at, trailers_at, own_parts_at, parts_at}
+use Rattle.eds_read_types.specs.Entries.{parts_held, is_part_list, entries_at, parts_at}
 use Rattle.eds_read_types.specs.PartRows.{part_at}
 use Rattle.eds_read_types.proofs.PartNames.{row_names}
 use Rattle.eds_read_types.proofs.SequenceFacts.{has-front, has-back, has-parts, has-between, distinct-both, distinct-front, distinct-back, distinct-disjoint, disjoint-at, disjoint-by, distinct-between}
@@ -68,10 +68,12 @@ module _ (trees : List (List Node)) (names : Names) where
   one_kind : (at : Place) → is_element trees (codes "EntryList") at ≡ true → is_element trees (codes "TrailerEntryList") at ≡ false
   one_kind at e = ap (λ name. same name (codes "TrailerEntryList")) ((bytes_eq-Decides (node_name (element trees at)) (codes "EntryList")).0 e)
 
-  -- the names of a container's parts by its lists are those in document order
-  pub by_lists : (at : Place) → AreDistinct (row_names trees names (parts_at trees at)) → AreDistinct (row_names trees names (own_parts_at trees at)) × ((x : List ℕ) → Has (row_names trees names (own_parts_at trees at)) x → Has (row_names trees names (parts_at trees at)) x)
+  -- the names of a container's entries are among those of its parts in document order
+  pub by_lists : (at : Place) → AreDistinct (row_names trees names (parts_at trees at)) → AreDistinct (row_names trees names (entries_at trees at)) × ((x : List ℕ) → Has (row_names trees names (entries_at trees at)) x → Has (row_names trees names (parts_at trees at)) x)
   by_lists at d =
       let all = names-over (filter (is_part_list trees) (children trees at)) in
-      let own = names-append (entries_at trees at) (trailers_at trees at) ∙ ap (λ xs. xs ++ row_names trees names (trailers_at trees at)) (names-over (filter (is_element trees (codes "EntryList")) (children trees at))) ∙ ap (λ xs. flat_map names_held (filter (is_element trees (codes "EntryList")) (children trees at)) ++ xs) (names-over (filter (is_element trees (codes "TrailerEntryList")) (children trees at))) in
+      let own = names-over (filter (is_element trees (codes "EntryList")) (children trees at)) in
+      let others = flat_map names_held (filter (is_element trees (codes "TrailerEntryList")) (children trees at)) in
       let both = sorted (is_element trees (codes "EntryList")) (is_element trees (codes "TrailerEntryList")) one_kind names_held (children trees at) (subst AreDistinct all d) in
-      (subst AreDistinct (sym own) both.0, λ x h. subst (λ xs. Has xs x) (sym all) (both.1 x (subst (λ xs. Has xs x) own h)))
+      let entries = flat_map names_held (filter (is_element trees (codes "EntryList")) (children trees at)) in
+      (subst AreDistinct (sym own) (distinct-front entries others both.0), λ x h. subst (λ xs. Has xs x) (sym all) (both.1 x (has-front entries others x (subst (λ xs. Has xs x) own h))))

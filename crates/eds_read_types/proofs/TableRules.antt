@@ -30,11 +30,12 @@ use Rattle.eds_types.specs.declared.row.Kind.TheVariants as kind
 use Rattle.eds_types.specs.declared.row.Container.{Container}
 use Rattle.eds_types.specs.declared.row.Part.{Part}
 use Rattle.eds_types.specs.declared.row.Part.TheVariants as part
-use Rattle.eds_types.specs.Rows.{base_in, base_of, own_parts, placed_from, chain_before, chain_within, container_by, container_in, container_of, number_of_id, entries_in}
+use Rattle.eds_types.specs.Rows.{Table, base_in, base_of, own_parts, placed_from, chain_before, chain_within, container_by, container_in, container_of, number_of_id, entries_in}
 use Rattle.eds_types.specs.Sizes.{open_of}
 use Rattle.eds_types.specs.Fields.{type_by}
 use Rattle.eds_graph.specs.Ways.{is_circular, is_endless}
 use Rattle.eds_graph.specs.Search.{Has as is_one_of}
+use Rattle.eds_graph.proofs.Tests.{has-left}
 use Rattle.eds_types.specs.Rules.{AreDistinct, IsContainer, IsListing, KindKeeps, HasKind, DerivesFrom, IsNested, name_of, KeepsRules}
 use Rattle.eds_read_types.specs.declared.numbers.FormAndDomain.{FormAndDomain}
 use Rattle.eds_read_types.specs.Places.{element, is_element, is_container, is_sub_range, is_number, attribute, own_name, elements, types, type_places}
@@ -42,14 +43,14 @@ use Rattle.eds_read_types.specs.References.{references, row_for, judged_text, ju
 use Rattle.eds_read_types.specs.ReadTypes.{id_of, id_found}
 use Rattle.eds_read_types.specs.declared.part_sort.PartSort.{PartSort}
 use Rattle.eds_read_types.specs.declared.part_sort.PartSort.TheVariants as sorts
-use Rattle.eds_read_types.specs.Entries.{sort_at, entries_at, trailers_at, own_parts_at, parts_at, named_among}
+use Rattle.eds_read_types.specs.Entries.{sort_at, entries_at, parts_at, named_among}
 use Rattle.eds_read_types.specs.Parts.{parts_in}
 use Rattle.eds_read_types.specs.PartRows.{entry_id, padding_bits, unread, plain_part, part_by, part_at}
 use Rattle.eds_read_types.specs.Forms.{int_form_of, bool_form_of}
 use Rattle.eds_read_types.specs.Listings.{listing_of}
-use Rattle.eds_read_types.specs.Bases.{base_named, base_found, bases_of, base_at}
+use Rattle.eds_read_types.specs.Bases.{may_derive, base_named, base_found, bases_of, base_at}
 use Rattle.eds_read_types.specs.Numbers.{form_or_wide, numbers_of}
-use Rattle.eds_read_types.specs.TableRows.{container_at, scalar_kind_by, scalar_kind_in, kind_of, table_row, rows_from, table_rows, has_few_entries, are_few}
+use Rattle.eds_read_types.specs.TableRows.{is_abstract, container_at, scalar_kind_by, scalar_kind_in, kind_of, table_row, rows_from, table_rows, has_few_entries, are_few}
 use Rattle.eds_read_types.specs.TableBreaks.{table_breaks}
 use Rattle.eds_read_types.specs.DuplicateEntry.{repeats, names_above, duplicates_at}
 use Rattle.eds_read_types.specs.declared.sort.Sort.{Sort}
@@ -250,6 +251,16 @@ base_of_container trees names at base is h e = text_of (attribute trees (codes "
     text_of None k f = absurd cc
     text_of (Some text) k f = found text (look_up names at text) k f
 
+-- the container at a place, if it is one, has no base and is not abstract
+abbrev pub IsBare : List (List Node) → Place → Type 0
+IsBare trees at = is_container trees at ≡ true → (attribute trees (codes "baseType") at ≡ None) × (is_abstract trees at ≡ false)
+
+-- the same of a row, which has no trailers yet
+pub record IsBareRow (t : Table) (id : ℕ) (c : Container) : Type 0 where
+  pub concrete : c.hidden ≡ false
+  pub root : base_of t id ≡ None
+  pub trailers : c.trailers ≡ []
+
 -- ---- the rows of a sheet
 
 module _ (trees : List (List Node)) (names : Names) (word : Option (List ℕ)) (named : names_in trees ≡ Ok names) (u : IsUnbroken trees names word) where
@@ -401,19 +412,19 @@ module _ (trees : List (List Node)) (names : Names) (word : Option (List ℕ)) (
   entry_there q id d there = subst (λ n. (entry_id trees names q).0 < n) (sym (length-rows trees names 0 (types names))) (id_there trees names q (slice_get_within (types names) id d there) named)
 
   -- the parts of a container's row are those that its elements are
-  parts_from : (id : ℕ) (d : Declared) → container_of (table_rows trees names) id ≡ Some (container_at trees names d.place) → parts_in (container_of (table_rows trees names) id) ≡ map (part_at trees names) (own_parts_at trees d.place)
-  parts_from id d is = ap parts_in is ∙ sym (map-append (part_at trees names) (entries_at trees d.place) (trailers_at trees d.place))
+  parts_from : (id : ℕ) (d : Declared) → container_of (table_rows trees names) id ≡ Some (container_at trees names d.place) → parts_in (container_of (table_rows trees names) id) ≡ map (part_at trees names) (entries_at trees d.place)
+  parts_from id d is = ap parts_in is ∙ append-nil (map (part_at trees names) (entries_at trees d.place))
 
   -- a part of a container's row, and the element that it was read from
-  part_there : (id : ℕ) (d : Declared) → container_of (table_rows trees names) id ≡ Some (container_at trees names d.place) → (k : ℕ) (q : Place) → slice_get (own_parts_at trees d.place) k ≡ Some q
+  part_there : (id : ℕ) (d : Declared) → container_of (table_rows trees names) id ≡ Some (container_at trees names d.place) → (k : ℕ) (q : Place) → slice_get (entries_at trees d.place) k ≡ Some q
       → slice_get (parts_in (container_of (table_rows trees names) id)) k ≡ Some (part_at trees names q)
-  part_there id d is k q e = ap (λ ps. slice_get ps k) (parts_from id d is) ∙ (slice_get-map (part_at trees names) (own_parts_at trees d.place) k ∙ ap (option_map (part_at trees names)) e)
+  part_there id d is k q e = ap (λ ps. slice_get ps k) (parts_from id d is) ∙ (slice_get-map (part_at trees names) (entries_at trees d.place) k ∙ ap (option_map (part_at trees names)) e)
 
   container_is : (id : ℕ) (d : Declared) → slice_get (types names) id ≡ Some d → is_container trees d.place ≡ true → container_of (table_rows trees names) id ≡ Some (container_at trees names d.place)
   container_is id d there con = ap container_in (row_of id d there) ∙ rw con refl
 
   -- the type of an entry has bits, and is no open binary
-  entry_solid : (id : ℕ) (d : Declared) → slice_get (types names) id ≡ Some d → is_container trees d.place ≡ true → (k : ℕ) (q : Place) → slice_get (own_parts_at trees d.place) k ≡ Some q → sort_at trees q ≡ Some sorts.Entry
+  entry_solid : (id : ℕ) (d : Declared) → slice_get (types names) id ≡ Some d → is_container trees d.place ≡ true → (k : ℕ) (q : Place) → slice_get (entries_at trees d.place) k ≡ Some q → sort_at trees q ≡ Some sorts.Entry
       → IsSolid (table_rows trees names) (entry_id trees names q).0 × (open_of (table_rows trees names) (entry_id trees names q).0 ≡ None)
   entry_solid id d there con k q e s =
       let place = place_there (types names) id d there in
@@ -439,13 +450,12 @@ module _ (trees : List (List Node)) (names : Names) (word : Option (List ℕ)) (
   unread_keeps id k = pad_keeps id k 8 (lit≤ tt) (lit≤ tt)
 
   -- what a part names, its container names
-  holds_part : (id : ℕ) (d : Declared) → is_container trees d.place ≡ true → (k : ℕ) (q : Place) → slice_get (own_parts_at trees d.place) k ≡ Some q → (x : ℕ) → type_by (Some (part_at trees names q)) ≡ Some x → is_one_of (types_in (table_row trees names id d).kind) x
+  holds_part : (id : ℕ) (d : Declared) → is_container trees d.place ≡ true → (k : ℕ) (q : Place) → slice_get (entries_at trees d.place) k ≡ Some q → (x : ℕ) → type_by (Some (part_at trees names q)) ≡ Some x → is_one_of (types_in (table_row trees names id d).kind) x
   holds_part id d con k q e x h =
-      let there = slice_get-map (part_at trees names) (own_parts_at trees d.place) k ∙ ap (option_map (part_at trees names)) e in
-      let all : types_of (map (part_at trees names) (own_parts_at trees d.place)) ≡ types_of (map (part_at trees names) (entries_at trees d.place)) ++ types_of (map (part_at trees names) (trailers_at trees d.place)) = ap types_of (map-append (part_at trees names) (entries_at trees d.place) (trailers_at trees d.place)) ∙ flat_map-append (λ (p : Part). option_to_list (type_by (Some p))) (map (part_at trees names) (entries_at trees d.place)) (map (part_at trees names) (trailers_at trees d.place)) in
-      rw con (subst (λ xs. is_one_of xs x) all (part_named (map (part_at trees names) (own_parts_at trees d.place)) k (part_at trees names q) there x h))
+      let there = slice_get-map (part_at trees names) (entries_at trees d.place) k ∙ ap (option_map (part_at trees names)) e in
+      rw con (has-left (types_of (map (part_at trees names) (entries_at trees d.place))) (types_of []) x (part_named (map (part_at trees names) (entries_at trees d.place)) k (part_at trees names q) there x h))
 
-  plain_keeps : (id : ℕ) (d : Declared) → slice_get (types names) id ≡ Some d → is_container trees d.place ≡ true → (k : ℕ) (q : Place) → slice_get (own_parts_at trees d.place) k ≡ Some q → sort_at trees q ≡ Some sorts.Entry
+  plain_keeps : (id : ℕ) (d : Declared) → slice_get (types names) id ≡ Some d → is_container trees d.place ≡ true → (k : ℕ) (q : Place) → slice_get (entries_at trees d.place) k ≡ Some q → sort_at trees q ≡ Some sorts.Entry
       → EntryKeeps (table_rows trees names) rank (record { container = id; place = k; part = plain_part trees names q })
   plain_keeps id d there con k q e s =
       record {
@@ -462,7 +472,7 @@ module _ (trees : List (List Node)) (names : Names) (word : Option (List ℕ)) (
           let lt = subst (λ n. n < length (table_rows trees names)) is (entry_there q id d there) in
           nested (table_rows trees names) levels apart id (table_row trees names id d) (row_of id d there) inner lt (holds_part id d con k q e inner (ap (λ p. type_by (Some p)) here ∙ same_type))
 
-  part_keeps : (id : ℕ) (d : Declared) → slice_get (types names) id ≡ Some d → is_container trees d.place ≡ true → (k : ℕ) (q : Place) → slice_get (own_parts_at trees d.place) k ≡ Some q
+  part_keeps : (id : ℕ) (d : Declared) → slice_get (types names) id ≡ Some d → is_container trees d.place ≡ true → (k : ℕ) (q : Place) → slice_get (entries_at trees d.place) k ≡ Some q
       → EntryKeeps (table_rows trees names) rank (record { container = id; place = k; part = part_at trees names q })
   part_keeps id d there con k q e = go (sort_at trees q) refl
     where
@@ -475,21 +485,21 @@ module _ (trees : List (List Node)) (names : Names) (word : Option (List ℕ)) (
       go (Some sorts.Length) s = unread_keeps id k
       go (Some sorts.ErrorControl) s = unread_keeps id k
 
-  entry_keeps : (id : ℕ) (d : Declared) → slice_get (types names) id ≡ Some d → is_container trees d.place ≡ true → (k : ℕ) (p : Part) → slice_get (map (part_at trees names) (own_parts_at trees d.place)) k ≡ Some p → EntryKeeps (table_rows trees names) rank (record { container = id; place = k; part = p })
+  entry_keeps : (id : ℕ) (d : Declared) → slice_get (types names) id ≡ Some d → is_container trees d.place ≡ true → (k : ℕ) (p : Part) → slice_get (map (part_at trees names) (entries_at trees d.place)) k ≡ Some p → EntryKeeps (table_rows trees names) rank (record { container = id; place = k; part = p })
   entry_keeps id d there con k p e =
-      let q = mapped_there (part_at trees names) (own_parts_at trees d.place) k p e in
+      let q = mapped_there (part_at trees names) (entries_at trees d.place) k p e in
       subst (λ part. EntryKeeps (table_rows trees names) rank (record { container = id; place = k; part = part })) q.2 (part_keeps id d there con k q.0 q.1)
 
-  container_row : (id : ℕ) (d : Declared) → slice_get (types names) id ≡ Some d → is_container trees d.place ≡ true → (length (entries_at trees d.place) ≤ 32767) × (length (trailers_at trees d.place) ≤ 32767)
+  container_row : (id : ℕ) (d : Declared) → slice_get (types names) id ≡ Some d → is_container trees d.place ≡ true → length (entries_at trees d.place) ≤ 32767
       → KeepsRow (table_rows trees names) rank id (record { name = d.name; base = base_found trees names d.place; kind = kind.Con (container_at trees names d.place) })
   container_row id d there is few =
       record {
-        kind_keeps = (subst (λ n. n ≤ 32767) (sym (length-map (entries_at trees d.place) (part_at trees names))) few.0, subst (λ n. n ≤ 32767) (sym (length-map (trailers_at trees d.place) (part_at trees names))) few.1);
+        kind_keeps = (subst (λ n. n ≤ 32767) (sym (length-map (entries_at trees d.place) (part_at trees names))) few, lit≤ tt);
         derives = λ base e. rw is at (derives_number id d there base e);
         plain = record {
           bare = refl;
-          parts = subst (λ ps. AllByRecursion (EntryKeeps (table_rows trees names) rank) (placed_from id 0 ps)) (map-append (part_at trees names) (entries_at trees d.place) (trailers_at trees d.place))
-              (placed_all (EntryKeeps (table_rows trees names) rank) id 0 (map (part_at trees names) (own_parts_at trees d.place)) (λ k p e i same_place. subst (λ n. EntryKeeps (table_rows trees names) rank (record { container = id; place = n; part = p })) (to_sum k i same_place) (entry_keeps id d there is k p e)));
+          parts = subst (λ ps. AllByRecursion (EntryKeeps (table_rows trees names) rank) (placed_from id 0 ps)) (sym (append-nil (map (part_at trees names) (entries_at trees d.place))))
+              (placed_all (EntryKeeps (table_rows trees names) rank) id 0 (map (part_at trees names) (entries_at trees d.place)) (λ k p e i same_place. subst (λ n. EntryKeeps (table_rows trees names) rank (record { container = id; place = n; part = p })) (to_sum k i same_place) (entry_keeps id d there is k p e)));
         };
       }
     where
@@ -553,10 +563,10 @@ module _ (trees : List (List Node)) (names : Names) (word : Option (List ℕ)) (
     where
       go : (b : Bool) → is_container trees d.place ≡ b → KeepsRow (table_rows trees names) rank id (table_row trees names id d)
       go true is =
-          let both : (nat_le (length (map (part_at trees names) (entries_at trees d.place))) 32767 && nat_le (length (map (part_at trees names) (trailers_at trees d.place))) 32767) ≡ true = rw is at few in
-          let short = and_parts (nat_le (length (map (part_at trees names) (entries_at trees d.place))) 32767) (nat_le (length (map (part_at trees names) (trailers_at trees d.place))) 32767) both in
+          let both : (nat_le (length (map (part_at trees names) (entries_at trees d.place))) 32767 && true) ≡ true = rw is at few in
+          let short = and_parts (nat_le (length (map (part_at trees names) (entries_at trees d.place))) 32767) true both in
           let kind_is : kind_of trees names id d.place ≡ kind.Con (container_at trees names d.place) = rw is refl in
-          subst (λ k. KeepsRow (table_rows trees names) rank id (record { name = d.name; base = base_found trees names d.place; kind = k })) (sym kind_is) (container_row id d there is (subst (λ n. n ≤ 32767) (length-map (entries_at trees d.place) (part_at trees names)) (leb-true _ 32767 short.0), subst (λ n. n ≤ 32767) (length-map (trailers_at trees d.place) (part_at trees names)) (leb-true _ 32767 short.1)))
+          subst (λ k. KeepsRow (table_rows trees names) rank id (record { name = d.name; base = base_found trees names d.place; kind = k })) (sym kind_is) (container_row id d there is (subst (λ n. n ≤ 32767) (length-map (entries_at trees d.place) (part_at trees names)) (leb-true _ 32767 short.0)))
       go false is = scalar_row id d there is
 
   -- ---- names along chains
@@ -623,7 +633,7 @@ module _ (trees : List (List Node)) (names : Names) (word : Option (List ℕ)) (
       | inr c ↦ (let there = place_there (types names) k c.declared c.there in
           let above = names_above 16 (table_rows trees names) (base_of (table_rows trees names) k) in
           let ordered = parts_at trees c.declared.place in
-          let parts = own_parts_at trees c.declared.place in
+          let parts = entries_at trees c.declared.place in
           let others = filter_map name_mark (parts_above (table_rows trees names) leveled.level leveled.low leveled.base_level k) in
           let differ : repeats trees above (named_among trees ordered) ≡ [] = rw c.is at (over-none (duplicates_at trees (table_rows trees names)) 0 (type_places names) u.duplicates k c.declared.place there k (omega arith)) in
           let apart = no_repeats trees above (named_among trees ordered) differ in
@@ -661,6 +671,26 @@ module _ (trees : List (List Node)) (names : Names) (word : Option (List ℕ)) (
               (unmet (nat_lt 512 (family_size (table_rows trees names) id) && not (is_endless (course_of (table_rows trees names) id))) _ (over-none (family_at trees (table_rows trees names)) 0 (type_places names) u.families id r.declared.place there id (omega arith))) in
           subst (λ n. n ≤ 512) (size_is (table_rows trees names) id (slice_get_within (table_rows trees names) id row q)) size
 
+  -- of a sheet whose containers have no base and are not abstract, so have no rows
+  bare_rows : AllByRecursion (IsBare trees) (elements trees) → (id : ℕ) (c : Container) → container_of (table_rows trees names) id ≡ Some c → IsBareRow (table_rows trees names) id c
+  bare_rows bare id c e = elim (container_cases id) [
+      | inl none ↦ absurd (some_none (container_of (table_rows trees names) id) c e none)
+      | inr r ↦ (let at = at_one (IsBare trees) (type_places names) (of_types (IsBare trees) trees names named bare) id r.declared.place (place_there (types names) id r.declared r.there) r.is in
+          let same : container_at trees names r.declared.place ≡ c = (let both : Some (container_at trees names r.declared.place) ≡ Some c = sym r.container ∙ e in cc) in
+          record {
+            concrete = sym (ap (λ (k : Container). k.hidden) same) ∙ at.1;
+            root = ap base_in (row_of id r.declared r.there) ∙ ap number_of_id (ap (id_found names r.declared.place) (no_name (may_derive trees r.declared.place) at.0));
+            trailers = sym (ap (λ (k : Container). k.trailers) same);
+          })
+    ]
+    where
+      some_none : (o : Option Container) (c : Container) → o ≡ Some c → o ≡ None → ⊥
+      some_none o c e f = cc
+
+      no_name : {text : Option (List ℕ)} (b : Bool) → text ≡ None → (if b then text else None) ≡ None
+      no_name true e = e
+      no_name false e = refl
+
   plain_rows : NamesDiffer names.declared → are_few (table_rows trees names) ≡ true → ArePlainRows (table_rows trees names)
   plain_rows apart few =
       let parts = and_parts (nat_le (length (table_rows trees names)) 4096) (list_all has_few_entries (table_rows trees names)) few in
@@ -695,3 +725,7 @@ table_plain trees names word shaped named none =
 -- they keep the rules
 pub table_keeps : (trees : List (List Node)) (names : Names) (word : Option (List ℕ)) → shape_verdict trees ≡ Ok tt → names_in trees ≡ Ok names → least (table_breaks trees names word) ≡ None → KeepsRules (table_rows trees names)
 table_keeps trees names word shaped named none = keeps_by_rows (table_rows trees names) (table_plain trees names word shaped named none)
+
+-- where no container has a base or is abstract, their rows say so
+pub table_bare : (trees : List (List Node)) (names : Names) (word : Option (List ℕ)) → names_in trees ≡ Ok names → least (table_breaks trees names word) ≡ None → AllByRecursion (IsBare trees) (elements trees) → (id : ℕ) (c : Container) → container_of (table_rows trees names) id ≡ Some c → IsBareRow (table_rows trees names) id c
+table_bare trees names word named none bare = bare_rows trees names word named (unbroken trees names word (least-none (table_breaks trees names word) none)) bare

@@ -1,5 +1,5 @@
 -- The parts of containers as elements, in document order (CCSDS 876.0-B, container entries).
-use Rattle.std.specs.Prelude.{ℕ, List, ◌++◌, ◌||◌, codes, filter, Bool, true, false, is_some, Option, Some, None}
+use Rattle.std.specs.Prelude.{ℕ, List, ◌||◌, codes, filter, Bool, true, false, is_some, Option, Some, None}
 use Rattle.std.specs.List.{flat_map}
 use Rattle.eds_base.specs.declared.ids.Place.{Place}
 use Rattle.eds_tree.specs.declared.tree.Node.{Node}
@@ -28,10 +28,6 @@ entries_at trees at = flat_map (parts_held trees) (held trees (codes "EntryList"
 -- its trailers
 abbrev pub trailers_at : List (List Node) → Place → List Place
 trailers_at trees at = flat_map (parts_held trees) (held trees (codes "TrailerEntryList") at)
-
--- all its parts: the entries, and then the trailers
-abbrev pub own_parts_at : List (List Node) → Place → List Place
-own_parts_at trees at = entries_at trees at ++ trailers_at trees at
 
 -- a list of entries or of trailers
 abbrev pub is_part_list : List (List Node) → Place → Bool

@@ -9,7 +9,7 @@ use Rattle.eds_types.specs.declared.row.Part.{Part}
 use Rattle.eds_types.specs.Rows.{Table, container_of, entries_in, trailers_in, Placed}
 use Rattle.eds_read_types.specs.Places.{type_places}
 use Rattle.eds_read_types.specs.Bases.{breaks_over}
-use Rattle.eds_read_types.specs.Entries.{own_parts_at}
+use Rattle.eds_read_types.specs.Entries.{entries_at}
 use Rattle.eds_read_types.specs.TableRows.{table_rows}
 
 -- ---- at each type
@@ -42,7 +42,7 @@ judged_part judge t container i at = judged_part_by judge t container i at (slic
 
 -- at the parts of a type, if it is a container; their elements stand in the same order
 abbrev pub judged_parts : PartJudgement → RowJudgement
-judged_parts judge trees t id at = breaks_over (judged_part judge t id) 0 (own_parts_at trees at)
+judged_parts judge trees t id at = breaks_over (judged_part judge t id) 0 (entries_at trees at)
 
 -- at the parts of all types
 abbrev pub at_parts : PartJudgement → List (List Node) → Names → List Refusal

@@ -15,7 +15,7 @@ use Rattle.eds_types.specs.declared.row.Container.{Container}
 use Rattle.eds_types.specs.Rows.{container_by, entries_in, trailers_in}
 use Rattle.eds_read_types.specs.declared.numbers.FormAndDomain.{FormAndDomain}
 use Rattle.eds_read_types.specs.Places.{attribute, is_container, types, type_places}
-use Rattle.eds_read_types.specs.Entries.{entries_at, trailers_at}
+use Rattle.eds_read_types.specs.Entries.{entries_at}
 use Rattle.eds_read_types.specs.PartRows.{part_at}
 use Rattle.eds_read_types.specs.Forms.{int_form_of, bool_form_of}
 use Rattle.eds_read_types.specs.Listings.{listing_of}
@@ -32,9 +32,9 @@ use Rattle.eds_read_types.specs.Numbers.{form_or_wide, truth_or_octet, text_or_o
 abbrev pub is_abstract : List (List Node) → Place → Bool
 is_abstract trees at = spells_flag true (attribute trees (codes "abstract") at)
 
--- the container at a place, without its constraints
+-- the container at a place, without its constraints and trailers
 abbrev pub container_at : List (List Node) → Names → Place → Container
-container_at trees names at = record { hidden = is_abstract trees at; constraints = []; entries = map (part_at trees names) (entries_at trees at); trailers = map (part_at trees names) (trailers_at trees at) }
+container_at trees names at = record { hidden = is_abstract trees at; constraints = []; entries = map (part_at trees names) (entries_at trees at); trailers = [] }
 
 -- ---- types
 

@@ -3,7 +3,7 @@
 ghost use Rattle.std.specs.Prelude.{◌≡◌, ◌++◌, filter, option_map, IfOk, OnOk, is_some};
 ghost use Rattle.std.specs.List.{flat_map};
 ghost use Rattle.eds_read_types.specs.Places.{children};
-ghost use Rattle.eds_read_types.specs.Entries.{sort_at as sort_in, is_part as is_part_in, parts_held, entries_at as entries_in, trailers_at as trailers_in, own_parts_at as own_parts_in, is_part_list as is_part_list_in, parts_at as parts_in_order, type_named as type_named_in, has_name_by, has_name as has_name_in, named_among as named_in};
+ghost use Rattle.eds_read_types.specs.Entries.{sort_at as sort_in, is_part as is_part_in, parts_held, entries_at as entries_in, trailers_at as trailers_in, is_part_list as is_part_list_in, parts_at as parts_in_order, type_named as type_named_in, has_name_by, has_name as has_name_in, named_among as named_in};
 
 use crate::element::{attribute, children_at, is_element, name_at, push_held};
 use crate::part_sort::{PartSort, part_sort_of};
@@ -70,18 +70,6 @@ pub(crate) fn trailers_at(alloc: Global, trees: &[Tree], at: Place) -> Result<Ve
     let mut lists = Vec::new(alloc);
     push_held(&mut lists, trees, "TrailerEntryList", at)?;
     parts_in(alloc, trees, &lists)
-}
-
-/// All parts of a container: its entries, and then its trailers.
-pub(crate) fn own_parts_at(alloc: Global, trees: &[Tree], at: Place) -> Result<Vec<Place>, Memory>
-    ensures { IfOk result (λ p. p.items ≡ own_parts_in trees.now at) }
-{
-    let mut parts = entries_at(alloc, trees, at)?;
-    let trailers = trailers_at(alloc, trees, at)?;
-    for trailer in &trailers {
-        parts.push(*trailer)?;
-    }
-    Ok(parts)
 }
 
 fn is_part_list(trees: &[Tree], at: Place) -> bool

@@ -16,7 +16,7 @@ ghost use Rattle.eds_read_types.specs.LimitFamily.{family_size};
 ghost use Rattle.eds_read_types.specs.Nesting.{course_of, meets_base_cycle};
 
 use crate::base_graph::BaseGraph;
-use crate::entry::own_parts_at;
+use crate::entry::entries_at;
 use eds_base::{Memory, Place, Refusal, TypeId};
 use eds_graph::Course;
 use eds_types::{Kind, Part, TypeRows};
@@ -235,7 +235,7 @@ impl<R: PartRule> RowRule for AtParts<R> {
         id: usize,
         at: Place,
     ) -> Result<Option<Refusal>, Memory> {
-        let places = own_parts_at(alloc, sheet.graph.sheet.trees, at)?;
+        let places = entries_at(alloc, sheet.graph.sheet.trees, at)?;
         least_over_parts::<R>(alloc, sheet.rows, id, &places)
     }
 }

@@ -10,7 +10,7 @@ ghost use Rattle.eds_read_types.specs.TableRows.{is_abstract as is_abstract_at, 
 
 use crate::base_graph::{BaseGraph, base_found};
 use crate::element::{attribute, is_container, tree_at};
-use crate::entry::{entries_at, trailers_at};
+use crate::entry::entries_at;
 use crate::form::{bool_form_of, int_form_of};
 use crate::listing::listing_of;
 use crate::named_trees::NamedTrees;
@@ -52,19 +52,17 @@ fn parts_read(alloc: Global, sheet: &NamedTrees, places: &[Place]) -> Result<Par
     Ok(parts)
 }
 
-/// The container at a place, without its constraints.
+/// The container at a place, without its constraints and trailers.
 fn container_at(alloc: Global, sheet: &NamedTrees, at: Place) -> Result<Container, Memory>
     ensures { IfOk result (λ c. c ≡ container_by sheet.now.trees.now sheet.now.space.now at) }
 {
     let places = entries_at(alloc, sheet.trees, at)?;
     let entries = parts_read(alloc, sheet, &places)?;
-    let places = trailers_at(alloc, sheet.trees, at)?;
-    let trailers = parts_read(alloc, sheet, &places)?;
     Ok(Container {
         hidden: is_abstract(sheet.trees, at),
         constraints: Constraints::new(alloc),
         entries,
-        trailers,
+        trailers: Parts::new(alloc),
     })
 }
 
