@@ -1,5 +1,5 @@
 -- The type that a command names, among those of its sheet.
-use Rattle.std.specs.Prelude.{◌≡◌, ℕ, ◌<◌, length}
+use Rattle.std.specs.Prelude.{ℕ, ◌<◌, length}
 use Rattle.std.specs.Option.{option_map_or}
 use Rattle.eds_types.specs.Rows.{Table}
 use Rattle.eds_types.specs.Overlap.{IsClear}

@@ -171,11 +171,11 @@ module _ (t : Table) (l : HasLevels t) where
   after_within : (n id : ℕ) → id < length t → base_after n t id < length t
   unfolding base_after
   after_within zero id lt = lt
-  after_within (suc n) id lt = go (base_of t id) refl
+  after_within (suc n) id lt = go (base_of t id) refl (λ base. after_within n base)
     where
-      go : (o : Option ℕ) → base_of t id ≡ o → after_base (base_after n t) id (base_of t id) < length t
-      go None q = rw q lt
-      go (Some base) q = rw q (after_within n base (l.base_within id base q))
+      go : (o : Option ℕ) → base_of t id ≡ o → ((base : ℕ) → base < length t → base_after n t base < length t) → after_base (base_after n t) id (base_of t id) < length t
+      go None q rest = rw q lt
+      go (Some base) q rest = rw q (rest base (l.base_within id base q))
 
   pub topmost_within : (id : ℕ) → id < length t → topmost t id < length t
   topmost_within id lt = after_within (length t) id lt

@@ -170,8 +170,8 @@ module _ (t : Table) (l : HasLevels t) where
             itself-is x c p lt true (inr r) = absurd r
             itself-is x c p lt false h = absurd h
 
-            of_type : (c : ℕ) → c < length t → IsFamily (families t) c → IsNamed c
-            of_type c inside f = elim (split f.one (length t)) [
+            of_type : (x c : ℕ) → c < length t → IsFamily (families t) x c → IsNamed c
+            of_type x c inside f = elim (split f.one (length t)) [
               | inl lt ↦ record { one = f.one; within = lt; is = sym (family-in t f.one lt) ∙ f.is }
               | inr past ↦ let same_number : f.one ≡ c = sym (family-past t f.one past) ∙ f.is in absurd (omega arith)
             ]
@@ -179,7 +179,7 @@ module _ (t : Table) (l : HasLevels t) where
             either : (x c : ℕ) → P x → x < length t → c < length t → Has (held_in t (families t) x) c → IsNamed c
             either x c p here inside h = elim (has-either (itself t x) (held_over (families t) x 0 t) c h) [
               | inl k ↦ itself-is x c p here (is_some (base_of t x)) k
-              | inr k ↦ of_type c inside (family-held (families t) x 0 t c k)
+              | inr k ↦ of_type x c inside (family-held (families t) x 0 t c k)
             ]
 
         named : (b : ℕ) → (topmost t id ≡ b) ⊎ (leads (holding t (families t)) (topmost t id) b ≡ true) → P b

@@ -387,8 +387,8 @@ module _ (trees : List (List Node)) (names : Names) (word : Option (List ℕ)) (
       go (Some d) e = (d.place, place_there (types names) id d e)
 
   -- no type reaches itself
-  apart : (id : ℕ) → id < length (table_rows trees names) → is_circular (course_of (table_rows trees names) id) ≡ false
-  apart id lt =
+  circleless : (id : ℕ) → id < length (table_rows trees names) → is_circular (course_of (table_rows trees names) id) ≡ false
+  circleless id lt =
       let at = place_of id lt in
       let here = unmet (is_circular (course_of (table_rows trees names) id) && not (meets_base_cycle (table_rows trees names) id)) _ (over-none (type_cycle_at trees (table_rows trees names)) 0 (type_places names) u.type_cycles id at.0 at.1 id (omega arith)) in
       alone (is_circular (course_of (table_rows trees names) id)) (meets_base_cycle (table_rows trees names) id) (no_base_cycle (table_rows trees names) levels id) here
@@ -470,7 +470,7 @@ module _ (trees : List (List Node)) (names : Names) (word : Option (List ℕ)) (
       nests inner same_type =
           let is : (entry_id trees names q).0 ≡ inner = cc in
           let lt = subst (λ n. n < length (table_rows trees names)) is (entry_there q id d there) in
-          nested (table_rows trees names) levels apart id (table_row trees names id d) (row_of id d there) inner lt (holds_part id d con k q e inner (ap (λ p. type_by (Some p)) here ∙ same_type))
+          nested (table_rows trees names) levels circleless id (table_row trees names id d) (row_of id d there) inner lt (holds_part id d con k q e inner (ap (λ p. type_by (Some p)) here ∙ same_type))
 
   part_keeps : (id : ℕ) (d : Declared) → slice_get (types names) id ≡ Some d → is_container trees d.place ≡ true → (k : ℕ) (q : Place) → slice_get (entries_at trees d.place) k ≡ Some q
       → EntryKeeps (table_rows trees names) rank (record { container = id; place = k; part = part_at trees names q })
@@ -667,7 +667,7 @@ module _ (trees : List (List Node)) (names : Names) (word : Option (List ℕ)) (
           let r = row_at trees names 0 (types names) id row q id (omega arith) in
           let there = place_there (types names) id r.declared r.there in
           let within = slice_get_within (table_rows trees names) id row q in
-          let size = small (family_size (table_rows trees names) id) (is_endless (course_of (table_rows trees names) id)) (ap is_endless (course-ends (table_rows trees names) levels apart id within))
+          let size = small (family_size (table_rows trees names) id) (is_endless (course_of (table_rows trees names) id)) (ap is_endless (course-ends (table_rows trees names) levels circleless id within))
               (unmet (nat_lt 512 (family_size (table_rows trees names) id) && not (is_endless (course_of (table_rows trees names) id))) _ (over-none (family_at trees (table_rows trees names)) 0 (type_places names) u.families id r.declared.place there id (omega arith))) in
           subst (λ n. n ≤ 512) (size_is (table_rows trees names) id (slice_get_within (table_rows trees names) id row q)) size
 
@@ -700,8 +700,8 @@ module _ (trees : List (List Node)) (names : Names) (word : Option (List ℕ)) (
         levels = leveled;
         family_few = few_in_family;
         rank = rank;
-        nesting = few_ranks (table_rows trees names) levels apart few_nested;
-        base_rank = λ id base e. base_ranks (table_rows trees names) levels apart id base (within id base (slice_get (table_rows trees names) id) refl e) e;
+        nesting = few_ranks (table_rows trees names) levels circleless few_nested;
+        base_rank = λ id base e. base_ranks (table_rows trees names) levels circleless id base (within id base (slice_get (table_rows trees names) id) refl e) e;
         named = own_differ;
         rows = λ id row e. row_keeps id row e (all_there has_few_entries (table_rows trees names) parts.1 id row e);
       }

@@ -14,7 +14,8 @@ use Rattle.eds_read_types.specs.declared.face_reference.Sought.{Sought}
 use Rattle.eds_read_types.specs.declared.face_reference.Sought.TheVariants.{BaseInterface, GenericBase, MemberType}
 use Rattle.eds_read_types.specs.declared.face_reference.FaceReference.{FaceReference}
 use Rattle.eds_read_types.specs.Places.{attribute, own_name, held}
-use Rattle.eds_read_types.specs.TableRows.{table_rows, id_or_first}
+use Rattle.eds_read_types.specs.TableRows.{table_rows}
+use Rattle.eds_read_types.specs.PartRows.{id_or_first}
 use Rattle.eds_read_types.specs.ReadTypes.{id_found}
 
 -- ---- the elements of an interface

@@ -4,7 +4,7 @@ ghost use Rattle.std.specs.Prelude.{◌≡◌, ◌++◌, ◌∷◌, [], ℕ, Lis
 ghost use Rattle.std.specs.List.{flat_map};
 ghost use Rattle.eds_names.specs.Repeats.{is_among};
 ghost use Rattle.eds_read_types.specs.Places.{held, own_name as own_name_of};
-ghost use Rattle.eds_read_types.specs.TableRows.{id_or_first};
+ghost use Rattle.eds_read_types.specs.PartRows.{id_or_first};
 ghost use Rattle.eds_read_types.specs.FaceReferences.{held_in as held_in_sets, generic_places as generics_at, generic_names, base_places as bases_at, map_places as maps_at, parameter_places as parameters_at, argument_places as arguments_at, typed_places as typed_at, is_own as is_own_name, attribute_of as attribute_sought, reference_at, references_in as references_at, face_places as face_places_of, face_references as face_references_of, used_at, face_types};
 
 use crate::element::{attribute, own_name, push_held};

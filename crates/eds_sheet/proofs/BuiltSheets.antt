@@ -1,6 +1,6 @@
 -- Of plain rows packing is built for all types, and each type but an open binary is clear.
 use Rattle.std.proofs.Common.{◌≡◌, ℕ, ◌+◌, List, [], ◌∷◌, slice_get, Option, Some, None, refl, sym, ap, subst}
-use Rattle.std.specs.Prelude.{Bool, true, false, IsSome}
+use Rattle.std.specs.Prelude.{true, false, IsSome}
 use Rattle.std.specs.List.{AllByRecursion}
 use Rattle.eds_types.specs.declared.row.TypeRow.{TypeRow}
 use Rattle.eds_types.specs.declared.row.Kind.{Kind}
