@@ -3,7 +3,6 @@ pub mod Steps
 pub mod Chains
 pub mod Members
 pub mod WithValues
-pub mod Mapped
 pub mod HeldNumbers
 pub mod EntryValues
 pub mod MembersOfValues
@@ -13,4 +12,7 @@ pub mod Depths
 pub mod Near
 pub mod Levels
 pub mod Plains
-pub mod ValueSizes
+pub mod Tokens
+pub mod Merged
+pub mod Sound
+pub mod Sorted

@@ -1,5 +1,5 @@
 -- The JSON of a value.
-use Rattle.std.specs.Prelude.{ℕ, ◌-◌, ◌^◌, pos, neg_ℤ, ◌≤ℤ◌, List, [], ◌∷◌, codes, map, Option, Some, None, slice_get}
+use Rattle.std.specs.Prelude.{ℕ, List, [], ◌∷◌, codes, map, Option, Some, None, slice_get}
 use Rattle.hex.specs.Hex.{encode_lower}
 use Rattle.serde_json.specs.Data.{Data, boolean, number, string, array, object, Members, no_members, put}
 use Rattle.serde_json.specs.Find.{of_integer}
@@ -56,20 +56,3 @@ json_text t v = compact_text (json_of_value t v)
 
 abbrev pub arguments_text : Table → List (List ℕ × TypeId) → List Plain → List ℕ
 arguments_text t fs vs = compact_text (arguments_data t (arguments fs) vs)
-
--- ---- what can be written
-
-abbrev mutual
-  -- JSON holds whole numbers of 64 bits, with or without a sign, and the value's numbers are such
-  pub AreHeld : Plain → Type 0
-  AreHeld (num n) = (neg_ℤ (pos (2 ^ 63)) ≤ℤ n) × (n ≤ℤ pos (2 ^ 64 - 1))
-  AreHeld (label l) = Unit {0}
-  AreHeld (truth b) = Unit {0}
-  AreHeld (text s) = Unit {0}
-  AreHeld (bits n o) = Unit {0}
-  AreHeld (items vs) = AllHeld vs
-  AreHeld (fields k vs) = AllHeld vs
-
-  pub AllHeld : Plains → Type 0
-  AllHeld none = Unit {0}
-  AllHeld (more v vs) = AreHeld v × AllHeld vs

@@ -4,5 +4,7 @@ pub mod ValueOfJson
 pub mod Json
 pub mod Paths
 pub mod Laws
+pub mod Members
 pub mod Seen
 pub mod Stops
+pub mod Written

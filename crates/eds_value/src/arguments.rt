@@ -1,26 +1,24 @@
 //! Objects of arguments.
 
-ghost use Rattle.std.specs.Prelude.{◌≡◌, IfOk, Ok, OnOk, map};
-ghost use Rattle.std.specs.List.{AllByRecursion};
+ghost use Rattle.std.specs.Prelude.{◌≡◌, IfOk, Ok, map};
 ghost use Rattle.std.specs.Str.{IsUtf8};
-ghost use Rattle.serde_json.specs.Data.{no_members};
-ghost use Rattle.serde_json.specs.View.{members_view, view};
 ghost use Rattle.eds_base.specs.Answering.{Answers};
 ghost use Rattle.eds_types.specs.Plain.{plain};
 ghost use Rattle.eds_value.specs.Entries.{argument as argument_of, arguments as arguments_of};
 ghost use Rattle.eds_value.specs.Seen.{seen};
 ghost use Rattle.eds_value.specs.Json.{arguments_in};
 ghost use Rattle.eds_value.specs.Laws.{AreNamed, AreOfTypes, HasNoTypeEntry};
-ghost use Rattle.eds_value.specs.JsonOfValue.{AreHeld, arguments_data as data_of_arguments, arguments_text, json_of_value, with_values};
+ghost use Rattle.eds_value.specs.JsonOfValue.{arguments_text};
 
 use crate::ValueFail;
 use crate::entry::Entry;
-use crate::json_of_value::put_member;
+use crate::json_of_value::writer;
+use crate::member::{arranged, members_of_arguments};
 use crate::read::json_of;
 use crate::value_of_json::arguments_of_json;
+use crate::write::write_object;
 use eds_base::{Fail, Items, Memory, Octets, Text, TypeId};
 use eds_types::{TypeTable, Value, Values};
-use serde_json::{Map, Value as Json};
 use std::alloc::Global;
 
 /// The names and types of arguments, in their order.
@@ -80,26 +78,6 @@ pub fn args_from_json(
     }
 }
 
-// The JSON of arguments.
-fn arguments_data(
-    alloc: Global,
-    table: &TypeTable,
-    entries: &[Entry<'_>],
-    values: &Values,
-) -> Result<Json, Memory>
-    requires { AllByRecursion AreHeld values.now }
-    ensures { IfOk result (λ j. view j ≡ data_of_arguments table.now (map seen entries.now) values.now) }
-{
-    let mut members = Map::new(alloc);
-    let count = entries.len().min(values.len());
-    for i in 0..count {
-        if let Some(value) = values.get(i) {
-            put_member(alloc, value, table, &mut members, &entries[i])?;
-        }
-    }
-    Ok(Json::Object(members))
-}
-
 /// The JSON text of arguments' values: an object of one member for each, in byte order of their names and without spaces. Where
 /// the arguments' names differ and no entry of the table is named `$type`, as in every sheet, it is read as those values again.
 pub fn args_to_json(
@@ -115,6 +93,9 @@ pub fn args_to_json(
 {
     table.keeps_rules();
     let entries = arguments(alloc, fields.as_slice())?;
-    let json = arguments_data(alloc, table, entries.as_slice(), values)?;
-    Ok(Octets::from_vec(json.to_vec(alloc)?))
+    let members = members_of_arguments(alloc, entries.as_slice(), values)?;
+    let members = arranged(alloc, members.as_slice())?;
+    let mut out = writer(alloc)?;
+    write_object(alloc, members.as_slice(), table, &mut out)?;
+    Ok(Octets::from_vec(out.into_inner()))
 }

@@ -68,7 +68,7 @@ pub fn entries_along<'a>(
     ensures { IfOk result (λ es. map seen es ≡ entries_in table.now id.0) }
 {
     let sequence = table.sequence_of(alloc, id)?;
-    let mut entries = Items::new(alloc);
+    let mut entries = Items::from_vec(Vec::with_capacity(alloc, sequence.len())?);
     let mut rest = sequence.as_slice();
     while let [(container, place), after @ ..] = rest {
         push_entry(&mut entries, entry_at(table, *container, *place))?;

@@ -6,10 +6,12 @@ mod entry;
 mod fail;
 mod json_of_value;
 pub mod law;
+mod member;
 mod path;
 mod read;
 mod stop;
 mod value_of_json;
+mod write;
 
 pub use arguments::{FieldList, args_from_json, args_to_json};
 pub use fail::ValueFail;

@@ -1,0 +1,44 @@
+-- The members of an object, as the code has them.
+use Rattle.std.specs.Prelude.{List, [], ◌∷◌, ◌&&◌, ℕ, Bool, true}
+use Rattle.std.specs.Borrow.{Bor}
+use Rattle.std.specs.Ordering.{is_lt, nat_cmp}
+use Rattle.std.specs.Cmp.Lexicographic.{slice_cmp}
+use Rattle.serde_json.specs.Data.{Data, string, Members, no_members, member, put}
+use Rattle.eds_types.specs.Plain.{plain}
+use Rattle.eds_types.specs.Rows.{Table}
+use Rattle.eds_value.specs.declared.member.Content.{Content}
+use Rattle.eds_value.specs.declared.member.Content.TheVariants as content
+use Rattle.eds_value.specs.declared.member.Member.{Member}
+use Rattle.eds_value.specs.JsonOfValue.{json_of_value}
+
+-- the JSON of what a member has: its container's name, or a value
+abbrev pub content_json : Table → Content → Data
+content_json t (content.TypeName name) = string name.now
+content_json t (content.Held value) = json_of_value t (plain value.now)
+
+-- the members, one after another
+abbrev pub in_order : Table → List Member → Members
+in_order t [] = no_members
+in_order t (m ∷ ms) = member m.name.now (content_json t m.content) (in_order t ms)
+
+-- the members, each put among those before it
+abbrev pub put_all : Table → List Member → Members → Members
+put_all t [] found = found
+put_all t (m ∷ ms) found = put_all t ms (put m.name.now (content_json t m.content) found)
+
+-- the same of a map's entries
+abbrev pub entries_in_order : Table → List (Bor (List ℕ) × Content) → Members
+entries_in_order t [] = no_members
+entries_in_order t (e ∷ es) = member e.0.now (content_json t e.1) (entries_in_order t es)
+
+-- ---- order
+
+-- the first name, where there is one, is above this one
+abbrev pub is_below : List ℕ → List Member → Bool
+is_below name [] = true
+is_below name (m ∷ ms) = is_lt (slice_cmp nat_cmp name m.name.now)
+
+-- each name is above the one before it
+abbrev pub ascends : List Member → Bool
+ascends [] = true
+ascends (m ∷ ms) = is_below m.name.now ms && ascends ms
