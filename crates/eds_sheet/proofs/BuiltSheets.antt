@@ -1,19 +1,22 @@
 -- Of plain rows packing is built for all types, and each type but an open binary is clear.
-use Rattle.std.proofs.Common.{◌≡◌, ℕ, ◌+◌, List, [], ◌∷◌, slice_get, Option, Some, None, refl, sym, ap, subst}
+use Rattle.std.proofs.Common.{◌≡◌, ℕ, ◌+◌, List, [], ◌∷◌, ◌++◌, slice_get, Option, Some, None, refl, ap, ◌∙◌}
 use Rattle.std.specs.Prelude.{true, false, IsSome}
 use Rattle.std.specs.List.{AllByRecursion}
 use Rattle.eds_types.specs.declared.row.TypeRow.{TypeRow}
 use Rattle.eds_types.specs.declared.row.Kind.{Kind}
 use Rattle.eds_types.specs.declared.row.Kind.TheVariants as kind
+use Rattle.eds_types.specs.declared.row.Container.{Container}
 use Rattle.eds_types.specs.declared.row.Part.{Part}
 use Rattle.eds_types.specs.declared.row.Part.TheVariants as part
 use Rattle.eds_types.specs.Overlap.{IsClear}
-use Rattle.eds_types.specs.Rows.{Table, base_in, base_of, container_by, container_in, Placed, placed_from}
+use Rattle.eds_types.specs.Rows.{Table, base_of, container_by, container_in, container_of, Placed, placed_from}
 use Rattle.eds_types.specs.Sizes.{open_of}
+use Rattle.eds_types.proofs.AllOf.{All-front}
 use Rattle.eds_overlap.specs.Underived.{HasNoBases}
 use Rattle.eds_overlap.proofs.UnderivedTables.{underived_are_clear}
 use Rattle.eds_pack.specs.BuiltTables.{IsBuiltPart, IsBuiltKind, IsBuiltTable}
 use Rattle.eds_read_types.proofs.PlainRules.{PartFits, EntryKeeps, IsPlainKind, ArePlainRows}
+use Rattle.eds_read_types.proofs.TableRules.{IsBareRow}
 
 part_built : (t : Table) (p : Placed) (q : Part) → PartFits t p q → IsBuiltPart q
 part_built t p (part.Plain name id) h = tt
@@ -27,17 +30,19 @@ parts_built : (t : Table) (rank : ℕ → ℕ) (k i : ℕ) (ps : List Part) → 
 parts_built t rank k i [] h = tt
 parts_built t rank k i (p ∷ ps) h = (part_built t _ p (h.0).fits, parts_built t rank k (i + 1) ps h.1)
 
-kind_built : (t : Table) (rank : ℕ → ℕ) (id : ℕ) (base : Option ℕ) (k : Kind) → IsPlainKind t rank id base k → IsBuiltKind base k
-kind_built t rank id base (kind.Int form spans) h = tt
-kind_built t rank id base (kind.Enum form listing) h = tt
-kind_built t rank id base (kind.Bool form) h = tt
-kind_built t rank id base (kind.Str form) h = tt
-kind_built t rank id base (kind.Bin n free) h = tt
-kind_built t rank id base (kind.Arr item n) h = tt
-kind_built t rank id base (kind.Con c) h = record { concrete = h.concrete; root = h.root; entries = parts_built t rank id 0 c.entries h.entries; trailers = h.trailers }
+kind_built : (t : Table) (rank : ℕ → ℕ) (id : ℕ) (k : Kind) → ((c : Container) → container_by k ≡ Some c → IsBareRow t id c) → IsPlainKind t rank id k → IsBuiltKind (base_of t id) k
+kind_built t rank id (kind.Int form spans) bare h = tt
+kind_built t rank id (kind.Enum form listing) bare h = tt
+kind_built t rank id (kind.Bool form) bare h = tt
+kind_built t rank id (kind.Str form) bare h = tt
+kind_built t rank id (kind.Bin n free) bare h = tt
+kind_built t rank id (kind.Arr item n) bare h = tt
+kind_built t rank id (kind.Con c) bare h =
+    let row = bare c refl in
+    record { concrete = row.concrete; root = row.root; entries = All-front IsBuiltPart c.entries c.trailers (parts_built t rank id 0 (c.entries ++ c.trailers) h.parts); trailers = row.trailers }
 
-pub plain_built : (t : Table) → ArePlainRows t → IsBuiltTable t
-plain_built t plain id row e = kind_built t plain.rank id (base_of t id) row.kind (subst (λ base. IsPlainKind t plain.rank id base row.kind) (sym (ap base_in e)) (plain.rows id row e).plain)
+pub plain_built : (t : Table) → ArePlainRows t → ((id : ℕ) (c : Container) → container_of t id ≡ Some c → IsBareRow t id c) → IsBuiltTable t
+plain_built t plain bare id row e = kind_built t plain.rank id row.kind (λ c q. bare id c (ap container_in e ∙ q)) (plain.rows id row e).plain
 
 never : false ≡ true → ⊥
 never e = cc

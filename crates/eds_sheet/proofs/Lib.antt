@@ -2,5 +2,6 @@ pub mod Lists
 pub mod Stages
 pub mod FilesLemmas
 pub mod CompiledLaws
+pub mod BareSheets
 pub mod BuiltSheets
 pub mod SoundSheets

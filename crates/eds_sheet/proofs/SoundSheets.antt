@@ -17,11 +17,12 @@ use Rattle.eds_read_types.specs.declared.table.SheetTypes.{SheetTypes}
 use Rattle.eds_read_types.specs.TableRead.{table_read}
 use Rattle.eds_read_types.specs.TableRows.{table_rows}
 use Rattle.eds_read_types.proofs.TableFacts.{table_unbroken, table_word, table_closed}
-use Rattle.eds_read_types.proofs.TableRules.{table_keeps, table_plain}
+use Rattle.eds_read_types.proofs.TableRules.{table_keeps, table_plain, table_bare}
 use Rattle.eds_sheet.specs.declared.sheet.Sheet.{Sheet}
 use Rattle.eds_sheet.specs.Files.{trees_in}
 use Rattle.eds_sheet.specs.Pending.{pending_verdict}
 use Rattle.eds_sheet.specs.Compiled.{sheet_of, compiled_trees, compiled}
+use Rattle.eds_sheet.proofs.BareSheets.{bare}
 use Rattle.eds_sheet.proofs.BuiltSheets.{plain_built, built_clear}
 use Rattle.eds_sheet.specs.Laws.{IsSound, SheetsAreSound}
 
@@ -34,11 +35,11 @@ clear_word : (t : Table) → IsBuiltTable t → (w : Option TypeId) → IfSome w
 clear_word t built None h = tt
 clear_word t built (Some id) h = built_clear t built id.0 h
 
-typed-sound : (trees : List (List Node)) (word : Option (List ℕ)) (names : Names) (typed : SheetTypes) → shape_verdict trees ≡ Ok tt → names_in trees ≡ Ok names → table_read trees names word ≡ Ok typed → IsSound word (sheet_of names typed)
-typed-sound trees word names typed shaped named read =
+typed-sound : (trees : List (List Node)) (word : Option (List ℕ)) (names : Names) (typed : SheetTypes) → shape_verdict trees ≡ Ok tt → pending_verdict trees ≡ Ok tt → names_in trees ≡ Ok names → table_read trees names word ≡ Ok typed → IsSound word (sheet_of names typed)
+typed-sound trees word names typed shaped built named read =
     let unbroken = table_unbroken trees names word typed read in
     let known = table_word trees names word typed read in
-    let all : IsBuiltTable typed.table = subst (λ (t : SheetTypes). IsBuiltTable t.table) unbroken.1 (plain_built (table_rows trees names) (table_plain trees names word shaped named unbroken.0)) in
+    let all : IsBuiltTable typed.table = subst (λ (t : SheetTypes). IsBuiltTable t.table) unbroken.1 (plain_built (table_rows trees names) (table_plain trees names word shaped named unbroken.0) (table_bare trees names word named unbroken.0 (bare trees built))) in
     record {
       rules = subst (λ (t : SheetTypes). KeepsRules t.table) unbroken.1 (table_keeps trees names word shaped named unbroken.0);
       built = all;
@@ -54,7 +55,7 @@ trees-sound trees word sheet h =
     let named = answered (names_in trees) _ sheet built.2 in
     let typed = answered (table_read trees named.0 word) _ sheet named.2 in
     let is : sheet_of named.0 typed.0 ≡ sheet = cc in
-    subst (IsSound word) is (typed-sound trees word named.0 typed.0 shaped.1 named.1 typed.1)
+    subst (IsSound word) is (typed-sound trees word named.0 typed.0 shaped.1 built.1 named.1 typed.1)
 
 pub sheets-sound : SheetsAreSound
 unfolding compiled
