@@ -77,9 +77,9 @@ module _ (names : List ℕ) (name : ℕ) where
   family-held : (n : ℕ) (rows : List TypeRow) (c : ℕ) → Has (held_over names name n rows) c → IsFamily c
   family-held n [] c h = absurd h
   family-held n (r ∷ rows) c h = elim (has-either (held_from names name n r) (held_over names name (n + 1) rows) c h) [
-      | inl l ↦ from (family names n == name) refl l
-      | inr k ↦ family-held (n + 1) rows c k
-    ]
+    | inl l ↦ from (family names n == name) refl l
+    | inr k ↦ family-held (n + 1) rows c k
+  ]
     where
       mapped : (xs : List ℕ) → Has (map (family names) xs) c → IsFamily c
       mapped [] k = absurd k
@@ -227,11 +227,11 @@ module _ (t : Table) (l : HasLevels t) (apart : (id : ℕ) → id < length t →
   pub few_ranks : ((id : ℕ) → id < length t → is_too_deep (course_of t id) ≡ false) → (id : ℕ) → rank t id < 32
   unfolding rank
   few_ranks few id = elim (split id (length t)) [
-      | inl lt ↦ let is = rank-is id lt in
-          let most = not_deep (height (holding t (families t)) (topmost t id)) (ap is_too_deep (sym (course-ends t l apart id lt)) ∙ few id lt) in
-          let some = some_depth t l apart id lt in omega arith
-      | inr past ↦ let is : rank t id ≡ 0 = ap rank_by (course-past t l id past) in omega arith
-    ]
+    | inl lt ↦ let is = rank-is id lt in
+        let most = not_deep (height (holding t (families t)) (topmost t id)) (ap is_too_deep (sym (course-ends t l apart id lt)) ∙ few id lt) in
+        let some = some_depth t l apart id lt in omega arith
+    | inr past ↦ let is : rank t id ≡ 0 = ap rank_by (course-past t l id past) in omega arith
+  ]
     where
       not_deep : (n : ℕ) → nat_lt 32 n ≡ false → n ≤ 32
       not_deep n e = elim (split 32 n) [

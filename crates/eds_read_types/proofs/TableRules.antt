@@ -431,7 +431,7 @@ module _ (trees : List (List Node)) (names : Names) (word : Option (List ℕ)) (
       let part = part_there id d (container_is id d there con) k q e ∙ ap (λ s. Some (part_by s trees names q)) s in
       let open_none = no_open (open_of (table_rows trees names) (entry_id trees names q).0) q (part_none length_field_at trees names u.lengths id d.place place k (plain_part trees names q) part q e) in
       let bits = full (open_of (table_rows trees names) (entry_id trees names q).0) (may_be_empty (table_rows trees names) (entry_id trees names q).0) open_none
-          (unmet (is_empty_entry (table_rows trees names) (entry_id trees names q).0) _ (part_none empty_part_at trees names u.empty_parts id d.place place k (plain_part trees names q) part q e)) in
+      (unmet (is_empty_entry (table_rows trees names) (entry_id trees names q).0) _ (part_none empty_part_at trees names u.empty_parts id d.place place k (plain_part trees names q) part q e)) in
       (solid_own (table_rows trees names) base_alike (entry_id trees names q).0 (solid (table_rows trees names) (entry_id trees names q).0 (has_bits (table_rows trees names) (entry_id trees names q).0 bits).0), open_none)
     where
       no_open : (o : Option ℕ) (at : Place) → untold_by at o ≡ [] → o ≡ None

@@ -28,8 +28,6 @@ use std::marker::PhantomData;
 pub(crate) struct SheetRows<'a> {
     pub(crate) graph: &'a BaseGraph<'a>,
     pub(crate) rows: &'a TypeRows,
-    /// For each type the family that it belongs to.
-    pub(crate) families: &'a [usize],
     /// For each type where the ways go on which its family holds others.
     pub(crate) nesting: &'a [Course],
     /// For each type whether its family has bases that go in a circle, or reaches one that has.
@@ -37,10 +35,9 @@ pub(crate) struct SheetRows<'a> {
     /// For each type how many containers its family has.
     pub(crate) sizes: &'a [usize],
     ghost read: { rows.now ≡ table_rows graph.now.sheet.now.trees.now graph.now.sheet.now.space.now },
-    ghost grouped: { families.now ≡ families_of rows.now },
-    ghost nested: { nesting.now ≡ nesting_of rows.now families.now },
-    ghost sized: { sizes.now ≡ family_sizes_of rows.now families.now },
-    ghost met: { endless.now ≡ endless_met_of rows.now families.now },
+    ghost nested: { nesting.now ≡ nesting_of rows.now (families_of rows.now) },
+    ghost met: { endless.now ≡ endless_met_of rows.now (families_of rows.now) },
+    ghost sized: { sizes.now ≡ family_sizes_of rows.now (families_of rows.now) },
 }
 
 impl<'a> SheetRows<'a> {

@@ -7,6 +7,7 @@ ghost use Rattle.eds_tree.specs.ShapeCheck.{shape_verdict};
 ghost use Rattle.eds_names.specs.LookUp.{names_in};
 ghost use Rattle.eds_read_types.specs.TableRows.{table_rows as table_rows_of};
 ghost use Rattle.eds_read_types.specs.TableBreaks.{table_breaks};
+ghost use Rattle.eds_nesting.specs.Families.{families as families_of, nesting as nesting_of, family_sizes as family_sizes_of, endless_met as endless_met_of};
 ghost use Rattle.eds_read_types.specs.TableRead.{typed_of, table_read};
 
 use crate::base_graph::{BaseGraph, bases_of, cycles_of};
@@ -18,6 +19,7 @@ use crate::sheet_rows::SheetRows;
 use crate::table_row::table_rows;
 use crate::used::used_types;
 use eds_base::{Fail, Memory, Refusal, TypeId};
+use eds_graph::Course;
 use eds_names::Space;
 use eds_nesting::{endless_met, families, family_sizes, nesting};
 use eds_tree::Trees;
@@ -53,19 +55,41 @@ fn typed_of(alloc: Global, sheet: &NamedTrees, rows: TypeRows) -> Result<SheetTy
     })
 }
 
+/// For each type where the ways go on which its family holds others.
+fn courses_of(alloc: Global, rows: &TypeRows) -> Result<Vec<Course>, Memory>
+    ensures { IfOk result (λ n. n.items ≡ nesting_of rows.now (families_of rows.now)) }
+{
+    let families = families(alloc, rows.as_slice())?;
+    nesting(alloc, rows.as_slice(), &families)
+}
+
+/// For each type whether its family has bases that go in a circle, or reaches one that has.
+fn endless_of(alloc: Global, rows: &TypeRows) -> Result<Vec<bool>, Memory>
+    ensures { IfOk result (λ m. m.items ≡ endless_met_of rows.now (families_of rows.now)) }
+{
+    let families = families(alloc, rows.as_slice())?;
+    endless_met(alloc, rows.as_slice(), &families)
+}
+
+/// For each type how many containers its family has.
+fn sizes_of(alloc: Global, rows: &TypeRows) -> Result<Vec<usize>, Memory>
+    ensures { IfOk result (λ s. s.items ≡ family_sizes_of rows.now (families_of rows.now)) }
+{
+    let families = families(alloc, rows.as_slice())?;
+    family_sizes(alloc, rows.as_slice(), &families)
+}
+
 /// The first break of all rules on the types of a sheet, of which the rows are given.
 fn least_of(alloc: Global, graph: &BaseGraph, rows: &TypeRows) -> Result<Option<Refusal>, Memory>
     requires read { rows.now ≡ table_rows_of graph.now.sheet.now.trees.now graph.now.sheet.now.space.now }
     ensures { IfOk result (λ r. r ≡ least (table_breaks graph.now.sheet.now.trees.now graph.now.sheet.now.space.now (option_map (λ w. w.now) graph.now.sheet.now.asked))) }
 {
-    let families = families(alloc, rows.as_slice())?;
-    let nesting = nesting(alloc, rows.as_slice(), &families)?;
-    let sizes = family_sizes(alloc, rows.as_slice(), &families)?;
-    let endless = endless_met(alloc, rows.as_slice(), &families)?;
+    let nesting = courses_of(alloc, rows)?;
+    let endless = endless_of(alloc, rows)?;
+    let sizes = sizes_of(alloc, rows)?;
     let sheet = SheetRows {
         graph,
         rows,
-        families: &families,
         nesting: &nesting,
         sizes: &sizes,
         endless: &endless,
