@@ -44,6 +44,42 @@ def sub_range(name, base):
 WORD = sheet(U4, U12, container("Word", entry("a", "U4"), entry("b", "U12")))
 
 
+def interfaces(*faces, types=(U4, U12)):
+    return ["PackageFile", ["Package", {"name": "P"}, ["DataTypeSet", *types], ["DeclaredInterfaceSet", *faces]]]
+
+
+def interface(name, bases=(), generics=(), parameters=()):
+    sets = [
+        ["BaseInterfaceSet", *bases],
+        ["GenericTypeSet", *(["GenericType", {"name": it}] for it in generics)],
+        ["ParameterSet", *(["Parameter", {"name": it, "type": of}] for it, of in parameters)],
+    ]
+    return ["Interface", {"name": name}, *(it for it in sets if len(it) > 1)]
+
+
+def base(of, *maps):
+    held = [["GenericTypeMapSet", *(["GenericTypeMap", {"name": it, "type": to}] for it, to in maps)]] if maps else []
+    return ["Base", {"type": of}, *held]
+
+
+def diamonds(levels):
+    """Each interface has the one before it as a base twice: 2^levels ways to the first."""
+    yield interface("X0", parameters=[("p", "U4")])
+    for it in range(levels):
+        yield interface(f"X{it + 1}", [base(f"X{it}"), base(f"X{it}")])
+
+
+def swaps(levels, parameters=()):
+    """At each level two generic names are swapped or not: 2^levels maps of the first interface."""
+    names = [f"T{it}" for it in range(2 * levels)]
+    yield interface("X0", generics=names, parameters=parameters)
+    for it in range(levels):
+        swapped = list(names)
+        swapped[2 * it : 2 * it + 2] = reversed(swapped[2 * it : 2 * it + 2])
+        yield interface(f"X{it + 1}", [base(f"X{it}", *zip(names, names)), base(f"X{it}", *zip(names, swapped))], names)
+    yield interface("Top", [base(f"X{levels}", *((it, ("U4", "U12")[k % 2]) for k, it in enumerate(names)))])
+
+
 def text(content):
     if isinstance(content, bytes):
         return content
@@ -74,6 +110,30 @@ def inputs():
     yield "an enumeration whose last label is its first", "check s", {
         "s": sheet(["EnumeratedDataType", {"name": "E"}, ["EnumerationList", *(["Enumeration", {"label": f"L{i % 32766}", "value": str(i)}] for i in range(32767))]])
     }, (1, "refused 14 BadEnumeration at 0:3\n")
+    good = "accepted types 2 containers 0 interfaces %d components 0\n"
+    yield "500 levels of interfaces that have the one before twice", "check s", {"s": interfaces(*diamonds(500))}, (0, good % 501)
+    yield "512 interfaces in one chain", "check s", {"s": interfaces(*(interface(f"X{i}", [base(f"X{i - 1}")] if i else []) for i in range(512)))}, (
+        0, good % 512)  # fmt: skip
+    yield "512 interfaces in one chain, the last first", "check s", {
+        "s": interfaces(*(interface(f"X{i}", [base(f"X{i + 1}")] if i < 511 else []) for i in range(512)))
+    }, (0, good % 512)
+    yield "a circle of 512 interfaces", "check s", {"s": interfaces(*(interface(f"X{i}", [base(f"X{(i + 1) % 512}")]) for i in range(512)))}, (
+        1, "refused 27 InterfaceCycle at 0:8\n")  # fmt: skip
+    yield "500 interfaces of 100 bases each", "check s", {
+        "s": interfaces(*(interface(f"X{i}", [base(f"X{j}") for j in range(max(0, i - 100), i)]) for i in range(500)))
+    }, (0, good % 500)
+    yield "ten levels of swapped generic names", "check s", {"s": interfaces(*swaps(10))}, (0, good % 12)
+    yield "thirty levels of swapped generic names", "check s", {"s": interfaces(*swaps(30))}, (6, "")
+    yield "eight levels of swapped generic names, and a member", "check s", {"s": interfaces(*swaps(8, [("p", "T0")]))}, (
+        1, "refused 28 DuplicateMember at 0:468 p\n")  # fmt: skip
+    yield "a map of 8,000 generic names", "check s", {
+        "s": interfaces(interface("X", generics=[f"T{i}" for i in range(8000)]), interface("Top", [base("X", *((f"T{i}", "U4") for i in range(8000)))]))
+    }, (0, good % 2)
+    yield "20,000 members", "check s", {"s": interfaces(interface("X", parameters=[(f"p{i}", "U4") for i in range(20000)]))}, (
+        1, "refused 8 Limit at 0:8 members\n")  # fmt: skip
+    yield "20,000 parameters of generic types", "check s", {
+        "s": interfaces(interface("X", generics=[f"T{i}" for i in range(20000)], parameters=[(f"p{i}", f"T{i}") for i in range(20000)]))
+    }, (0, good % 1)
     yield "200 brackets", "check s", {"s": "[" * 200}, (1, "refused 1 NotJson at 0:0\n")
     yield "4 MiB of brackets", "check s", {"s": "[" * FILE}, (1, "refused 1 NotJson at 0:0\n")
     yield "4 MiB of braces", "check s", {"s": '{"a":' * (FILE // 5)}, (1, "refused 1 NotJson at 0:0\n")

@@ -6,6 +6,7 @@ ghost use Rattle.eds_types.specs.Overlap.{IsClear};
 ghost use Rattle.eds_types.specs.Rules.{KeepsRules};
 ghost use Rattle.eds_types.specs.Sizes.{open_of};
 ghost use Rattle.eds_overlap.specs.Example.{example, WorkedFrames, WorkedPacking, WorkedTails};
+ghost use Rattle.eds_overlap.specs.FirstOverlap.{OverlapsAreFound};
 ghost use Rattle.eds_overlap.specs.Laws.{ReadingIsExact, SpellingIsCourse, OneOutcome, OneReading, FaultsStay, BoundsSuffice, SameValue, PackedIsRead, ReadIsPacked};
 ghost use Rattle.eds_overlap.specs.Underived.{UnderivedAreClear};
 ghost use Rattle.eds_overlap.specs.Used.{UsedAreClear};
@@ -86,4 +87,10 @@ pub fn underived_are_clear()
 /// binaries, each used type and each that is reached from one is clear, open binaries excepted.
 pub fn used_are_clear()
     ensures { UsedAreClear }
+{}
+
+/// The function that works out the first two containers that overlap finds what the relations of overlap say, and finds
+/// nothing only where there is nothing; and so does the one for the least number that constraints leave on a path.
+pub fn overlaps_are_found()
+    ensures { OverlapsAreFound }
 {}

@@ -109,12 +109,12 @@ apart-distinct (x ∷ xs) h = (λ has. clash (is_among xs x) h.0 (among_has xs x
 -- ---- rows
 
 -- a row at a number, with what it is declared by
-record IsRowAt (trees : List (List Node)) (names : Names) (ds : List Declared) (k id : ℕ) (row : TypeRow) : Type 0 where
-  declared : Declared
-  there : slice_get ds k ≡ Some declared
-  is : row ≡ table_row trees names id declared
+pub record IsRowAt (trees : List (List Node)) (names : Names) (ds : List Declared) (k id : ℕ) (row : TypeRow) : Type 0 where
+  pub declared : Declared
+  pub there : slice_get ds k ≡ Some declared
+  pub is : row ≡ table_row trees names id declared
 
-row_at : (trees : List (List Node)) (names : Names) (n : ℕ) (ds : List Declared) (k : ℕ) (row : TypeRow) → slice_get (rows_from trees names n ds) k ≡ Some row → (id : ℕ) → n + k ≡ id → IsRowAt trees names ds k id row
+pub row_at : (trees : List (List Node)) (names : Names) (n : ℕ) (ds : List Declared) (k : ℕ) (row : TypeRow) → slice_get (rows_from trees names n ds) k ≡ Some row → (id : ℕ) → n + k ≡ id → IsRowAt trees names ds k id row
 row_at trees names n [] k row e id q = absurd cc
 row_at trees names n (d ∷ ds) zero row e id q = let m : n ≡ id = omega arith in record { declared = d; there = refl; is = let r : table_row trees names n d ≡ row = cc in subst (λ i. row ≡ table_row trees names i d) m (sym r) }
 row_at trees names n (d ∷ ds) (suc k) row e id q = let r = row_at trees names (n + 1) ds k row e id (omega arith) in record { declared = r.declared; there = r.there; is = r.is }
@@ -128,7 +128,7 @@ row_names : (trees : List (List Node)) (names : Names) (n : ℕ) (ds : List Decl
 row_names trees names n [] = refl
 row_names trees names n (d ∷ ds) = ap (λ ns. d.name ∷ ns) (row_names trees names (n + 1) ds)
 
-place_there : (ds : List Declared) (k : ℕ) (d : Declared) → slice_get ds k ≡ Some d → slice_get (map (λ d. d.place) ds) k ≡ Some d.place
+pub place_there : (ds : List Declared) (k : ℕ) (d : Declared) → slice_get ds k ≡ Some d → slice_get (map (λ d. d.place) ds) k ≡ Some d.place
 place_there ds k d e = slice_get-map (λ d. d.place) ds k ∙ ap (option_map (λ d. d.place)) e
 
 declared_there : (ds : List Declared) (k : ℕ) (at : Place) → slice_get (map (λ d. d.place) ds) k ≡ Some at → (d : Declared) × (slice_get ds k ≡ Some d) × (d.place ≡ at)
@@ -168,7 +168,7 @@ number_kind trees names id at h =
     rw container (in_tree_number (slice_get trees at.file) at.node (numbers_of trees (type_places names) (bases_of trees names) id) h)
 
 -- whatever is no container has no parts
-scalar_by : (o : Option (List Node)) (n : ℕ) (numbers : FormAndDomain) → container_by (scalar_kind_in o n numbers) ≡ None
+pub scalar_by : (o : Option (List Node)) (n : ℕ) (numbers : FormAndDomain) → container_by (scalar_kind_in o n numbers) ≡ None
 scalar_by None n numbers = refl
 scalar_by (Some t) n numbers = go (sort_of (name_at t n))
   where

@@ -1,19 +1,13 @@
--- Of plain rows packing is built for all types, and each type but an open binary is clear.
-use Rattle.std.proofs.Common.{◌≡◌, ℕ, ◌+◌, List, [], ◌∷◌, ◌++◌, slice_get, Option, Some, None, refl, ap, ◌∙◌}
-use Rattle.std.specs.Prelude.{true, false, IsSome}
+-- Of plain rows packing is built for all types, where no container has a base, is abstract or has trailers.
+use Rattle.std.proofs.Common.{◌≡◌, ℕ, ◌+◌, List, [], ◌∷◌, ◌++◌, Some, refl, ap, ◌∙◌}
 use Rattle.std.specs.List.{AllByRecursion}
-use Rattle.eds_types.specs.declared.row.TypeRow.{TypeRow}
 use Rattle.eds_types.specs.declared.row.Kind.{Kind}
 use Rattle.eds_types.specs.declared.row.Kind.TheVariants as kind
 use Rattle.eds_types.specs.declared.row.Container.{Container}
 use Rattle.eds_types.specs.declared.row.Part.{Part}
 use Rattle.eds_types.specs.declared.row.Part.TheVariants as part
-use Rattle.eds_types.specs.Overlap.{IsClear}
 use Rattle.eds_types.specs.Rows.{Table, base_of, container_by, container_in, container_of, Placed, placed_from}
-use Rattle.eds_types.specs.Sizes.{open_of}
 use Rattle.eds_types.proofs.AllOf.{All-front}
-use Rattle.eds_overlap.specs.Underived.{HasNoBases}
-use Rattle.eds_overlap.proofs.UnderivedTables.{underived_are_clear}
 use Rattle.eds_pack.specs.BuiltTables.{IsBuiltPart, IsBuiltKind, IsBuiltTable}
 use Rattle.eds_read_types.proofs.PlainRules.{PartFits, EntryKeeps, IsPlainKind, ArePlainRows}
 use Rattle.eds_read_types.proofs.TableRules.{IsBareRow}
@@ -43,26 +37,3 @@ kind_built t rank id (kind.Con c) bare h =
 
 pub plain_built : (t : Table) → ArePlainRows t → ((id : ℕ) (c : Container) → container_of t id ≡ Some c → IsBareRow t id c) → IsBuiltTable t
 plain_built t plain bare id row e = kind_built t plain.rank id row.kind (λ c q. bare id c (ap container_in e ∙ q)) (plain.rows id row e).plain
-
-never : false ≡ true → ⊥
-never e = cc
-
-root_by : (base : Option ℕ) (k : Kind) → IsBuiltKind base k → IsSome (container_by k) → base ≡ None
-root_by base (kind.Int form spans) b h = absurd (never h)
-root_by base (kind.Enum form listing) b h = absurd (never h)
-root_by base (kind.Bool form) b h = absurd (never h)
-root_by base (kind.Str form) b h = absurd (never h)
-root_by base (kind.Bin n free) b h = absurd (never h)
-root_by base (kind.Arr item n) b h = absurd (never h)
-root_by base (kind.Con c) b h = b.root
-
-built_roots : (t : Table) → IsBuiltTable t → HasNoBases t
-built_roots t built id is = go (slice_get t id) refl is
-  where
-    go : (o : Option TypeRow) → slice_get t id ≡ o → IsSome (container_in o) → base_of t id ≡ None
-    go None e h = absurd (never h)
-    go (Some row) e h = root_by (base_of t id) row.kind (built id row e) h
-
--- no two containers overlap, since none derives from another one
-pub built_clear : (t : Table) → IsBuiltTable t → (id : ℕ) → open_of t id ≡ None → IsClear t id
-built_clear t built = underived_are_clear t (built_roots t built)

@@ -9,11 +9,13 @@ use Rattle.eds_tree.specs.ShapeCheck.{shape_breaks, shape_verdict, unless_broken
 use Rattle.eds_names.specs.LookUp.{Names, names_in, names_of, duplicates, unless as names_unless}
 use Rattle.eds_read_types.specs.declared.table.SheetTypes.{SheetTypes}
 use Rattle.eds_read_types.specs.TableBreaks.{table_breaks}
+use Rattle.eds_read_types.specs.TableRows.{table_rows}
+use Rattle.eds_generic.specs.Sheets.{face_breaks, face_verdict}
 use Rattle.eds_read_types.specs.TableRead.{typed_of, unless as types_unless, table_read}
 use Rattle.eds_read_types.specs.Judging.{judged_first}
 use Rattle.eds_sheet.specs.Files.{trees_in, reading_breaks}
 use Rattle.eds_sheet.specs.Pending.{pending_breaks, pending_verdict}
-use Rattle.eds_sheet.specs.Compiled.{tree_breaks, breaks_where_read, all_breaks, sheet_of, compiled_trees, compiled}
+use Rattle.eds_sheet.specs.Compiled.{tree_breaks, typed_breaks, breaks_where_read, all_breaks, sheet_of, compiled_trees, compiled}
 use Rattle.eds_sheet.proofs.Stages.{or_then, least-judged_first, stop_of, stop_of-Err, stop_of-then}
 use Rattle.eds_sheet.proofs.FilesLemmas.{least-reading}
 
@@ -49,30 +51,46 @@ types-stop trees names word = go (least (table_breaks trees names word))
 
 -- ---- trees
 
--- the sheet of the types, or why there are none
-sheet-stop : (names : Names) (typed : Result SheetTypes Refusal) → stop_of (typed >>= λ t. Ok (sheet_of names t)) ≡ stop_of typed
-sheet-stop names (Ok t) = refl
-sheet-stop names (Err r) = refl
+table-is : (trees : List (List Node)) (names : Names) (word : Option (List ℕ)) (typed : SheetTypes) → table_read trees names word ≡ Ok typed → typed.table ≡ table_rows trees names
+unfolding table_read
+table-is trees names word typed h = go (least (table_breaks trees names word)) h
+  where
+    go : (o : Option Refusal) → types_unless o (typed_of trees names word) ≡ Ok typed → typed.table ≡ table_rows trees names
+    go None e = let same : typed_of trees names word ≡ typed = cc in sym (ap (λ (t : SheetTypes). t.table) same)
+    go (Some r) e = absurd (cc)
+
+then-sheet : (names : Names) (typed : SheetTypes) (o : Option Refusal) → stop_of (unless_broken o >>= λ resolved. Ok (sheet_of names typed)) ≡ o
+then-sheet names typed None = refl
+then-sheet names typed (Some r) = refl
+
+-- the sheet of the types and interfaces, or why there is none
+sheet-stop : (trees : List (List Node)) (names : Names) (word : Option (List ℕ))
+    → stop_of (table_read trees names word >>= λ typed. face_verdict trees names typed.table >>= λ resolved. Ok (sheet_of names typed)) ≡ least (typed_breaks trees names word)
+sheet-stop trees names word =
+    stop_of-then (table_read trees names word) _ (least (face_breaks trees names (table_rows trees names)))
+    (λ typed h. then-sheet names typed (least (face_breaks trees names typed.table)) ∙ ap (λ t. least (face_breaks trees names t)) (table-is trees names word typed h))
+    ∙ ap (λ o. or_then o (least (face_breaks trees names (table_rows trees names)))) (types-stop trees names word)
+    ∙ sym (least-judged_first (table_breaks trees names word) (face_breaks trees names (table_rows trees names)))
 
 module _ (trees : List (List Node)) (word : Option (List ℕ)) where
-  typed-stop : (names : Names) → names_in trees ≡ Ok names → stop_of (table_read trees names word >>= λ typed. Ok (sheet_of names typed)) ≡ least (table_breaks trees (names_of trees) word)
-  typed-stop names h = sheet-stop names (table_read trees names word) ∙ (types-stop trees names word ∙ ap (λ ns. least (table_breaks trees ns word)) (names-are trees names h))
+  typed-stop : (names : Names) → names_in trees ≡ Ok names → stop_of (table_read trees names word >>= λ typed. face_verdict trees names typed.table >>= λ resolved. Ok (sheet_of names typed)) ≡ least (typed_breaks trees (names_of trees) word)
+  typed-stop names h = sheet-stop trees names word ∙ ap (λ ns. least (typed_breaks trees ns word)) (names-are trees names h)
 
   -- the stops of the steps, one after another
   staged-stop : stop_of (compiled_trees trees word)
-      ≡ or_then (least (shape_breaks trees)) (or_then (least (pending_breaks trees)) (or_then (least (duplicates trees)) (least (table_breaks trees (names_of trees) word))))
+      ≡ or_then (least (shape_breaks trees)) (or_then (least (pending_breaks trees)) (or_then (least (duplicates trees)) (least (typed_breaks trees (names_of trees) word))))
   staged-stop =
       stop_of-then (shape_verdict trees) _ _ (λ shaped h.
       stop_of-then (pending_verdict trees) _ _ (λ built k.
       stop_of-then (names_in trees) _ _ typed-stop
-      ∙ ap (λ o. or_then o (least (table_breaks trees (names_of trees) word))) (names-stop trees))
-      ∙ ap (λ o. or_then o (or_then (least (duplicates trees)) (least (table_breaks trees (names_of trees) word)))) (unless_broken-stop (least (pending_breaks trees))))
-      ∙ ap (λ o. or_then o (or_then (least (pending_breaks trees)) (or_then (least (duplicates trees)) (least (table_breaks trees (names_of trees) word))))) (unless_broken-stop (least (shape_breaks trees)))
+      ∙ ap (λ o. or_then o (least (typed_breaks trees (names_of trees) word))) (names-stop trees))
+      ∙ ap (λ o. or_then o (or_then (least (duplicates trees)) (least (typed_breaks trees (names_of trees) word)))) (unless_broken-stop (least (pending_breaks trees))))
+      ∙ ap (λ o. or_then o (or_then (least (pending_breaks trees)) (or_then (least (duplicates trees)) (least (typed_breaks trees (names_of trees) word))))) (unless_broken-stop (least (shape_breaks trees)))
 
   least-staged_trees : least (tree_breaks trees word)
-      ≡ or_then (least (shape_breaks trees)) (or_then (least (pending_breaks trees)) (or_then (least (duplicates trees)) (least (table_breaks trees (names_of trees) word))))
+      ≡ or_then (least (shape_breaks trees)) (or_then (least (pending_breaks trees)) (or_then (least (duplicates trees)) (least (typed_breaks trees (names_of trees) word))))
   least-staged_trees =
-      let types = table_breaks trees (names_of trees) word in
+      let types = typed_breaks trees (names_of trees) word in
       let named = judged_first (duplicates trees) types in
       least-judged_first (shape_breaks trees) (judged_first (pending_breaks trees) named)
       ∙ ap (or_then (least (shape_breaks trees))) (least-judged_first (pending_breaks trees) named ∙ ap (or_then (least (pending_breaks trees))) (least-judged_first (duplicates trees) types))

@@ -2,6 +2,7 @@ pub mod Lists
 pub mod Stages
 pub mod FilesLemmas
 pub mod CompiledLaws
+pub mod NoBases
 pub mod BareSheets
 pub mod BuiltSheets
 pub mod SoundSheets

@@ -12,6 +12,8 @@ use Rattle.eds_read_types.specs.declared.table.SheetTypes.{SheetTypes}
 use Rattle.eds_read_types.specs.Judging.{judged_first}
 use Rattle.eds_read_types.specs.TableBreaks.{table_breaks}
 use Rattle.eds_read_types.specs.TableRead.{table_read}
+use Rattle.eds_read_types.specs.TableRows.{table_rows}
+use Rattle.eds_generic.specs.Sheets.{face_breaks, face_verdict}
 use Rattle.eds_sheet.specs.declared.sheet.Counts.{Counts}
 use Rattle.eds_sheet.specs.declared.sheet.Sheet.{Sheet}
 use Rattle.eds_sheet.specs.Files.{trees_in, reading_breaks}
@@ -19,13 +21,17 @@ use Rattle.eds_sheet.specs.Pending.{pending_breaks, pending_verdict}
 
 -- ---- what a sheet breaks
 
+-- What the references and the types of some trees break, and what their interfaces break where these break nothing.
+abbrev pub typed_breaks : List (List Node) → Names → (word : Option (List ℕ)) → List Refusal
+typed_breaks trees names word = judged_first (table_breaks trees names word) (face_breaks trees names (table_rows trees names))
+
 -- All that some trees break, each stage judged only where the stages before it are not broken: the elements and their
--- attributes, what is not compiled yet, the names, and then the references and the types.
+-- attributes, what is not compiled yet, the names, the references and the types, and then the interfaces.
 abbrev pub tree_breaks : List (List Node) → (word : Option (List ℕ)) → List Refusal
 tree_breaks trees word =
     judged_first (shape_breaks trees)
     (judged_first (pending_breaks trees)
-    (judged_first (duplicates trees) (table_breaks trees (names_of trees) word)))
+    (judged_first (duplicates trees) (typed_breaks trees (names_of trees) word)))
 
 -- the same of files that are element trees
 abbrev pub breaks_where_read : Result (List (List Node)) Refusal → (word : Option (List ℕ)) → List Refusal
@@ -61,6 +67,7 @@ compiled_trees trees word =
     pending_verdict trees >>= λ built.
     names_in trees >>= λ names.
     table_read trees names word >>= λ typed.
+    face_verdict trees names typed.table >>= λ resolved.
     Ok (sheet_of names typed)
 
 -- the sheet of some files, or the first of the rules that they break

@@ -15,13 +15,13 @@ use Rattle.eds_tree.specs.ShapeCheck.{unless_broken}
 
 -- ---- elements
 
--- the elements that are not compiled yet wherever they stand: types, parts and constraints of containers, interfaces,
+-- the elements that are not compiled yet wherever they stand: types, parts and constraints of containers,
 -- components and state machines
 abbrev pub pending_names : List (List ℕ)
 pending_names = map codes (
     "ArrayDataType"
     ∷ "FixedValueEntry" ∷ "PaddingEntry" ∷ "ListEntry" ∷ "LengthEntry" ∷ "ErrorControlEntry"
-    ∷ "ConstraintSet" ∷ "TrailerEntryList" ∷ "DeclaredInterfaceSet" ∷ "ComponentSet" ∷ "StateMachineSet" ∷ [])
+    ∷ "ConstraintSet" ∷ "TrailerEntryList" ∷ "ComponentSet" ∷ "StateMachineSet" ∷ [])
 
 abbrev pub is_pending : (name : List ℕ) → Bool
 is_pending name = is_among pending_names name

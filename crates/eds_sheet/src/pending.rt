@@ -25,7 +25,6 @@ fn is_pending(name: &str) -> bool
             "ErrorControlEntry",
             "ConstraintSet",
             "TrailerEntryList",
-            "DeclaredInterfaceSet",
             "ComponentSet",
             "StateMachineSet",
         ],
