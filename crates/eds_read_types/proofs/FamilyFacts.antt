@@ -53,9 +53,9 @@ module _ (t : Table) (l : HasLevels t) (alike : (id base : ℕ) → base_of t id
   unfolding chain_within
   of_family zero k id h = absurd cc
   of_family (suc n) k id h = elim (has_cases (chain_before (chain_within n t) (base_of t k)) k id h) [
-      | inl has ↦ go (of_family n) (base_of t k) refl has
-      | inr e ↦ (ap (topmost t) e, ap (λ m. is_some (container_of t m)) e)
-    ]
+    | inl has ↦ go (of_family n) (base_of t k) refl has
+    | inr e ↦ (ap (topmost t) e, ap (λ m. is_some (container_of t m)) e)
+  ]
     where
       go : ((k id : ℕ) → list_has (chain_within n t k) id ≡ true → OfFamily k id) → (o : Option ℕ) → base_of t k ≡ o → list_has (chain_before (chain_within n t) o) id ≡ true → OfFamily k id
       go later None q h = absurd cc

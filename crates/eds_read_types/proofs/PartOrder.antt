@@ -34,9 +34,9 @@ module _ {A : Type 0} where
 
   put_between : (own xs ys all : List A) → AreDistinct (own ++ all) → AreAmong xs ys all → AreAmong xs (own ++ ys) (own ++ all)
   put_between own xs ys all d h = (
-      distinct-between xs ys own h.0 (distinct-front own all d) (disjoint-by own (xs ++ ys) (λ x k g. disjoint-at own all x (distinct-disjoint own all d) k (h.1 x g))),
-      λ x k. elim (has-between xs ys own x k) [ inl l ↦ has-back own all x (h.1 x l) | inr r ↦ has-front own all x r ],
-    )
+    distinct-between xs ys own h.0 (distinct-front own all d) (disjoint-by own (xs ++ ys) (λ x k g. disjoint-at own all x (distinct-disjoint own all d) k (h.1 x g))),
+    λ x k. elim (has-between xs ys own x k) [ inl l ↦ has-back own all x (h.1 x l) | inr r ↦ has-front own all x r ],
+  )
 
 -- what is taken of one kind and then of another is among what is taken of both in turn
 module _ {A B : Type 0} (p q : A → Bool) (one_kind : (x : A) → p x ≡ true → q x ≡ false) (f : A → List B) where

@@ -106,9 +106,9 @@ solid_other t alike id none h = clash (container_of t h.hollow) h.concrete (same
             go [] e = cc
             go (b ∷ before) e = cc
     same (suc n) k has = elim (has-parts (chain_before (chain_within n t) (base_of t k)) (k ∷ []) id has) [
-        | inl l ↦ above (same n) (base_of t k) refl l
-        | inr r ↦ ap (λ m. is_some (container_of t m)) (only r.before r.after r.is)
-      ]
+      | inl l ↦ above (same n) (base_of t k) refl l
+      | inr r ↦ ap (λ m. is_some (container_of t m)) (only r.before r.after r.is)
+    ]
       where
         above : ((k : ℕ) → Has (chain_within n t k) id → is_some (container_of t k) ≡ is_some (container_of t id)) → (o : Option ℕ) → base_of t k ≡ o → Has (chain_before (chain_within n t) o) id → is_some (container_of t k) ≡ is_some (container_of t id)
         above up None e l = absurd (go l.before l.is)
@@ -130,9 +130,9 @@ none_of f [] y e h = absurd (go h.before h.is)
     go [] e = cc
     go (b ∷ before) e = cc
 none_of f (z ∷ ys) y e h = elim (has-cases z y ys h) [
-    | inl s ↦ subst (λ m. f m ≡ []) s (first_nil (f z) (flat_map f ys) e)
-    | inr l ↦ none_of f ys y (last_nil (f z) (flat_map f ys) e) l
-  ]
+  | inl s ↦ subst (λ m. f m ≡ []) s (first_nil (f z) (flat_map f ys) e)
+  | inr l ↦ none_of f ys y (last_nil (f z) (flat_map f ys) e) l
+]
   where
     first_nil : (xs zs : List Placed) → xs ++ zs ≡ [] → xs ≡ []
     first_nil [] zs e = refl

@@ -42,9 +42,9 @@ module _ {A : Type 0} where
   pub has-parts : (xs ys : List A) (x : A) → Has (xs ++ ys) x → Has xs x ⊎ Has ys x
   has-parts [] ys x h = inr h
   has-parts (y ∷ xs) ys x h = elim (has-cases y x (xs ++ ys) h) [
-      | inl e ↦ inl (subst (λ z. Has (y ∷ xs) z) e (has-first y xs))
-      | inr k ↦ elim (has-parts xs ys x k) [ inl l ↦ inl (has-later y x xs l) | inr r ↦ inr r ]
-    ]
+    | inl e ↦ inl (subst (λ z. Has (y ∷ xs) z) e (has-first y xs))
+    | inr k ↦ elim (has-parts xs ys x k) [ inl l ↦ inl (has-later y x xs l) | inr r ↦ inr r ]
+  ]
 
   pub not-in-both : (xs ys : List A) (x : A) → IsNotIn xs x → IsNotIn ys x → IsNotIn (xs ++ ys) x
   not-in-both xs ys x p q h = elim (has-parts xs ys x h) [ inl l ↦ p l | inr r ↦ q r ]
@@ -72,9 +72,9 @@ module _ {A : Type 0} where
       go [] e = cc
       go (b ∷ before) e = cc
   disjoint-at (y ∷ xs) ys x d h k = elim (has-cases y x xs h) [
-      | inl e ↦ d.0 (subst (Has ys) (sym e) k)
-      | inr l ↦ disjoint-at xs ys x d.1 l k
-    ]
+    | inl e ↦ d.0 (subst (Has ys) (sym e) k)
+    | inr l ↦ disjoint-at xs ys x d.1 l k
+  ]
 
   -- what is known of all that is in a list
   pub disjoint-by : (xs ys : List A) → ((x : A) → Has xs x → Has ys x → ⊥) → AreDisjoint xs ys
@@ -87,15 +87,15 @@ module _ {A : Type 0} where
       distinct-both front (ms ++ back) (distinct-front front back p)
       (distinct-both ms back q (distinct-back front back p) (disjoint-by ms back (λ x h k. disjoint-at ms (front ++ back) x d h (has-back front back x k))))
       (disjoint-by front (ms ++ back) (λ x h k. elim (has-parts ms back x k) [
-          | inl l ↦ disjoint-at ms (front ++ back) x d l (has-front front back x h)
-          | inr r ↦ disjoint-at front back x (distinct-disjoint front back p) h r
-        ]))
+        | inl l ↦ disjoint-at ms (front ++ back) x d l (has-front front back x h)
+        | inr r ↦ disjoint-at front back x (distinct-disjoint front back p) h r
+      ]))
 
   pub has-between : (front back ms : List A) (x : A) → Has (front ++ (ms ++ back)) x → Has (front ++ back) x ⊎ Has ms x
   has-between front back ms x h = elim (has-parts front (ms ++ back) x h) [
-      | inl l ↦ inl (has-front front back x l)
-      | inr r ↦ elim (has-parts ms back x r) [ inl m ↦ inr m | inr b ↦ inl (has-back front back x b) ]
-    ]
+    | inl l ↦ inl (has-front front back x l)
+    | inr r ↦ elim (has-parts ms back x r) [ inl m ↦ inr m | inr b ↦ inl (has-back front back x b) ]
+  ]
 
 -- ---- chains
 
@@ -159,9 +159,9 @@ module _ (t : Table) (level : ℕ → ℕ) (low : (id : ℕ) → level id < 16) 
     next_so_far k own above = record {
       differ = subst AreDistinct (sym split) (distinct-between front back (marks (own_parts t k)) whole own.own (disjoint-by (marks (own_parts t k)) (front ++ back) (λ x h g. disjoint-at (marks (own_parts t k)) (marks (parts_above k)) x own.apart h (above.among x (subst (λ zs. Has zs x) (sym ends) g)))));
       among = λ x h. subst (λ zs. Has zs x) (sym all) (elim (has-between front back (marks (own_parts t k)) x (subst (λ zs. Has zs x) split h)) [
-          | inl l ↦ has-front (marks (parts_above k)) (marks (own_parts t k)) x (above.among x (subst (λ zs. Has zs x) (sym ends) l))
-          | inr r ↦ has-back (marks (parts_above k)) (marks (own_parts t k)) x r
-        ]);
+        | inl l ↦ has-front (marks (parts_above k)) (marks (own_parts t k)) x (above.among x (subst (λ zs. Has zs x) (sym ends) l))
+        | inr r ↦ has-back (marks (parts_above k)) (marks (own_parts t k)) x r
+      ]);
     }
       where
         ks : List ℕ

@@ -618,9 +618,9 @@ module _ (trees : List (List Node)) (names : Names) (word : Option (List ℕ)) (
       joined (is_among (filter_map name_of (parts_in (container_of rows base))) x) (is_among (names_above n rows (base_of rows base)) x)
       (list_any-append (same x) (filter_map name_of (parts_in (container_of rows base))) (names_above n rows (base_of rows base)))
       (elim (has-parts (filter_map name_mark above) (filter_map name_of (parts_in (container_of rows base))) x (subst (λ xs. Has xs x) split h)) [
-          | inl l ↦ inr (above_among n x (base_of rows base) l)
-          | inr r ↦ inl (among_has (filter_map name_of (parts_in (container_of rows base))) x r)
-        ])
+        | inl l ↦ inr (above_among n x (base_of rows base) l)
+        | inr r ↦ inl (among_has (filter_map name_of (parts_in (container_of rows base))) x r)
+      ])
     where
       joined : {w : Bool} (a b : Bool) → w ≡ (a || b) → (a ≡ true) ⊎ (b ≡ true) → w ≡ true
       joined a b e (inl h) = e ∙ rw h refl
@@ -629,24 +629,24 @@ module _ (trees : List (List Node)) (names : Names) (word : Option (List ℕ)) (
   -- a part's name is that of no other of its container and its bases
   own_differ : (k : ℕ) → OwnDiffer (table_rows trees names) leveled.level leveled.low leveled.base_level name_mark k
   own_differ k = elim (container_cases k) [
-      | inl none ↦ record { own = subst AreDistinct (sym (no_names k none)) tt; apart = subst (λ xs. AreDisjoint xs (filter_map name_mark (parts_above (table_rows trees names) leveled.level leveled.low leveled.base_level k))) (sym (no_names k none)) tt }
-      | inr c ↦ (let there = place_there (types names) k c.declared c.there in
-          let above = names_above 16 (table_rows trees names) (base_of (table_rows trees names) k) in
-          let ordered = parts_at trees c.declared.place in
-          let parts = entries_at trees c.declared.place in
-          let others = filter_map name_mark (parts_above (table_rows trees names) leveled.level leveled.low leveled.base_level k) in
-          let differ : repeats trees above (named_among trees ordered) ≡ [] = rw c.is at (over-none (duplicates_at trees (table_rows trees names)) 0 (type_places names) u.duplicates k c.declared.place there k (omega arith)) in
-          let apart = no_repeats trees above (named_among trees ordered) differ in
-          let by = by_lists trees names c.declared.place (names_distinct trees names ordered apart.1) in
-          let own : filter_map name_mark (own_parts (table_rows trees names) k) ≡ parts_named trees names parts = own_names k ∙ ap (filter_map name_of) (parts_from k c.declared c.container) in
-          record {
-            own = subst AreDistinct (sym own) by.0;
-            apart = subst (λ xs. AreDisjoint xs others) (sym own) (disjoint-by (parts_named trees names parts) others (λ x h g.
-                clash (is_among above x)
-                (none_at above (element_names trees names ordered) x apart.0 (among_parts trees names ordered x (among_has (parts_named trees names ordered) x (by.1 x h))))
-                (above_among 16 x (base_of (table_rows trees names) k) g)));
-          })
-    ]
+    | inl none ↦ record { own = subst AreDistinct (sym (no_names k none)) tt; apart = subst (λ xs. AreDisjoint xs (filter_map name_mark (parts_above (table_rows trees names) leveled.level leveled.low leveled.base_level k))) (sym (no_names k none)) tt }
+    | inr c ↦ (let there = place_there (types names) k c.declared c.there in
+        let above = names_above 16 (table_rows trees names) (base_of (table_rows trees names) k) in
+        let ordered = parts_at trees c.declared.place in
+        let parts = entries_at trees c.declared.place in
+        let others = filter_map name_mark (parts_above (table_rows trees names) leveled.level leveled.low leveled.base_level k) in
+        let differ : repeats trees above (named_among trees ordered) ≡ [] = rw c.is at (over-none (duplicates_at trees (table_rows trees names)) 0 (type_places names) u.duplicates k c.declared.place there k (omega arith)) in
+        let apart = no_repeats trees above (named_among trees ordered) differ in
+        let by = by_lists trees names c.declared.place (names_distinct trees names ordered apart.1) in
+        let own : filter_map name_mark (own_parts (table_rows trees names) k) ≡ parts_named trees names parts = own_names k ∙ ap (filter_map name_of) (parts_from k c.declared c.container) in
+        record {
+          own = subst AreDistinct (sym own) by.0;
+          apart = subst (λ xs. AreDisjoint xs others) (sym own) (disjoint-by (parts_named trees names parts) others (λ x h g.
+              clash (is_among above x)
+              (none_at above (element_names trees names ordered) x apart.0 (among_parts trees names ordered x (among_has (parts_named trees names ordered) x (by.1 x h))))
+              (above_among 16 x (base_of (table_rows trees names) k) g)));
+        })
+  ]
 
   -- ---- families
 
@@ -668,21 +668,21 @@ module _ (trees : List (List Node)) (names : Names) (word : Option (List ℕ)) (
           let there = place_there (types names) id r.declared r.there in
           let within = slice_get_within (table_rows trees names) id row q in
           let size = small (family_size (table_rows trees names) id) (is_endless (course_of (table_rows trees names) id)) (ap is_endless (course-ends (table_rows trees names) levels circleless id within))
-              (unmet (nat_lt 512 (family_size (table_rows trees names) id) && not (is_endless (course_of (table_rows trees names) id))) _ (over-none (family_at trees (table_rows trees names)) 0 (type_places names) u.families id r.declared.place there id (omega arith))) in
+          (unmet (nat_lt 512 (family_size (table_rows trees names) id) && not (is_endless (course_of (table_rows trees names) id))) _ (over-none (family_at trees (table_rows trees names)) 0 (type_places names) u.families id r.declared.place there id (omega arith))) in
           subst (λ n. n ≤ 512) (size_is (table_rows trees names) id (slice_get_within (table_rows trees names) id row q)) size
 
   -- of a sheet whose containers have no base and are not abstract, so have no rows
   bare_rows : AllByRecursion (IsBare trees) (elements trees) → (id : ℕ) (c : Container) → container_of (table_rows trees names) id ≡ Some c → IsBareRow (table_rows trees names) id c
   bare_rows bare id c e = elim (container_cases id) [
-      | inl none ↦ absurd (some_none (container_of (table_rows trees names) id) c e none)
-      | inr r ↦ (let at = at_one (IsBare trees) (type_places names) (of_types (IsBare trees) trees names named bare) id r.declared.place (place_there (types names) id r.declared r.there) r.is in
-          let same : container_at trees names r.declared.place ≡ c = (let both : Some (container_at trees names r.declared.place) ≡ Some c = sym r.container ∙ e in cc) in
-          record {
-            concrete = sym (ap (λ (k : Container). k.hidden) same) ∙ at.1;
-            root = ap base_in (row_of id r.declared r.there) ∙ ap number_of_id (ap (id_found names r.declared.place) (no_name (may_derive trees r.declared.place) at.0));
-            trailers = sym (ap (λ (k : Container). k.trailers) same);
-          })
-    ]
+    | inl none ↦ absurd (some_none (container_of (table_rows trees names) id) c e none)
+    | inr r ↦ (let at = at_one (IsBare trees) (type_places names) (of_types (IsBare trees) trees names named bare) id r.declared.place (place_there (types names) id r.declared r.there) r.is in
+        let same : container_at trees names r.declared.place ≡ c = (let both : Some (container_at trees names r.declared.place) ≡ Some c = sym r.container ∙ e in cc) in
+        record {
+          concrete = sym (ap (λ (k : Container). k.hidden) same) ∙ at.1;
+          root = ap base_in (row_of id r.declared r.there) ∙ ap number_of_id (ap (id_found names r.declared.place) (no_name (may_derive trees r.declared.place) at.0));
+          trailers = sym (ap (λ (k : Container). k.trailers) same);
+        })
+  ]
     where
       some_none : (o : Option Container) (c : Container) → o ≡ Some c → o ≡ None → ⊥
       some_none o c e f = cc
