@@ -14,6 +14,7 @@ abbrev pub or_stop : {A S : Type 0} → S → Option A → Result A S
 or_stop s None = Err s
 or_stop s (Some x) = Ok x
 
+-- a call that stopped with a cause has this answer
 abbrev pub StopsAs : {Y S : Type 0} → Fail S → Result Y S → Type 0
 StopsAs (Named s) answer = answer ≡ Err s
 StopsAs Memory answer = ⊤

@@ -3,6 +3,7 @@ use Rattle.std.specs.Prelude.{ℕ, List, codes}
 use Rattle.eds_base.specs.declared.fault.Reason.{Reason}
 use Rattle.eds_base.specs.declared.fault.Reason.TheVariants.{Short, OutOfRange, NoLabel, BadDigit, BadText, Unterminated, FixedDiffers, Constraint, NoDerived, LengthDiffers, CheckDiffers, TooLong, Trailing}
 
+-- the word for a reason in a report
 abbrev pub reason_name : Reason → List ℕ
 reason_name Short = codes "Short"
 reason_name OutOfRange = codes "OutOfRange"

@@ -3,6 +3,7 @@ use Rattle.std.specs.Prelude.{ℕ, List, codes}
 use Rattle.eds_base.specs.declared.rule.Rule.{Rule}
 use Rattle.eds_base.specs.declared.rule.Rule.TheVariants.{NotJson, NotElement, UnknownElement, Unsupported, MissingAttribute, BadAttribute, BadName, Limit, Duplicate, Unresolved, WrongKind, BadEncoding, EmptyRange, BadEnumeration, BaseCycle, TypeCycle, EmptyType, DuplicateEntry, ListField, LengthField, FixedValue, ErrorControl, ConstraintTarget, ConstraintValue, ConstraintEmpty, Overlap, InterfaceCycle, DuplicateMember, Unmapped, UnknownGeneric, GenericBase, NoDefault, BadReference, TypeMismatch, CallCycle, BadMachine, BadMap, BadTimer}
 
+-- the number of a rule in a report
 abbrev pub rule_number : Rule → ℕ
 rule_number NotJson = 1
 rule_number NotElement = 2
@@ -43,6 +44,7 @@ rule_number BadMachine = 36
 rule_number BadMap = 37
 rule_number BadTimer = 38
 
+-- the name of a rule in a report
 abbrev pub rule_name : Rule → List ℕ
 rule_name NotJson = codes "NotJson"
 rule_name NotElement = codes "NotElement"

@@ -2,6 +2,7 @@
 use Rattle.std.specs.Prelude.{ℕ, zero, suc, ◌+◌, ◌-◌, ◌*◌, ◌/◌, ◌%◌, ◌^◌, List, [], ◌∷◌, ◌++◌, Bool, true, false, ◌==◌, length, drop, take, replicate, map}
 use Rattle.std.specs.List.{flat_map}
 
+-- bits, the most significant first
 abbrev pub Bits : Type 0
 Bits = List Bool
 

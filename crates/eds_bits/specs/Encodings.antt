@@ -30,6 +30,7 @@ pub record IsForm (bits : ℕ) (encoding : Encoding) (order : ByteOrder) : Type 
 
 -- ---- the numbers of n bits
 
+-- the least number of n bits
 abbrev pub least_by : Encoding → ℕ → ℤ
 least_by Unsigned n = pos 0
 least_by TwosComplement n = neg_ℤ (pos (2 ^ (n - 1)))
@@ -38,6 +39,7 @@ least_by OnesComplement n = neg_ℤ (pos (2 ^ (n - 1) - 1))
 least_by PackedBcd n = pos 0
 least_by Bcd n = pos 0
 
+-- the greatest number of n bits
 abbrev pub greatest_by : Encoding → ℕ → ℤ
 greatest_by Unsigned n = pos (2 ^ n - 1)
 greatest_by TwosComplement n = pos (2 ^ (n - 1) - 1)

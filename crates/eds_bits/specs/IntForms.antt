@@ -9,6 +9,7 @@ use Rattle.eds_bits.specs.Style.{Style, IfCanonical, is_zero}
 abbrev pub least : IntForm → ℤ
 least form = least_by form.encoding form.bits
 
+-- the greatest number of a form
 abbrev pub greatest : IntForm → ℤ
 greatest form = greatest_by form.encoding form.bits
 

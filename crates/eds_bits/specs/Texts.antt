@@ -13,6 +13,7 @@ front_octets n bs = octets_of (take (8 * n) bs)
 abbrev pub whole : Bits → List ℕ
 whole bs = front_octets (length bs / 8) bs
 
+-- there are too few bits for the text
 abbrev pub ShortBy : Bool → TextForm → Bits → Type 0
 ShortBy true form bs = length bs < 8 * form.length
 ShortBy false form bs = (Has (whole bs) form.stop → ⊥) × (length (whole bs) < form.length + 1)
@@ -22,6 +23,7 @@ ShortBy false form bs = (Has (whole bs) form.stop → ⊥) × (length (whole bs)
 abbrev pub IsShortText : TextForm → Bits → Type 0
 IsShortText form bs = ShortBy form.fixed form bs
 
+-- no termination octet stands where one must
 abbrev pub UnterminatedBy : Bool → TextForm → Bits → Type 0
 UnterminatedBy true form bs = ⊥
 UnterminatedBy false form bs = (form.length + 1 ≤ length (whole bs)) × (Has (take (form.length + 1) (whole bs)) form.stop → ⊥)
@@ -30,6 +32,7 @@ UnterminatedBy false form bs = (form.length + 1 ≤ length (whole bs)) × (Has (
 abbrev pub IsUnterminated : TextForm → Bits → Type 0
 IsUnterminated form bs = UnterminatedBy form.fixed form bs
 
+-- the octets before the end aren't of the encoding
 abbrev pub BadBy : Bool → TextForm → Bits → Type 0
 BadBy true form bs = (8 * form.length ≤ length bs) × (IsCoded form.ascii (before_stop form.stop (front_octets form.length bs)) → ⊥)
 BadBy false form bs = Has (take (form.length + 1) (whole bs)) form.stop × (IsCoded form.ascii (before_stop form.stop (whole bs)) → ⊥)

@@ -66,6 +66,7 @@ new_shelf files most failing = record {
 abbrev pub piece_size : List ℕ → ℕ → ℕ → ℕ → ℕ
 piece_size file from most room = min (min (length (drop from file)) most) room
 
+-- what a read of a file that may be there gives
 abbrev pub got_of : Option (List ℕ) → ℕ → ℕ → ℕ → Got
 got_of None from most room = got.NoFile
 got_of (Some file) from most room = got.Bytes (piece_size file from most room)

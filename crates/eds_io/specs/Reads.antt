@@ -19,6 +19,7 @@ octets_by (got.Bytes n) room = take n room
 octets_by got.NoFile room = []
 octets_by got.Failed room = []
 
+-- the octets that a read gave
 abbrev pub octets_of : Given → List ℕ
 octets_of g = octets_by g.got g.room
 

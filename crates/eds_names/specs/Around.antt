@@ -18,6 +18,7 @@ AllIn names (p ∷ ps) = IsIn names p × AllIn names ps
 
 -- ---- a table of names
 
+-- the name that is held, if one is
 abbrev pub name_held : Option (Option (List ℕ)) → Option (List ℕ)
 name_held None = None
 name_held (Some name) = name
@@ -26,6 +27,7 @@ name_held (Some name) = name
 abbrev pub name_at : List (Option (List ℕ)) → ℕ → Option (List ℕ)
 name_at table node = name_held (slice_get table node)
 
+-- the name around an element of a file
 abbrev pub name_by : Option (List (Option (List ℕ))) → ℕ → Option (List ℕ)
 name_by None node = None
 name_by (Some table) node = name_at table node

@@ -32,6 +32,7 @@ pub record Declaration : Type 0 where
   pub place : Place
   pub kind : Kind
 
+-- an element that declares an item, with its qualified name
 abbrev pub declaration_of : List Node → ℕ → Standing → Kind → Declaration
 declaration_of t file s kind = record {
   name = qualified (around t s) (own_name t s.node);
@@ -40,6 +41,7 @@ declaration_of t file s kind = record {
   kind = kind;
 }
 
+-- the same where the element declares one
 abbrev pub declared_as : List Node → ℕ → Standing → Option Kind → List Declaration
 declared_as t file s None = []
 declared_as t file s (Some kind) = declaration_of t file s kind ∷ []
@@ -65,6 +67,7 @@ item_of c kind.Sort = item.Sort (record { 0 = c.types })
 item_of c kind.Face = item.Face (record { 0 = c.faces })
 item_of c kind.Comp = item.Comp (record { 0 = c.comps })
 
+-- one item more of its sort
 abbrev pub counted : Counts → Kind → Counts
 counted c kind.Sort = record c { types = c.types + 1 }
 counted c kind.Face = record c { faces = c.faces + 1 }
@@ -75,6 +78,7 @@ abbrev pub numbered : Counts → List Declaration → List Declared
 numbered c [] = []
 numbered c (d ∷ ds) = record { name = d.name; own = d.own; place = d.place; item = item_of c d.kind } ∷ numbered (counted c d.kind) ds
 
+-- no item
 abbrev pub none_counted : Counts
 none_counted = record { types = 0; faces = 0; comps = 0 }
 
@@ -93,16 +97,19 @@ named_of d = record { key = d.name; own = d.own; place = d.place }
 
 -- ---- their kinds
 
+-- the item is a type
 abbrev pub is_sort : Item → Bool
 is_sort (item.Sort id) = true
 is_sort (item.Face id) = false
 is_sort (item.Comp id) = false
 
+-- the item is an interface
 abbrev pub is_face : Item → Bool
 is_face (item.Sort id) = false
 is_face (item.Face id) = true
 is_face (item.Comp id) = false
 
+-- the item is a component
 abbrev pub is_comp : Item → Bool
 is_comp (item.Sort id) = false
 is_comp (item.Face id) = false
@@ -126,11 +133,14 @@ comps_in declared = filter (λ d. is_comp d.item) declared
 abbrev pub IsByPosition : (ℕ → Item) → List Declared → Type 0
 IsByPosition item_at declared = (k : ℕ) (d : Declared) → slice_get declared k ≡ Some d → d.item ≡ item_at k
 
+-- the type of a number
 abbrev pub type_at : ℕ → Item
 type_at k = item.Sort (record { 0 = k })
 
+-- the interface of a number
 abbrev pub face_at : ℕ → Item
 face_at k = item.Face (record { 0 = k })
 
+-- the component of a number
 abbrev pub comp_at : ℕ → Item
 comp_at k = item.Comp (record { 0 = k })

@@ -33,6 +33,7 @@ abbrev pub fronts : List ℕ → List (List ℕ)
 fronts [] = []
 fronts (c ∷ cs) = map (λ front. c ∷ front) (fronts cs) ++ (if nat_eq c 47 then [] ∷ [] else [])
 
+-- the first of the names, which is the longest
 abbrev pub longest : List (List ℕ) → Option (List ℕ)
 longest [] = None
 longest (front ∷ fronts) = Some front
@@ -45,6 +46,7 @@ candidates (Some around) text = map (λ front. joined front text) (around ∷ fr
 
 -- ---- what is found
 
+-- the first of two items that is there
 abbrev pub or_else : Option Item → Option Item → Option Item
 or_else None other = other
 or_else (Some i) other = Some i
@@ -77,9 +79,11 @@ look_up names from text = first_found names.declared (candidates (around_at name
 abbrev pub duplicates : List (List Node) → List Refusal
 duplicates trees = repeats [] (map named_of (declared_in trees)) ++ repeats_from 0 trees
 
+-- the names of a sheet
 abbrev pub names_of : List (List Node) → Names
 names_of trees = record { declared = declared_in trees; arounds = map arounds_of trees }
 
+-- the names, unless a rule is broken
 abbrev pub unless : Option Refusal → Names → Result Names Refusal
 unless None names = Ok names
 unless (Some r) names = Err r

@@ -20,6 +20,7 @@ pub record Named : Type 0 where
   pub own : List ℕ
   pub place : Place
 
+-- the name is among some
 abbrev pub is_among : List (List ℕ) → List ℕ → Bool
 is_among names name = list_any (same name) names
 
@@ -44,6 +45,7 @@ pub record Holding : Type 0 where
   pub sets : List (List ℕ)
   pub held : List (List ℕ)
 
+-- an owner with the sets and the items whose names must differ
 abbrev pub row : List ℕ → List (List ℕ) → List (List ℕ) → Holding
 row owner sets held = record { owner = owner; sets = sets; held = held }
 
@@ -67,6 +69,7 @@ holdings =
 abbrev pub children_among : List Node → List (List ℕ) → ℕ → List ℕ
 children_among t names n = filter (λ child. is_among names (name_at t child)) (children_at t n)
 
+-- the owner and the sets in it
 abbrev pub sets_in : List Node → List (List ℕ) → ℕ → List ℕ
 sets_in t [] owner = owner ∷ []
 sets_in t (set ∷ sets) owner = children_among t (set ∷ sets) owner
@@ -75,6 +78,7 @@ sets_in t (set ∷ sets) owner = children_among t (set ∷ sets) owner
 abbrev pub held_by : List Node → Holding → ℕ → List ℕ
 held_by t o owner = flat_map (children_among t o.held) (sets_in t o.sets owner)
 
+-- an element by its name and place
 abbrev pub named_at : List Node → ℕ → ℕ → Named
 named_at t file n = record { key = own_name t n; own = own_name t n; place = record { file = file; node = n } }
 
@@ -82,6 +86,7 @@ named_at t file n = record { key = own_name t n; own = own_name t n; place = rec
 abbrev pub repeats_by : List Node → ℕ → ℕ → Holding → List Refusal
 repeats_by t file owner o = if same (name_at t owner) o.owner then repeats [] (map (named_at t file) (held_by t o owner)) else []
 
+-- all repeated names of one owner
 abbrev pub repeats_at : List Node → ℕ → Standing → List Refusal
 repeats_at t file s = flat_map (repeats_by t file s.node) holdings
 
@@ -96,5 +101,6 @@ repeats_from file (t ∷ ts) = repeats_in file t ++ repeats_from (file + 1) ts
 
 -- ---- the rows as the code has them
 
+-- such a row of the code's table
 abbrev pub holding_of : Ownership → Holding
 holding_of o = record { owner = o.owner.now; sets = map (λ s. s.now) o.sets.now; held = map (λ h. h.now) o.held.now }

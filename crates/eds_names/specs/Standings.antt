@@ -40,6 +40,7 @@ standings_of t = standings_from t (length t) (record { parent = 0; node = 0; in_
 abbrev pub joined : List ℕ → List ℕ → List ℕ
 joined first second = first ++ 47 ∷ second
 
+-- the name of a package; the root has none
 abbrev pub package_name : List Node → ℕ → Option (List ℕ)
 package_name t n = if nat_eq n 0 then None else Some (own_name t n)
 
@@ -61,6 +62,7 @@ abbrev pub written : {A : Type 0} → List A → List (ℕ × A) → List A
 written xs [] = xs
 written xs (w ∷ ws) = written (slice_set xs w.0 w.1) ws
 
+-- an element's number with the name around it
 abbrev pub around_entry : List Node → Standing → ℕ × Option (List ℕ)
 around_entry t s = (s.node, around t s)
 

@@ -13,6 +13,7 @@ use Rattle.eds_graph.specs.Ways.{is_met, all_courses}
 
 -- ---- families
 
+-- what stands for a type behind its base
 abbrev pub after_base : (ℕ → ℕ) → ℕ → Option ℕ → ℕ
 after_base up id None = id
 after_base up id (Some base) = up base
@@ -73,6 +74,7 @@ holding t names = map (held_in t names) (range_with_len 0 (length t))
 
 -- ---- nesting
 
+-- the course of a family
 abbrev pub course_at : List Course → ℕ → Course
 course_at courses name = unwrap_or (slice_get courses name) (Ends 1)
 
@@ -96,6 +98,7 @@ endless_met t names = map (meets_endless t names) names
 
 -- ---- the containers of a family
 
+-- the kind is a container
 abbrev pub is_container : Kind → Bool
 is_container k = is_some (container_by k)
 

@@ -35,7 +35,7 @@ module _ (t : Table) (cs ds : List Constraint) (ours theirs : List PathSet) (are
       go (Some set) e None f w = solves_one cs ds ours theirs are others path set e n w (subst (λ o. IsWithinOn o n) (sym f) tt)
       go (Some set) e (Some other) f w = solves_one cs ds ours theirs are others path set e n w.0 (subst (λ o. IsWithinOn o n) (sym f) w.1)
 
-  to_both : (path : Steps) (n : ℤ) → IsConstrained (cs ++ ds) path → IsSolution t (cs ++ ds) path n → IsInBoth ours theirs path n
+  pub to_both : (path : Steps) (n : ℤ) → IsConstrained (cs ++ ds) path → IsSolution t (cs ++ ds) path n → IsInBoth ours theirs path n
   to_both path n con s = go (set_on ours path) refl (set_on theirs path) refl
     where
       first : (a : Option (List Span)) → set_on ours path ≡ a → IsWithinOn a n

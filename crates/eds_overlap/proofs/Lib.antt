@@ -26,3 +26,4 @@ pub mod Meeting
 pub mod UsedTypes
 pub mod Gathering
 pub mod CommonNumbers
+pub mod ToldApart

@@ -6,3 +6,5 @@ pub mod Underived
 pub mod Used
 pub mod PathTexts
 pub mod Common
+pub mod Marks
+pub mod Notes

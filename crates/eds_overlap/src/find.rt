@@ -7,9 +7,11 @@ ghost use Rattle.eds_types.specs.Rows.{list_has};
 ghost use Rattle.eds_types.specs.Reading.{starts_above};
 ghost use Rattle.eds_types.specs.Overlap.{Overlapping};
 ghost use Rattle.eds_overlap.specs.Common.{AreLeastCommon};
+ghost use Rattle.eds_overlap.specs.Marks.{AreMarks};
 ghost use Rattle.eds_overlap.specs.Pairs.{AllSets, Meets, Agrees, ArePartedAt, IsReadThrough, Named, IsWithinOn, IsFirstPair, IsFirstWith, set_on, shared, numbers_of, has_used};
 
 use crate::common::{Common, common_numbers};
+use crate::marks::{Mark, all_marks, are_told_apart};
 use crate::paths::find_set;
 use crate::sets::solution_sets;
 use eds_base::{Items, Memory, TypeId};
@@ -47,7 +49,9 @@ pub fn find_overlap(
 {
     let sets = all_sets(alloc, table)?;
     let sets = sets.as_slice();
-    let Some(pair) = first_pair(table, used.as_slice(), sets) else {
+    let marks = all_marks(alloc, table, sets)?;
+    let marks = marks.as_slice();
+    let Some(pair) = first_pair(table, used.as_slice(), sets, marks) else {
         return Ok(None);
     };
     let ours = sets[pair.first.0 as usize].as_slice();
@@ -191,19 +195,24 @@ fn overlap_of(
     table: &TypeTable,
     used: &[TypeId],
     sets: &[Sets],
+    marks: &[Option<Mark>],
     first: TypeId,
     second: TypeId,
 ) -> Option<TypeId>
     requires sets { AllSets table.now sets.now }
+    requires marks { AreMarks sets.now marks.now }
     requires first { first.0 < length table.now }
     requires second { second.0 < length table.now }
     ensures some { IfSome result (λ x. Overlapping table.now (Named used.now) x.0 first.0 second.0) }
     ensures none { IfNone result ((x : ℕ) → Overlapping table.now (Named used.now) x first.0 second.0 → ⊥) }
 {
+    table.keeps_rules();
+    if are_told_apart(&marks[first.0 as usize], &marks[second.0 as usize]) {
+        return None;
+    }
     if !table.is_concrete(first) || !table.is_concrete(second) {
         return None;
     }
-    table.keeps_rules();
     let ours = sets[first.0 as usize].as_slice();
     let theirs = sets[second.0 as usize].as_slice();
     match parting(table, first, second) {
@@ -234,15 +243,22 @@ fn met_at(
 }
 
 // The first of the types before another one with which it overlaps.
-fn first_with(table: &TypeTable, used: &[TypeId], sets: &[Sets], second: TypeId) -> Option<Pair>
+fn first_with(
+    table: &TypeTable,
+    used: &[TypeId],
+    sets: &[Sets],
+    marks: &[Option<Mark>],
+    second: TypeId,
+) -> Option<Pair>
     requires sets { AllSets table.now sets.now }
+    requires marks { AreMarks sets.now marks.now }
     requires second { second.0 < length table.now }
     ensures some { IfSome result (λ p. (p.second ≡ second) × IsFirstWith table.now (Named used.now) p.ancestor.0 p.first.0 second.0) }
     ensures none { IfNone result ((x k : ℕ) → k < second.0 → Overlapping table.now (Named used.now) x k second.0 → ⊥) }
 {
     for first in 0..second.0 {
         let first = TypeId(first);
-        match overlap_of(table, used, sets, first, second) {
+        match overlap_of(table, used, sets, marks, first, second) {
             Some(ancestor) => {
                 return Some(Pair {
                     first,
@@ -257,13 +273,19 @@ fn first_with(table: &TypeTable, used: &[TypeId], sets: &[Sets], second: TypeId)
 }
 
 // The first pair of types that overlap.
-fn first_pair(table: &TypeTable, used: &[TypeId], sets: &[Sets]) -> Option<Pair>
-    requires { AllSets table.now sets.now }
+fn first_pair(
+    table: &TypeTable,
+    used: &[TypeId],
+    sets: &[Sets],
+    marks: &[Option<Mark>],
+) -> Option<Pair>
+    requires sets { AllSets table.now sets.now }
+    requires marks { AreMarks sets.now marks.now }
     ensures some { IfSome result (λ p. IsFirstPair table.now (Named used.now) p.ancestor.0 p.first.0 p.second.0) }
     ensures none { IfNone result ((x k l : ℕ) → Overlapping table.now (Named used.now) x k l → ⊥) }
 {
     for second in 0..table.len() {
-        match first_with(table, used, sets, TypeId(second)) {
+        match first_with(table, used, sets, marks, TypeId(second)) {
             Some(pair) => return Some(pair),
             None => {}
         }

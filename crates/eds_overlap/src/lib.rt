@@ -4,10 +4,13 @@
 mod common;
 mod find;
 pub mod law;
+mod marks;
+mod note;
 mod paths;
 mod sets;
 mod texts;
 
 pub use common::Common;
 pub use find::{Overlap, find_overlap};
+pub use note::overlap_refusal;
 pub use sets::solution_sets;

@@ -6,9 +6,11 @@ use Rattle.eds_tree.specs.Rows.{TextForm, Name, PackageName, Reference, Path, Wh
 
 -- ---- attributes, each with the form of its text; where one name has several forms, the second has a name of its own here
 
+-- an attribute by its name and the form of its texts
 abbrev attribute : String → TextForm → AttributeRow
 attribute name form = record { name = codes name; form = form }
 
+-- one of these words
 abbrev words : List String → TextForm
 words ws = Word (map codes ws)
 
@@ -164,27 +166,35 @@ whole_value = attribute "value" Whole
 
 -- ---- columns
 
+-- any number of children of a name
 abbrev any : String → ChildRow
 any name = record { name = codes name; mark = Any }
 
+-- at most one
 abbrev at_most_one : String → ChildRow
 at_most_one name = record { name = codes name; mark = AtMostOne }
 
+-- exactly one
 abbrev one : String → ChildRow
 one name = record { name = codes name; mark = One }
 
+-- one or more
 abbrev at_least_one : String → ChildRow
 at_least_one name = record { name = codes name; mark = AtLeastOne }
 
+-- exactly two
 abbrev two : String → ChildRow
 two name = record { name = codes name; mark = Two }
 
+-- an element under these parents, with its attributes and children
 abbrev under : List String → List AttributeRow → List AttributeRow → List ChildRow → ElementShape
 under parents required optional children = record { parents = map codes parents; required = required; optional = optional; children = children }
 
+-- an element under any parent that lists it
 abbrev anywhere : List AttributeRow → List AttributeRow → List ChildRow → ElementShape
 anywhere = under []
 
+-- an element with one description
 abbrev element : String → ElementShape → ElementRow
 element name shape = record { name = codes name; shapes = shape ∷ [] }
 
@@ -303,5 +313,6 @@ table_five =
     element "VariableRef" (anywhere (variableRef ∷ []) [] []) ∷
     element "VariableSet" (anywhere [] [] (any "Variable" ∷ [])) ∷ []
 
+-- all elements, in byte order of their names
 abbrev pub element_table : List ElementRow
 element_table = table_one ++ (table_two ++ (table_three ++ (table_four ++ (table_five ++ []))))

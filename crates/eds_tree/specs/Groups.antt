@@ -4,6 +4,7 @@ use Rattle.std.specs.Prelude.{ℕ, List, [], ◌∷◌, map, codes, Bool, if◌t
 use Rattle.eds_base.specs.Reading.{same}
 use Rattle.eds_tree.specs.Shapes.{is_among}
 
+-- the name is one of these
 abbrev is_one_of : List ℕ → List String → Bool
 is_one_of name members = is_among (map codes members) name
 

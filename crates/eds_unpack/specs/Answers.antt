@@ -22,6 +22,7 @@ IsValue v n (Err stop) = IsMemory stop
 
 -- ---- one fault
 
+-- a call stopped with this fault
 abbrev pub StopsAt : Fault → Fail Fault → Type 0
 StopsAt g (Named fault) = fault ≡ g
 StopsAt g Memory = Unit {0}
@@ -31,6 +32,7 @@ abbrev pub IsFault : Fault → Result (Value × ℕ) (Fail Fault) → Type 0
 IsFault g (Ok x) = ⊥
 IsFault g (Err stop) = StopsAt g stop
 
+-- something holds of the fault that a call stopped with
 abbrev pub IfNamed : (Fault → Type 0) → Fail Fault → Type 0
 IfNamed P (Named fault) = P fault
 IfNamed P Memory = Unit {0}

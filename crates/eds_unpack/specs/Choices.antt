@@ -8,6 +8,7 @@ use Rattle.eds_types.specs.Rows.{Table}
 use Rattle.eds_unpack.specs.declared.choice.Next.{Next as Chosen}
 use Rattle.eds_unpack.specs.declared.choice.Next.TheVariants as chosen
 
+-- the numbers of some types
 abbrev pub numbers_of : List TypeId → List ℕ
 numbers_of ids = map (λ (id : TypeId). id.0) ids
 
@@ -15,6 +16,7 @@ numbers_of ids = map (λ (id : TypeId). id.0) ids
 abbrev pub meets : Table → ℕ → List Field → Constraint → Bool
 meets t x fs c = cond (starts_above t x c.path) (holds t fs c) true
 
+-- what a choice is in the definition
 abbrev pub next_in : Chosen → Next
 next_in chosen.Stay = stay
 next_in chosen.Nowhere = nowhere

@@ -20,9 +20,11 @@ MovesOn b rest = (c : Bits) × (b ≡ c ++ rest)
 
 -- ---- fields
 
+-- a field that was read, as one of the definition
 abbrev pub field_read : ReadField → Field
 field_read f = field_at f.container.0 f.place (plain f.value)
 
+-- all fields that were read
 abbrev pub fields_of : List ReadField → List Field
 fields_of fs = map field_read fs
 

@@ -18,6 +18,7 @@ use Rattle.eds_types.specs.Rules.{KeepsRules, IsInt, IsScale}
 
 -- ---- scalars and texts
 
+-- a number, whose digits are all below ten
 abbrev pub decimal : Option ℤ → Result ℤ Fault
 decimal None = Err (fault_here reason.BadDigit)
 decimal (Some n) = Ok n

@@ -10,6 +10,7 @@ use Rattle.eds_types.specs.Plain.{Plain}
 use Rattle.eds_types.specs.Reading.{Read}
 use Rattle.eds_unpack.specs.Answers.{IsOfReading}
 
+-- a call that stopped with a fault has that fault to read
 abbrev pub Stops : {Y : Type 0} → Fail Fault → Result Y Fault → Type 0
 Stops (Named fault) read = read ≡ Err fault
 Stops Memory read = Unit {0}

@@ -15,13 +15,16 @@ abbrev pub seek : List Placed → ℕ → ℕ → ℕ → Result ℕ ℕ
 seek [] n y i = Err n
 seek (p ∷ ps) n y i = if has_value p.part then (if p.container == y && p.place == i then Ok n else seek ps (n + 1) y i) else seek ps n y i
 
+-- the value at a place that may be there
 abbrev pub nth : List Plain → Result ℕ ℕ → Option Plain
 nth vs (Ok n) = slice_get vs n
 nth vs (Err n) = None
 
+-- the entries of some types, one after the other
 abbrev pub entries_along : Table → List TypeId → List Placed
 entries_along t ids = flat_map (λ (id : TypeId). placed_entries t id.0) ids
 
+-- the trailers of some types, one after the other
 abbrev pub trailers_along : Table → List TypeId → List Placed
 trailers_along t ids = flat_map (λ (id : TypeId). placed_trailers t id.0) ids
 
@@ -44,6 +47,7 @@ abbrev pub length_among : List Placed → Option Step
 length_among [] = None
 length_among (p ∷ ps) = or_else (if_length p.part p) (length_among ps)
 
+-- a step that may be there
 abbrev pub steps_of : Option Step → List Step
 steps_of None = []
 steps_of (Some s) = s ∷ []

@@ -9,6 +9,7 @@ use Rattle.eds_types.specs.Sizes.{part_size}
 abbrev pub limit : ℕ
 limit = 2 ^ 101
 
+-- a size, or the limit where it is larger
 abbrev pub limited : ℕ → ℕ
 limited n = min n limit
 
@@ -20,5 +21,6 @@ limited_size o = limited (unwrap_or o 0)
 abbrev pub sizes_of : Table → List Part → ℕ
 sizes_of t ps = sum_by (λ p. unwrap_or (part_size t p) 0) ps
 
+-- the sizes of the trailers of some types together
 abbrev pub trailers_sizes : Table → List TypeId → ℕ
 trailers_sizes t ids = sum_by (λ (id : TypeId). sizes_of t (trailers_of t id.0)) ids
