@@ -3,7 +3,6 @@ use Rattle.std.proofs.Common.{◌≡◌, ℕ, zero, suc, ◌<◌, List, [], ◌�
 use Rattle.std.specs.Prelude.{if◌then◌else◌}
 use Rattle.std.specs.List.{AllByRecursion}
 use Rattle.std.proofs.lemmas.Option.{slice_get_within}
-use Rattle.eds_pack.specs.BuiltTables.{IsBuiltTable}
 use Rattle.eds_types.specs.Plain.{Plain, plain}
 use Rattle.eds_types.specs.Rows.{Table}
 use Rattle.eds_types.specs.Spelling.{SpellsWithin}
@@ -57,9 +56,8 @@ member_known t way op.Get (member.Command name args) h = none_known t
 member_known t way op.Set (member.Command name args) h = none_known t
 member_known t way op.Val (member.Command name args) h = none_known t
 
-pub fitted : (t : Table) (Carries : ℕ → ℕ → Op → List ℕ → Type 0) (c : ComponentPlan) → IsBuiltTable t → ComponentFits t (Conforms t) Carries c → Fits t c
-fitted t Carries c built f = record {
-  built = built;
+pub fitted : (t : Table) (Carries : ℕ → ℕ → Op → List ℕ → Type 0) (c : ComponentPlan) → ComponentFits t (Conforms t) Carries c → Fits t c
+fitted t Carries c f = record {
   variables = variables_known t c.variables f.initial;
   members = λ i j e m o at at'. member_known t (way_of e) o m (let P : Option Member → Type 0 = MemberKnown t in subst P at' (f.members i j e at));
   arguments = λ i a at j id at'. f.known i j a id at at';

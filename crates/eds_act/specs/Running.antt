@@ -5,7 +5,6 @@ use Rattle.eds_base.specs.declared.ids.TypeId.{TypeId}
 use Rattle.std.specs.List.{flat_map}
 use Rattle.eds_types.specs.Rows.{Table, Placed, placed_entries, placed_trailers}
 use Rattle.eds_types.specs.Plain.{Plain, plain}
-use Rattle.eds_pack.specs.BuiltTables.{IsBuiltTable}
 use Rattle.eds_plan.specs.declared.activity.Activity.{Activity}
 use Rattle.eds_plan.specs.declared.component.ComponentPlan.{ComponentPlan}
 use Rattle.eds_plan.specs.declared.run.Halt.{Halt}
@@ -61,7 +60,6 @@ put_before us (Some vs) = Some (us ++ vs)
 
 -- the types that the component names are of the table
 pub record Fits (t : Table) (c : ComponentPlan) : Type 0 where
-  pub built : IsBuiltTable t
   pub variables : IsKnown t (variable_types c)
   pub members : (i j : ℕ) (e : EndPlan) (m : Member) (o : Op) → slice_get c.ends i ≡ Some e → slice_get e.instance.members j ≡ Some m → IsKnown t (carried o (way_of e) (Some m))
   pub arguments : (i : ℕ) (a : Activity) → slice_get c.activities i ≡ Some a → IsKnown t (argument_types a)

@@ -2,7 +2,6 @@
 
 ghost use Rattle.std.specs.Prelude.{◌≡◌, ℕ, ◌<◌, length, Bool, map, List, [], ◌∷◌, ◌++◌, Option, option_map, IfOk, OnOk};
 ghost use Rattle.std.specs.Option.{option_copied};
-ghost use Rattle.eds_pack.specs.BuiltTables.{IsBuiltTable};
 ghost use Rattle.eds_types.specs.Plain.{Plain, plain};
 ghost use Rattle.eds_act.specs.Does.{Tells, value_of, argument_of, arguments_of, argument_types, is_carried, carried_of, carried};
 ghost use Rattle.eds_act.specs.Running.{IsKnown, types_of};
@@ -23,7 +22,6 @@ fn argument_of(
     variables: &[Value],
     operand: &Operand,
 ) -> Result<Option<Value>, Memory>
-    requires built { IsBuiltTable table.now }
     requires known { id.0 < length table.now }
     ensures { IfOk result (λ v. (packs : ℕ → Plain → Bool) → Tells table.now packs → option_map plain v ≡ argument_of packs id.0 (value_of table.now (map plain arguments.now) (map plain variables.now) operand.now)) }
 {
@@ -48,7 +46,6 @@ pub(crate) fn arguments_of(
     variables: &[Value],
     operands: &[Operand],
 ) -> Result<Option<Vec<Value>>, Memory>
-    requires built { IsBuiltTable table.now }
     requires known { IsKnown table.now (types_of types.now) }
     ensures { IfOk result (λ vs. (packs : ℕ → Plain → Bool) → Tells table.now packs → option_map (λ v. map plain v.items) vs ≡ arguments_of packs (types_of types.now) (map (value_of table.now (map plain arguments.now) (map plain variables.now)) operands.now)) }
 {

@@ -1,7 +1,6 @@
 //! Whether a value packs.
 
 ghost use Rattle.std.specs.Prelude.{◌≡◌, ℕ, ◌<◌, length, Bool, true, IsTrue};
-ghost use Rattle.eds_pack.specs.BuiltTables.{IsBuiltTable};
 ghost use Rattle.eds_types.specs.Plain.{Plain, plain};
 ghost use Rattle.eds_act.specs.Does.{Conforms, Tells};
 
@@ -12,7 +11,6 @@ use eds_types::{TypeTable, Value};
 /// Whether a value packs as a type.
 pub(crate) fn packs(table: &TypeTable, id: TypeId, value: &Value) -> bool
     requires known { id.0 < length table.now }
-    requires built { IsBuiltTable table.now }
     ensures told { (packs : ℕ → Plain → Bool) → Tells table.now packs → packs id.0 (plain value.now) ≡ result }
     ensures conforms { result ≡ true → Conforms table.now id.0 (plain value.now) }
 {

@@ -2,7 +2,6 @@
 
 ghost use Rattle.std.specs.Prelude.{◌≡◌, ℕ, ◌<◌, length, Bool, true, map, List, Option, None, Some, option_map, slice_set, slice_get, IfOk, if◌then◌else◌};
 ghost use Rattle.eds_base.specs.declared.ids.TypeId.{TypeId};
-ghost use Rattle.eds_pack.specs.BuiltTables.{IsBuiltTable};
 ghost use Rattle.eds_types.specs.Plain.{Plain, plain};
 ghost use Rattle.eds_act.specs.Does.{Item, Conforms, Tells, AllConform, variable_types, storing, halts, goes};
 ghost use Rattle.eds_act.specs.Running.{world, IsKnown, OnHalted, stored};
@@ -36,7 +35,6 @@ pub(crate) fn put(variables: &mut Vec<Value>, at: usize, value: Value)
 // Puts a value at a place, where it packs as the type.
 fn put_as(table: &TypeTable, id: TypeId, variables: &mut Vec<Value>, at: u16, value: Value) -> bool
     requires known { id.0 < length table.now }
-    requires built { IsBuiltTable table.now }
     ensures told { (packs : ℕ → Plain → Bool) → Tells table.now packs → packs id.0 (plain value) ≡ result }
     ensures conforms { result ≡ true → Conforms table.now id.0 (plain value) }
     ensures put { map plain variables.new.items ≡ (if result then slice_set (map plain variables.old.items) at (plain value) else map plain variables.old.items) }
@@ -56,7 +54,6 @@ pub(crate) fn store(
     at: u16,
     value: Option<Value>,
 ) -> ActEnd
-    requires built { IsBuiltTable table.now }
     requires known { IsKnown table.now (variable_types comp.now) }
     requires conform { AllConform table.now (variable_types comp.now) (map plain event.old.variables.items) }
     ensures conform { AllConform table.now (variable_types comp.now) (map plain event.new.variables.items) }

@@ -1,4 +1,6 @@
 pub mod Once
+pub mod Judged
+pub mod Indexing
 pub mod Counting
 pub mod Same
 pub mod Gathering

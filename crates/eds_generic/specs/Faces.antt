@@ -1,5 +1,5 @@
 -- What interfaces say themselves, by their numbers.
-use Rattle.std.specs.Prelude.{ℕ, List, [], ◌∷◌, Option, Some, None, slice_get, if◌then◌else◌}
+use Rattle.std.specs.Prelude.{ℕ, ◌+◌, List, [], ◌∷◌, map, Bool, false, ◌==◌, Option, Some, None, slice_get, if◌then◌else◌}
 use Rattle.eds_base.specs.Reading.{same}
 use Rattle.eds_generic.specs.declared.face.Face.{Face}
 use Rattle.eds_generic.specs.declared.face.Base.{Base}
@@ -32,7 +32,23 @@ own_by (Some f) = f.members
 abbrev pub own : List Face → ℕ → List OwnMember
 own faces f = own_by (slice_get faces f)
 
--- what a map says of a name, of several of one name the first
-abbrev pub mapped : List Mapped → List ℕ → Option Source
-mapped [] name = None
-mapped (m ∷ ms) name = if same m.name name then Some m.source else mapped ms name
+-- the names of some generic types
+abbrev pub names_of : List Generic → List (List ℕ)
+names_of gs = map (λ g. g.name) gs
+
+-- the position of a name among some, of which the first has the number k; of several of one name the first counts
+abbrev pub place_from : ℕ → List (List ℕ) → List ℕ → Option ℕ
+place_from k [] name = None
+place_from k (n ∷ ns) name = if same n name then Some k else place_from (k + 1) ns name
+
+abbrev pub place_among : List (List ℕ) → List ℕ → Option ℕ
+place_among names name = place_from 0 names name
+
+abbrev pub is_at : Option ℕ → ℕ → Bool
+is_at None k = false
+is_at (Some g) k = g == k
+
+-- what a map says of the generic name at a position, of several of one name the first
+abbrev pub mapped : List Mapped → ℕ → Option Source
+mapped [] k = None
+mapped (m ∷ ms) k = if is_at m.generic k then Some m.source else mapped ms k

@@ -1,4 +1,5 @@
 pub mod Faces
+pub mod Names
 pub mod Stops
 pub mod Pairs
 pub mod Members

@@ -8,17 +8,18 @@ use Rattle.eds_plan.specs.declared.instance.Argument.{Argument}
 use Rattle.eds_plan.specs.declared.instance.Member.{Member}
 use Rattle.eds_plan.specs.declared.instance.Member.TheVariants as member
 use Rattle.eds_generic.specs.declared.face.Face.{Face}
-use Rattle.eds_generic.specs.declared.face.Generic.{Generic}
+use Rattle.eds_generic.specs.declared.face.Base.{Base}
+use Rattle.eds_generic.specs.declared.face.Mapped.{Mapped}
 use Rattle.eds_generic.specs.declared.face.Source.{Source}
+use Rattle.eds_generic.specs.declared.face.Source.TheVariants as source
 use Rattle.eds_generic.specs.declared.face.OwnArgument.{OwnArgument}
 use Rattle.eds_generic.specs.declared.face.OwnMember.{OwnMember}
 use Rattle.eds_generic.specs.declared.face.OwnMember.TheVariants as own_member
 use Rattle.eds_generic.specs.declared.pair.Bound.{Bound}
 use Rattle.eds_generic.specs.declared.pair.Bound.TheVariants as bound
-use Rattle.eds_generic.specs.declared.pair.Further.{Further}
 use Rattle.eds_generic.specs.declared.pair.Pair.{Pair}
-use Rattle.eds_generic.specs.Faces.{generics, own}
-use Rattle.eds_generic.specs.Pairs.{meant, is_generic, gathered, most, put_all}
+use Rattle.eds_generic.specs.Faces.{generics, names_of, place_among, own}
+use Rattle.eds_generic.specs.Pairs.{meant, below_by, gathered, most, put_all}
 
 -- ---- own members, each generic name replaced
 
@@ -59,20 +60,15 @@ declared_count faces ps = length (flat_map (members_of faces) ps)
 
 -- ---- an interface under a given map
 
--- what a map says of a generic name, of several of one name the first
-abbrev pub bound_named : List (List ℕ × TypeId) → List ℕ → Bound
-bound_named [] name = bound.Unmapped
-bound_named (m ∷ ms) name = if same m.0 name then bound.Sort m.1 else bound_named ms name
+abbrev pub mapped_given : List (List ℕ) → (List ℕ × TypeId) → Mapped
+mapped_given own m = record { name = m.0; generic = place_among own m.0; source = source.Sort m.1 }
 
-abbrev pub further_named : List Generic → (List ℕ × TypeId) → List Further
-further_named own m = if is_generic own m.0 then [] else record { name = m.0; bound = bound.Sort m.1 } ∷ []
+-- a given map as that of a base
+abbrev pub base_given : List Face → FaceId → List (List ℕ × TypeId) → Base
+base_given faces face ms = record { face = face; maps = map (mapped_given (names_of (generics faces face.0))) ms }
 
 abbrev pub under : List Face → FaceId → List (List ℕ × TypeId) → Pair
-under faces face ms = record {
-  face = face;
-  types = map (λ g. bound_named ms g.name) (generics faces face.0);
-  further = flat_map (further_named (generics faces face.0)) ms;
-}
+under faces face ms = below_by faces [] (base_given faces face ms)
 
 -- ---- names of members
 

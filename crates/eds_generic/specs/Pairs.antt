@@ -1,6 +1,6 @@
 -- Interfaces under maps of their generic names.
-use Rattle.std.specs.Prelude.{◌≡◌, ℕ, zero, suc, List, [], ◌∷◌, ◌++◌, map, length, Bool, true, false, ◌&&◌, ◌==◌, if◌then◌else◌, Option, Some, None, slice_get}
-use Rattle.std.specs.List.{flat_map, list_any, list_all}
+use Rattle.std.specs.Prelude.{◌≡◌, ℕ, zero, suc, List, [], ◌∷◌, ◌++◌, map, length, Bool, true, false, ◌&&◌, ◌==◌, if◌then◌else◌, Option, Some, None, slice_get, set}
+use Rattle.std.specs.List.{flat_map, list_any, list_all, range_with_len}
 use Rattle.eds_base.specs.Reading.{same}
 use Rattle.eds_generic.specs.declared.face.Face.{Face}
 use Rattle.eds_generic.specs.declared.face.Base.{Base}
@@ -39,20 +39,22 @@ meant_by types (Some s) = meant types s
 
 -- what the generic names of a base stand for, in their own order
 abbrev pub bound_types : List Bound → List Mapped → List Generic → List Bound
-bound_types types maps own = map (λ g. meant_by types (mapped maps g.name)) own
+bound_types types maps own = map (λ k. meant_by types (mapped maps k)) (range_with_len 0 (length own))
 
-abbrev pub is_generic : List Generic → List ℕ → Bool
-is_generic own name = list_any (λ g. same g.name name) own
+-- a name that is no generic name of the base is a further one
+abbrev pub further_by : Option ℕ → Further → List Further
+further_by None f = f ∷ []
+further_by (Some k) f = []
 
-abbrev pub further_of : List Bound → List Generic → Mapped → List Further
-further_of types own m = if is_generic own m.name then [] else record { name = m.name; bound = meant types m.source } ∷ []
+abbrev pub further_of : List Bound → Mapped → List Further
+further_of types m = further_by m.generic (record { name = m.name; bound = meant types m.source })
 
 -- a base of an interface under the base's own map, whose types are first replaced by the outer map
 abbrev pub below_by : List Face → List Bound → Base → Pair
 below_by faces types b = record {
   face = b.face;
   types = bound_types types b.maps (generics faces b.face.0);
-  further = flat_map (further_of types (generics faces b.face.0)) b.maps;
+  further = flat_map (further_of types) b.maps;
 }
 
 -- the bases of an interface under a map, in order
@@ -122,3 +124,13 @@ put_all found (p ∷ ps) = put_all (put found p) ps
 -- Some interfaces under maps of which each has all its bases among them.
 abbrev pub IsClosed : List Face → List Pair → Type 0
 IsClosed faces found = (p : Pair) → is_among found p ≡ true → list_all (is_among found) (gathered (most faces) faces p) ≡ true
+
+-- ---- what the code notes of a map
+
+abbrev pub set_at : Option ℕ → Bound → List Bound → List Bound
+set_at None b bound = bound
+set_at (Some k) b bound = set bound k b
+
+-- what generic names stand for, where one name of a map is said anew
+abbrev pub noted : List Bound → Mapped → List Bound → List Bound
+noted types m bound = set_at m.generic (meant types m.source) bound

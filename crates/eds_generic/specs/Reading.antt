@@ -23,6 +23,7 @@ use Rattle.eds_generic.specs.declared.face.Source.TheVariants as source
 use Rattle.eds_generic.specs.declared.face.OwnArgument.{OwnArgument}
 use Rattle.eds_generic.specs.declared.face.OwnMember.{OwnMember}
 use Rattle.eds_generic.specs.declared.face.OwnMember.TheVariants as own_member
+use Rattle.eds_generic.specs.Faces.{place_among}
 
 -- ---- elements of one file
 
@@ -37,6 +38,21 @@ held_in t set name n = flat_map (held t name) (held t set n)
 -- the name that an element gives itself, empty where it gives none
 abbrev pub own_name : List Node → ℕ → List ℕ
 own_name t n = unwrap_or (attribute_at t n (codes "name")) []
+
+-- the generic types of an interface, and their names
+abbrev pub generic_nodes : List Node → ℕ → List ℕ
+generic_nodes t n = held_in t (codes "GenericTypeSet") (codes "GenericType") n
+
+abbrev pub names_in : Option (List Node) → ℕ → List (List ℕ)
+names_in None n = []
+names_in (Some t) n = map (own_name t) (generic_nodes t n)
+
+abbrev pub names_at : List (List Node) → Place → List (List ℕ)
+names_at trees at = names_in (slice_get trees at.file) at.node
+
+-- those of the interface of a number
+abbrev pub names_among : List (List (List ℕ)) → FaceId → List (List ℕ)
+names_among all id = unwrap_or (slice_get all id.0) []
 
 -- ---- what references find
 
@@ -65,15 +81,6 @@ face_or_first id = unwrap_or id (record { 0 = 0 })
 
 -- ---- types as an interface names them
 
-abbrev pub one_more : Option ℕ → Option ℕ
-one_more None = None
-one_more (Some k) = Some (k + 1)
-
--- the position of a name among some, of several the first
-abbrev pub place_among : List (List ℕ) → List ℕ → Option ℕ
-place_among [] name = None
-place_among (n ∷ ns) name = if same n name then Some 0 else one_more (place_among ns name)
-
 abbrev pub source_by : Option ℕ → TypeId → Source
 source_by None id = source.Sort id
 source_by (Some k) id = source.Generic k
@@ -88,10 +95,6 @@ module _ (t : List Node) (names : Names) (file : ℕ) where
   abbrev pub here : ℕ → Place
   here n = record { file = file; node = n }
 
-  -- the generic names of an interface
-  abbrev pub generic_nodes : ℕ → List ℕ
-  generic_nodes n = held_in t (codes "GenericTypeSet") (codes "GenericType") n
-
   abbrev pub base_type : ℕ → Option TypeId
   base_type n = attribute_at t n (codes "baseType") >>= type_found names (here n)
 
@@ -105,14 +108,16 @@ module _ (t : List Node) (names : Names) (file : ℕ) where
   abbrev pub source_of : List (List ℕ) → ℕ → Source
   source_of own n = source_named own n (unwrap_or (attribute_at t n (codes "type")) [])
 
-  abbrev pub mapped_of : List (List ℕ) → ℕ → Mapped
-  mapped_of own n = record { name = own_name t n; source = source_of own n }
+  -- a name in the map of a base, whose interface has these generic names
+  abbrev pub mapped_of : (own base : List (List ℕ)) → ℕ → Mapped
+  mapped_of own base n = record { name = own_name t n; generic = place_among base (own_name t n); source = source_of own n }
 
   abbrev pub base_face : ℕ → FaceId
   base_face n = face_or_first (face_found names (here n) (unwrap_or (attribute_at t n (codes "type")) []))
 
-  abbrev pub base_of : List (List ℕ) → ℕ → Base
-  base_of own n = record { face = base_face n; maps = map (mapped_of own) (held_in t (codes "GenericTypeMapSet") (codes "GenericTypeMap") n) }
+  -- a base, where the generic names of all interfaces are given
+  abbrev pub base_of : (all : List (List (List ℕ))) → (own : List (List ℕ)) → ℕ → Base
+  base_of all own n = record { face = base_face n; maps = map (mapped_of own (names_among all (base_face n))) (held_in t (codes "GenericTypeMapSet") (codes "GenericTypeMap") n) }
 
   -- ---- members
 
@@ -133,18 +138,18 @@ module _ (t : List Node) (names : Names) (file : ℕ) where
 
   -- ---- an interface
 
-  abbrev pub face_by : List ℕ → ℕ → Face
-  face_by generics n =
+  abbrev pub face_by : (all : List (List (List ℕ))) → (generics : List ℕ) → ℕ → Face
+  face_by all generics n =
       let own = map (own_name t) generics in
       record {
         place = here n;
         generics = map generic_of generics;
-        bases = map (base_of own) (held_in t (codes "BaseInterfaceSet") (codes "Base") n);
+        bases = map (base_of all own) (held_in t (codes "BaseInterfaceSet") (codes "Base") n);
         members = members_of own n;
       }
 
-  abbrev pub face_at : ℕ → Face
-  face_at n = face_by (generic_nodes n) n
+  abbrev pub face_at : (all : List (List (List ℕ))) → ℕ → Face
+  face_at all n = face_by all (generic_nodes t n) n
 
 -- ---- all interfaces
 
@@ -155,13 +160,17 @@ is_face_of d = is_face d.item
 abbrev pub face_places : Names → List Place
 face_places names = map (λ d. d.place) (filter is_face_of names.declared)
 
-abbrev pub face_in : Names → Place → Option (List Node) → List Face
-face_in names at None = []
-face_in names at (Some t) = face_at t names at.file at.node ∷ []
+-- the generic names of each of them
+abbrev pub all_names : List (List Node) → Names → List (List (List ℕ))
+all_names trees names = map (names_at trees) (face_places names)
 
-abbrev pub face_of_place : List (List Node) → Names → Place → List Face
-face_of_place trees names at = face_in names at (slice_get trees at.file)
+abbrev pub face_in : Names → (all : List (List (List ℕ))) → Place → Option (List Node) → List Face
+face_in names all at None = []
+face_in names all at (Some t) = face_at t names at.file all at.node ∷ []
+
+abbrev pub face_of_place : List (List Node) → Names → (all : List (List (List ℕ))) → Place → List Face
+face_of_place trees names all at = face_in names all at (slice_get trees at.file)
 
 -- all interfaces of a sheet, each at its number; each declared item stands in one of the files
 abbrev pub faces_of : List (List Node) → Names → List Face
-faces_of trees names = flat_map (face_of_place trees names) (face_places names)
+faces_of trees names = flat_map (face_of_place trees names (all_names trees names)) (face_places names)

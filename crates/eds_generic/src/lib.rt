@@ -7,6 +7,7 @@ mod every;
 mod face;
 mod found;
 mod gather;
+mod generic_names;
 pub mod law;
 mod members;
 mod name_rule;

@@ -3,15 +3,17 @@
 ghost use Rattle.std.specs.Prelude.{◌≡◌, ◌≤◌, ◌<◌, ◌++◌, [], map, length, option_map, true, IfOk, OnOk};
 ghost use Rattle.std.specs.List.{flat_map, list_any};
 ghost use Rattle.eds_plan.specs.declared.instance.Member.{Member as member};
+ghost use Rattle.eds_generic.specs.Faces.{names_of as names_of_generics};
 ghost use Rattle.eds_generic.specs.Pairs.{ends_within, most};
-ghost use Rattle.eds_generic.specs.Members.{id_or_first as id_or_first_of, type_in as type_in_bounds, argument_of as argument_in, member_of as member_in, members_of, members as members_in, each_once as each_once_in, declared_count, bound_named as bound_by_name, further_named, under as under_map, name_of as name_in, is_name_of, repeated};
+ghost use Rattle.eds_generic.specs.Members.{id_or_first as id_or_first_of, type_in as type_in_bounds, argument_of as argument_in, member_of as member_in, members_of, members as members_in, each_once as each_once_in, declared_count, mapped_given as mapped_given_in, under as under_map, name_of as name_in, is_name_of, repeated};
 ghost use Rattle.eds_generic.specs.Stops.{OnNamed};
 ghost use Rattle.eds_generic.specs.NameRules.{first};
 
-use crate::face::{Face, Generic, OwnArgument, OwnMember, Source, generics, is_generic, own};
+use crate::face::{Base, Face, Generic, Mapped, OwnArgument, OwnMember, Source, generics, own};
 use crate::found::Found;
 use crate::gather::{Gathered, TooMany, gather};
-use crate::pair::{Bound, Further, Pair, meant};
+use crate::generic_names::GenericNames;
+use crate::pair::{Bound, Pair, below_by, meant};
 use eds_base::{FaceId, Fail, Items, Memory, Text, TypeId};
 use eds_plan::{Argument, Member};
 use std::alloc::Global;
@@ -132,64 +134,40 @@ pub(crate) fn members(
     Ok(members_over(alloc, faces, pairs.as_slice())?)
 }
 
-fn bound_named(given: &[(Text, TypeId)], name: &str) -> Bound
-    ensures { result ≡ bound_by_name given.now name.now }
+fn names_of(alloc: Global, generics: &[Generic]) -> Result<Vec<Text>, Memory>
+    ensures { IfOk result (λ n. n.items ≡ names_of_generics generics.now) }
 {
-    let mut rest = given;
-    while let [one, after @ ..] = rest {
-        if one.0.as_str() == name {
-            return Bound::Sort(one.1);
-        }
-        rest = after;
-    }
-    Bound::Unmapped
-}
-
-fn push_further(
-    alloc: Global,
-    further: &mut Vec<Further>,
-    generics: &[Generic],
-    one: &(Text, TypeId),
-) -> Result<(), Memory>
-    ensures { OnOk result (further.new.items ≡ further.old.items ++ further_named generics.now one.now) }
-{
-    if is_generic(generics, one.0.as_str()) {
-        return Ok(());
-    }
-    let name = Text::of(alloc, one.0.as_str())?;
-    further.push(Further {
-        name,
-        bound: Bound::Sort(one.1),
-    })?;
-    Ok(())
-}
-
-fn further_names(
-    alloc: Global,
-    generics: &[Generic],
-    given: &[(Text, TypeId)],
-) -> Result<Vec<Further>, Memory>
-    ensures { IfOk result (λ f. f.items ≡ flat_map (further_named generics.now) given.now) }
-{
-    let mut further = Vec::new(alloc);
-    for one in given {
-        push_further(alloc, &mut further, generics, one)?;
-    }
-    Ok(further)
-}
-
-fn bounds(
-    alloc: Global,
-    generics: &[Generic],
-    given: &[(Text, TypeId)],
-) -> Result<Vec<Bound>, Memory>
-    ensures { IfOk result (λ b. b.items ≡ map (λ g. bound_by_name given.now g.name) generics.now) }
-{
-    let mut bounds = Vec::new(alloc);
+    let mut names = Vec::new(alloc);
     for generic in generics {
-        bounds.push(bound_named(given, generic.name.as_str()))?;
+        names.push(Text::of(alloc, generic.name.as_str())?)?;
     }
-    Ok(bounds)
+    Ok(names)
+}
+
+fn mapped_given(alloc: Global, own: &GenericNames, one: &(Text, TypeId)) -> Result<Mapped, Memory>
+    ensures { IfOk result (λ m. m ≡ mapped_given_in own.now one.now) }
+{
+    let name = Text::of(alloc, one.0.as_str())?;
+    Ok(Mapped {
+        name,
+        generic: own.position(one.0.as_str()),
+        source: Source::Sort(one.1),
+    })
+}
+
+fn maps_given(
+    alloc: Global,
+    own: &GenericNames,
+    given: &[(Text, TypeId)],
+) -> Result<Vec<Mapped>, Memory>
+    ensures { IfOk result (λ m. m.items ≡ map (mapped_given_in own.now) given.now) }
+{
+    let mut maps = Vec::new(alloc);
+    for one in given {
+        let mapped = mapped_given(alloc, own, one)?;
+        maps.push(mapped)?;
+    }
+    Ok(maps)
 }
 
 /// An interface under a given map.
@@ -201,14 +179,14 @@ pub(crate) fn under(
 ) -> Result<Pair, Memory>
     ensures { IfOk result (λ p. p ≡ under_map faces.now face given.now) }
 {
-    let generics = generics(faces, face);
-    let types = bounds(alloc, generics, given)?;
-    let further = further_names(alloc, generics, given)?;
-    Ok(Pair {
+    let names = names_of(alloc, generics(faces, face))?;
+    let own = GenericNames::of(alloc, names)?;
+    let maps = maps_given(alloc, &own, given)?;
+    let base = Base {
         face,
-        types: Items::from_vec(types),
-        further: Items::from_vec(further),
-    })
+        maps: Items::from_vec(maps),
+    };
+    below_by(alloc, faces, &[], &base)
 }
 
 fn name_of(member: &Member) -> &str

@@ -1,13 +1,14 @@
 //! Interfaces under maps of their generic names.
 
-ghost use Rattle.std.specs.Prelude.{◌≡◌, ◌++◌, IfOk, OnOk};
-ghost use Rattle.eds_generic.specs.Pairs.{meant as meant_in, meant_by, bound_types as bound_types_in, further_of, below_by as below_by_base, same_bound as is_same_bound, same_types as are_same_types, same_further as is_same_further, all_within as are_within, same_pair as is_same_pair};
+ghost use Rattle.std.specs.Prelude.{◌≡◌, ◌++◌, map, IfOk, OnOk};
+ghost use Rattle.eds_generic.specs.Pairs.{meant as meant_in, meant_by, noted, further_of, below_by as below_by_base, same_bound as is_same_bound, same_types as are_same_types, same_further as is_same_further, all_within as are_within, same_pair as is_same_pair};
 ghost use Rattle.eds_generic.specs.Sameness.{bound_input, pair_input, pairs_alike, same_pair-is, same_pair-partial};
 ghost use Rattle.std.proofs.Common.{rules};
 ghost use Rattle.std.specs.Cmp.Rules.{hashing};
-ghost use Rattle.std.specs.List.{flat_map, list_any};
+ghost use Rattle.std.specs.List.{flat_map, list_any, range_with_len};
+ghost use Rattle.eds_generic.specs.Faces.{mapped};
 
-use crate::face::{Base, Face, Generic, Mapped, Source, bases, generics, is_generic, source_named};
+use crate::face::{Base, Face, Mapped, Source, bases, generics};
 use eds_base::{FaceId, Items, Memory, Text, TypeId};
 use std::alloc::Global;
 use std::hash::{Hash, Hasher};
@@ -54,28 +55,34 @@ pub(crate) fn meant(types: &[Bound], source: Source) -> Bound
     }
 }
 
-fn meant_where(types: &[Bound], source: Option<Source>) -> Bound
-    ensures { result ≡ meant_by types.now source }
+/// Notes what a map says of a generic name.
+fn note(bound: &mut Vec<Bound>, types: &[Bound], one: &Mapped)
+    ensures { bound.new.items ≡ noted types.now one.now bound.old.items }
 {
-    match source {
-        None => Bound::Unmapped,
-        Some(source) => meant(types, source),
+    match one.generic {
+        None => (),
+        Some(k) => {
+            if k < bound.len() {
+                bound[k] = meant(types, one.source);
+            }
+        }
     }
 }
 
-/// What the generic names of a base stand for under the base's map and the outer one.
+/// What so many generic names of a base stand for under the base's map and the outer one.
 fn bound_types(
     alloc: Global,
     types: &[Bound],
     maps: &[Mapped],
-    generics: &[Generic],
+    count: usize,
 ) -> Result<Vec<Bound>, Memory>
-    ensures { IfOk result (λ b. b.items ≡ bound_types_in types.now maps.now generics.now) }
+    ensures { IfOk result (λ b. b.items ≡ map (λ k. meant_by types.now (mapped maps.now k)) (range_with_len 0 count)) }
 {
-    let mut bound = Vec::new(alloc);
-    for generic in generics {
-        let source = source_named(maps, generic.name.as_str());
-        bound.push(meant_where(types, source))?;
+    let mut bound = vec![in alloc; Bound::Unmapped; count]?;
+    let mut left = maps.len();
+    while left > 0 {
+        left -= 1;
+        note(&mut bound, types, &maps[left]);
     }
     Ok(bound)
 }
@@ -84,12 +91,11 @@ fn push_further(
     alloc: Global,
     further: &mut Vec<Further>,
     types: &[Bound],
-    generics: &[Generic],
     one: &Mapped,
 ) -> Result<(), Memory>
-    ensures { OnOk result (further.new.items ≡ further.old.items ++ further_of types.now generics.now one.now) }
+    ensures { OnOk result (further.new.items ≡ further.old.items ++ further_of types.now one.now) }
 {
-    if is_generic(generics, one.name.as_str()) {
+    if one.generic.is_some() {
         return Ok(());
     }
     let name = Text::of(alloc, one.name.as_str())?;
@@ -100,17 +106,12 @@ fn push_further(
     Ok(())
 }
 
-fn further_names(
-    alloc: Global,
-    types: &[Bound],
-    maps: &[Mapped],
-    generics: &[Generic],
-) -> Result<Vec<Further>, Memory>
-    ensures { IfOk result (λ f. f.items ≡ flat_map (further_of types.now generics.now) maps.now) }
+fn further_names(alloc: Global, types: &[Bound], maps: &[Mapped]) -> Result<Vec<Further>, Memory>
+    ensures { IfOk result (λ f. f.items ≡ flat_map (further_of types.now) maps.now) }
 {
     let mut further = Vec::new(alloc);
     for one in maps {
-        push_further(alloc, &mut further, types, generics, one)?;
+        push_further(alloc, &mut further, types, one)?;
     }
     Ok(further)
 }
@@ -124,9 +125,9 @@ pub(crate) fn below_by(
 ) -> Result<Pair, Memory>
     ensures { IfOk result (λ p. p ≡ below_by_base faces.now types.now base.now) }
 {
-    let generics = generics(faces, base.face);
-    let bound = bound_types(alloc, types, base.maps.as_slice(), generics)?;
-    let further = further_names(alloc, types, base.maps.as_slice(), generics)?;
+    let count = generics(faces, base.face).len();
+    let bound = bound_types(alloc, types, base.maps.as_slice(), count)?;
+    let further = further_names(alloc, types, base.maps.as_slice())?;
     Ok(Pair {
         face: base.face,
         types: Items::from_vec(bound),

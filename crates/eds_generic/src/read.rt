@@ -4,21 +4,25 @@ ghost use Rattle.std.specs.Prelude.{◌≡◌, ◌++◌, [], ◌∷◌, map, cod
 ghost use Rattle.std.specs.Option.{option_copied};
 ghost use Rattle.std.specs.List.{flat_map};
 ghost use Rattle.eds_tree.specs.Trees.{attribute_at};
-ghost use Rattle.eds_generic.specs.Reading.{is_yes, held, held_in, own_name as own_name_of, type_of as type_of_item, face_of as face_of_item, type_found as type_found_by, face_found as face_found_by, type_or_first, place_among, base_type as base_type_of, generic_of as generic_at, source_named as source_at_name, source_of as source_at, mapped_of as mapped_at, base_face as base_face_of, base_of as base_at, mode_named as mode_by_name, parameter_of, argument_of as argument_at, command_of, members_of, face_at, face_of_place, face_places as face_places_of, faces_of};
+ghost use Rattle.eds_generic.specs.Faces.{place_among};
+ghost use Rattle.eds_generic.specs.Reading.{is_yes, held, held_in, own_name as own_name_of, type_of as type_of_item, face_of as face_of_item, type_found as type_found_by, face_found as face_found_by, type_or_first, names_among, names_at as names_at_place, base_type as base_type_of, generic_of as generic_at, source_named as source_at_name, source_of as source_at, mapped_of as mapped_at, base_face as base_face_of, base_of as base_at, mode_named as mode_by_name, parameter_of, argument_of as argument_at, command_of, members_of, face_at, face_of_place, face_places as face_places_of, faces_of};
 
 use crate::face::{Base, Face, Generic, Mapped, OwnArgument, OwnMember, Source};
+use crate::generic_names::GenericNames;
 use eds_base::{FaceId, Items, Memory, Place, Text, TypeId};
 use eds_names::{Item, Space};
 use eds_plan::Mode;
 use eds_tree::Tree;
 use std::alloc::Global;
 
-/// A file, by its number among the files of the sheet, and the names of the sheet.
+/// A file, by its number among the files of the sheet, the names of the sheet, and those of its generic types.
 #[derive(Clone, Copy)]
 struct File<'a> {
     tree: &'a Tree,
     space: &'a Space,
     file: u16,
+    /// The generic names of each interface.
+    all: &'a [GenericNames],
 }
 
 fn place(file: u16, node: u32) -> Place
@@ -135,17 +139,6 @@ fn names_of(alloc: Global, tree: &Tree, nodes: &[u32]) -> Result<Vec<Text>, Memo
     Ok(names)
 }
 
-fn position(names: &[Text], name: &str) -> Option<usize>
-    ensures { result ≡ place_among names.now name.now }
-{
-    for (k, one) in names.iter().enumerate() {
-        if one.as_str() == name {
-            return Some(k);
-        }
-    }
-    None
-}
-
 fn base_type(alloc: Global, file: &File, node: u32) -> Result<Option<TypeId>, Memory>
     ensures { IfOk result (λ id. id ≡ base_type_of file.now.tree.now file.now.space.now file.now.file node) }
 {
@@ -186,13 +179,13 @@ fn type_or_zero(id: Option<TypeId>) -> TypeId
 fn source_named(
     alloc: Global,
     file: &File,
-    own: &[Text],
+    own: &GenericNames,
     node: u32,
     text: &str,
 ) -> Result<Source, Memory>
     ensures { IfOk result (λ s. s ≡ source_at_name file.now.tree.now file.now.space.now file.now.file own.now node text.now) }
 {
-    match position(own, text) {
+    match own.position(text) {
         Some(k) => Ok(Source::Generic(k)),
         None => {
             let found = type_found(alloc, file.space, place(file.file, node), text)?;
@@ -201,26 +194,53 @@ fn source_named(
     }
 }
 
-fn source_of(alloc: Global, file: &File, own: &[Text], node: u32) -> Result<Source, Memory>
+fn source_of(alloc: Global, file: &File, own: &GenericNames, node: u32) -> Result<Source, Memory>
     ensures { IfOk result (λ s. s ≡ source_at file.now.tree.now file.now.space.now file.now.file own.now node) }
 {
     source_named(alloc, file, own, node, text_of(file.tree, node, "type"))
 }
 
-fn mapped_of(alloc: Global, file: &File, own: &[Text], node: u32) -> Result<Mapped, Memory>
-    ensures { IfOk result (λ m. m ≡ mapped_at file.now.tree.now file.now.space.now file.now.file own.now node) }
+/// The position of a name among the generic names of the interface of a number.
+fn position_in(all: &[GenericNames], id: FaceId, name: &str) -> Option<usize>
+    ensures { result ≡ place_among (names_among all.now id) name.now }
 {
-    let name = Text::of(alloc, own_name(file.tree, node))?;
-    let source = source_of(alloc, file, own, node)?;
-    Ok(Mapped { name, source })
+    match all.get(id.0 as usize) {
+        None => None,
+        Some(names) => names.position(name),
+    }
 }
 
-fn maps_of(alloc: Global, file: &File, own: &[Text], nodes: &[u32]) -> Result<Vec<Mapped>, Memory>
-    ensures { IfOk result (λ v. v.items ≡ map (mapped_at file.now.tree.now file.now.space.now file.now.file own.now) nodes.now) }
+fn mapped_of(
+    alloc: Global,
+    file: &File,
+    own: &GenericNames,
+    id: FaceId,
+    node: u32,
+) -> Result<Mapped, Memory>
+    ensures { IfOk result (λ m. m ≡ mapped_at file.now.tree.now file.now.space.now file.now.file own.now (names_among file.now.all.now id) node) }
+{
+    let name = Text::of(alloc, own_name(file.tree, node))?;
+    let generic = position_in(file.all, id, own_name(file.tree, node));
+    let source = source_of(alloc, file, own, node)?;
+    Ok(Mapped {
+        name,
+        generic,
+        source,
+    })
+}
+
+fn maps_of(
+    alloc: Global,
+    file: &File,
+    own: &GenericNames,
+    id: FaceId,
+    nodes: &[u32],
+) -> Result<Vec<Mapped>, Memory>
+    ensures { IfOk result (λ v. v.items ≡ map (mapped_at file.now.tree.now file.now.space.now file.now.file own.now (names_among file.now.all.now id)) nodes.now) }
 {
     let mut maps = Vec::new(alloc);
     for node in nodes {
-        let one = mapped_of(alloc, file, own, *node)?;
+        let one = mapped_of(alloc, file, own, id, *node)?;
         maps.push(one)?;
     }
     Ok(maps)
@@ -236,8 +256,8 @@ fn base_face(alloc: Global, file: &File, node: u32) -> Result<FaceId, Memory>
     }
 }
 
-fn base_of(alloc: Global, file: &File, own: &[Text], node: u32) -> Result<Base, Memory>
-    ensures { IfOk result (λ b. b ≡ base_at file.now.tree.now file.now.space.now file.now.file own.now node) }
+fn base_of(alloc: Global, file: &File, own: &GenericNames, node: u32) -> Result<Base, Memory>
+    ensures { IfOk result (λ b. b ≡ base_at file.now.tree.now file.now.space.now file.now.file file.now.all.now own.now node) }
 {
     let face = base_face(alloc, file, node)?;
     let nodes = held_in_sets(
@@ -247,15 +267,20 @@ fn base_of(alloc: Global, file: &File, own: &[Text], node: u32) -> Result<Base, 
         "GenericTypeMap",
         node,
     )?;
-    let maps = maps_of(alloc, file, own, nodes.as_slice())?;
+    let maps = maps_of(alloc, file, own, face, nodes.as_slice())?;
     Ok(Base {
         face,
         maps: Items::from_vec(maps),
     })
 }
 
-fn bases_of(alloc: Global, file: &File, own: &[Text], nodes: &[u32]) -> Result<Vec<Base>, Memory>
-    ensures { IfOk result (λ v. v.items ≡ map (base_at file.now.tree.now file.now.space.now file.now.file own.now) nodes.now) }
+fn bases_of(
+    alloc: Global,
+    file: &File,
+    own: &GenericNames,
+    nodes: &[u32],
+) -> Result<Vec<Base>, Memory>
+    ensures { IfOk result (λ v. v.items ≡ map (base_at file.now.tree.now file.now.space.now file.now.file file.now.all.now own.now) nodes.now) }
 {
     let mut bases = Vec::new(alloc);
     for node in nodes {
@@ -290,7 +315,7 @@ fn push_parameter(
     alloc: Global,
     members: &mut Vec<OwnMember>,
     file: &File,
-    own: &[Text],
+    own: &GenericNames,
     node: u32,
 ) -> Result<(), Memory>
     ensures { OnOk result (members.new.items ≡ members.old.items ++ parameter_of file.now.tree.now file.now.space.now file.now.file own.now node ∷ []) }
@@ -301,7 +326,12 @@ fn push_parameter(
     Ok(())
 }
 
-fn argument_of(alloc: Global, file: &File, own: &[Text], node: u32) -> Result<OwnArgument, Memory>
+fn argument_of(
+    alloc: Global,
+    file: &File,
+    own: &GenericNames,
+    node: u32,
+) -> Result<OwnArgument, Memory>
     ensures { IfOk result (λ a. a ≡ argument_at file.now.tree.now file.now.space.now file.now.file own.now node) }
 {
     let name = Text::of(alloc, own_name(file.tree, node))?;
@@ -316,7 +346,7 @@ fn argument_of(alloc: Global, file: &File, own: &[Text], node: u32) -> Result<Ow
 fn arguments_of(
     alloc: Global,
     file: &File,
-    own: &[Text],
+    own: &GenericNames,
     nodes: &[u32],
 ) -> Result<Vec<OwnArgument>, Memory>
     ensures { IfOk result (λ v. v.items ≡ map (argument_at file.now.tree.now file.now.space.now file.now.file own.now) nodes.now) }
@@ -333,7 +363,7 @@ fn push_command(
     alloc: Global,
     members: &mut Vec<OwnMember>,
     file: &File,
-    own: &[Text],
+    own: &GenericNames,
     node: u32,
 ) -> Result<(), Memory>
     ensures { OnOk result (members.new.items ≡ members.old.items ++ command_of file.now.tree.now file.now.space.now file.now.file own.now node ∷ []) }
@@ -349,7 +379,7 @@ fn push_parameters(
     alloc: Global,
     members: &mut Vec<OwnMember>,
     file: &File,
-    own: &[Text],
+    own: &GenericNames,
     nodes: &[u32],
 ) -> Result<(), Memory>
     ensures { OnOk result (members.new.items ≡ members.old.items ++ map (parameter_of file.now.tree.now file.now.space.now file.now.file own.now) nodes.now) }
@@ -364,7 +394,7 @@ fn push_commands(
     alloc: Global,
     members: &mut Vec<OwnMember>,
     file: &File,
-    own: &[Text],
+    own: &GenericNames,
     nodes: &[u32],
 ) -> Result<(), Memory>
     ensures { OnOk result (members.new.items ≡ members.old.items ++ map (command_of file.now.tree.now file.now.space.now file.now.file own.now) nodes.now) }
@@ -378,7 +408,7 @@ fn push_commands(
 fn own_members(
     alloc: Global,
     file: &File,
-    own: &[Text],
+    own: &GenericNames,
     node: u32,
 ) -> Result<Vec<OwnMember>, Memory>
     ensures { IfOk result (λ v. v.items ≡ members_of file.now.tree.now file.now.space.now file.now.file own.now node) }
@@ -392,14 +422,15 @@ fn own_members(
 }
 
 fn read_face(alloc: Global, file: &File, node: u32) -> Result<Face, Memory>
-    ensures { IfOk result (λ f. f ≡ face_at file.now.tree.now file.now.space.now file.now.file node) }
+    ensures { IfOk result (λ f. f ≡ face_at file.now.tree.now file.now.space.now file.now.file file.now.all.now node) }
 {
     let nodes = held_in_sets(alloc, file.tree, "GenericTypeSet", "GenericType", node)?;
-    let own = names_of(alloc, file.tree, nodes.as_slice())?;
+    let names = names_of(alloc, file.tree, nodes.as_slice())?;
+    let own = GenericNames::of(alloc, names)?;
     let generics = generics_of(alloc, file, nodes.as_slice())?;
     let found = held_in_sets(alloc, file.tree, "BaseInterfaceSet", "Base", node)?;
-    let bases = bases_of(alloc, file, own.as_slice(), found.as_slice())?;
-    let members = own_members(alloc, file, own.as_slice(), node)?;
+    let bases = bases_of(alloc, file, &own, found.as_slice())?;
+    let members = own_members(alloc, file, &own, node)?;
     Ok(Face {
         place: place(file.file, node),
         generics: Items::from_vec(generics),
@@ -419,9 +450,10 @@ fn push_face(
     faces: &mut Vec<Face>,
     trees: &[Tree],
     space: &Space,
+    all: &[GenericNames],
     at: Place,
 ) -> Result<(), Memory>
-    ensures { OnOk result (faces.new.items ≡ faces.old.items ++ face_of_place trees.now space.now at) }
+    ensures { OnOk result (faces.new.items ≡ faces.old.items ++ face_of_place trees.now space.now all.now at) }
 {
     match tree_at(trees, at.file) {
         None => Ok(()),
@@ -430,6 +462,7 @@ fn push_face(
                 tree,
                 space,
                 file: at.file,
+                all,
             };
             let face = read_face(alloc, &file, at.node)?;
             faces.push(face)?;
@@ -450,14 +483,40 @@ fn face_places(alloc: Global, space: &Space) -> Result<Vec<Place>, Memory>
     Ok(places)
 }
 
+fn names_at(alloc: Global, trees: &[Tree], at: Place) -> Result<GenericNames, Memory>
+    ensures { IfOk result (λ g. g ≡ names_at_place trees.now at) }
+{
+    match tree_at(trees, at.file) {
+        None => GenericNames::of(alloc, Vec::new(alloc)),
+        Some(tree) => {
+            let nodes = held_in_sets(alloc, tree, "GenericTypeSet", "GenericType", at.node)?;
+            let names = names_of(alloc, tree, nodes.as_slice())?;
+            GenericNames::of(alloc, names)
+        }
+    }
+}
+
+/// The generic names of the interfaces at some places.
+fn all_names(alloc: Global, trees: &[Tree], places: &[Place]) -> Result<Vec<GenericNames>, Memory>
+    ensures { IfOk result (λ v. v.items ≡ map (names_at_place trees.now) places.now) }
+{
+    let mut all = Vec::new(alloc);
+    for at in places {
+        let names = names_at(alloc, trees, *at)?;
+        all.push(names)?;
+    }
+    Ok(all)
+}
+
 /// The interfaces of a sheet, each at its `FaceId`.
 pub fn read_faces(alloc: Global, trees: &[Tree], space: &Space) -> Result<Vec<Face>, Memory>
     ensures { IfOk result (λ v. v.items ≡ faces_of trees.now space.now) }
 {
     let places = face_places(alloc, space)?;
+    let all = all_names(alloc, trees, places.as_slice())?;
     let mut faces = Vec::new(alloc);
     for at in places.as_slice() {
-        push_face(alloc, &mut faces, trees, space, *at)?;
+        push_face(alloc, &mut faces, trees, space, &all, *at)?;
     }
     Ok(faces)
 }

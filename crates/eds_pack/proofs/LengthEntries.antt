@@ -1,6 +1,6 @@
 -- Length entries of containers: the one that there is, and whether a number of its type tells a size.
-use Rattle.std.proofs.Common.{◌≡◌, ℕ, zero, suc, ◌+◌, ◌-◌, ◌*◌, ◌/◌, ◌^◌, ◌<◌, ◌≤◌, min, ℤ, pos, ◌+ℤ◌, ◌*ℤ◌, nat_abs, Bool, true, false, cond, List, [], ◌∷◌, ◌++◌, length, map, reverse, Option, Some, None, Ok, Err, refl, sym, ap, subst, ◌∙◌, arith, ◌⊎◌, inl, inr}
-use Rattle.std.specs.Prelude.{slice_get, is_ok, is_some, ◌&&◌}
+use Rattle.std.proofs.Common.{◌≡◌, ℕ, ◌+◌, ◌-◌, ◌^◌, ◌<◌, ◌≤◌, ℤ, pos, ◌+ℤ◌, ◌*ℤ◌, nat_abs, Bool, true, false, cond, List, [], ◌∷◌, length, map, reverse, Option, Some, None, Ok, Err, refl, sym, ap, subst, ◌∙◌, arith, inl, inr}
+use Rattle.std.specs.Prelude.{slice_get, is_ok, ◌&&◌}
 use Rattle.std.specs.List.{AllByRecursion, flat_map, list_all}
 use Rattle.std.specs.Ordering.{int_eq}
 use Rattle.std.proofs.Math.Nat.{mul-le-mul}
@@ -21,14 +21,13 @@ use Rattle.eds_types.specs.declared.row.Part.{Part}
 use Rattle.eds_types.specs.declared.row.Part.TheVariants as part
 use Rattle.eds_types.specs.declared.row.TypeRow.{TypeRow}
 use Rattle.eds_types.specs.Failing.{entry, length_step, length_path, if_length as if_there}
-use Rattle.eds_types.specs.Fields.{type_by, IsAtOrUnder}
 use Rattle.eds_types.specs.Packing.{pack_fault_at, pack_fault_here}
 use Rattle.eds_types.specs.PackedSizes.{Size, length_fits, number_size, packed_kind_size, packed_size_within, told_by}
 use Rattle.eds_types.specs.Plain.{Plain, num}
 use Rattle.eds_types.specs.Reading.{is_within}
 use Rattle.eds_types.specs.Rows.{Table, Placed, chain, id_of, entries_of, trailers_of, placed_from, placed_entries, placed_trailers, own_parts, sequence}
-use Rattle.eds_types.specs.Rules.{KeepsRules, KindKeeps, PartKeeps, IsInt, IsIntBy, IsNested, IsScale}
-use Rattle.eds_types.proofs.AllOf.{All-weaker, All-both, All-front, All-back, All-each, All-flat, All-pair, All-reverse}
+use Rattle.eds_types.specs.Rules.{KeepsRules, KindKeeps, PartKeeps, IsInt, IsScale}
+use Rattle.eds_types.proofs.AllOf.{All-both, All-front, All-back, All-flat, All-reverse}
 use Rattle.eds_types.proofs.ReadingTests.{within_from}
 use Rattle.eds_types.proofs.RuleFacts.{facts_of}
 use Rattle.eds_types.proofs.TableFacts.{NoLength, IsLengthOnce}
@@ -93,7 +92,7 @@ module _ (t : Table) where
     entry_keeps (part.Length name id c0 c1) p e nest keep h =
         let f : LengthEntry = record { container = id_of p.container; place = p.place; id = id; c0 = c0; c1 = c1 } in
         let same : e ≡ f = cc in
-        subst EntryKeeps (sym same) (record { nests = nest; int = keep.0; scale = keep.1 })
+        subst EntryKeeps (sym same) (record { nests = nest.0; int = keep.0; scale = keep.1 })
     entry_keeps (part.Check name id c) p e nest keep h = absurd cc
 
     among_keeps : (ps : List Placed) (e : LengthEntry) → AllByRecursion (λ (p : Placed). PartNests t n p.part) ps → AllByRecursion (λ (p : Placed). PartKeeps t p p.part) ps → Some e ≡ length_among ps → EntryKeeps e

@@ -1,11 +1,13 @@
 -- The number with which a length entry tells a size: nothing wraps.
-use Rattle.std.proofs.Common.{◌≡◌, ℕ, suc, ◌+◌, ◌*◌, ◌^◌, ◌<◌, ◌≤◌, ℤ, pos, ◌+ℤ◌, ◌-ℤ◌, ◌*ℤ◌, ◌≤ℤ◌, ◌<ℤ◌, nat_abs, true, false, cond, Option, Some, None, refl, sym, ap, ap₂, subst, ◌∙◌, arith, FitsSigned}
+use Rattle.std.proofs.Common.{◌≡◌, ℕ, zero, suc, ◌+◌, ◌*◌, ◌/◌, ◌^◌, ◌<◌, ◌≤◌, ℤ, pos, negsuc, neg_ℤ, mul-pos, ◌+ℤ◌, ◌-ℤ◌, ◌*ℤ◌, nat_abs, cond, Option, Some, None, refl, sym, ap, ap₂, subst, ◌∙◌, arith, FitsSigned}
 use Rattle.std.specs.Prelude.{int_div, int_rem}
 use Rattle.std.specs.Ordering.{int_eq}
 use Rattle.std.proofs.Math.IntN.{*ℤ_comm}
+use Rattle.std.proofs.Math.Nat.{mul-div_cancel_left}
+use lib.IntN.{+ℤ-neg_ℤ_cancel, +ℤ_comm}
 use Rattle.std.proofs.lemmas.Bool.{false_from_ne_true}
 use Rattle.std.proofs.lemmas.Bool.Decides.{Decides-int_eq}
-use Rattle.std.proofs.lemmas.Int.{ints, to_z-of_z, of_z-to_z, to_z_pos, fits_signed_from_abs, quot-rem, rem_below, quot_is, quot_fits, unsigned_abs-mul}
+use Rattle.std.proofs.lemmas.Int.{ints, to_z-of_z, of_z-to_z, to_z_pos, fits_signed_from_abs, quot-rem, rem_below, quot_fits}
 use mir.Syntax.{w128}
 use mir.Val.{to_z, of_z}
 use Rattle.eds_types.specs.PackedSizes.{told_by}
@@ -45,6 +47,9 @@ module _ (c0 c1 : ℤ) (m : ℕ) (scale : IsScale c0 c1) (few : m ≤ 2 ^ 100) w
       by : (p : ℤ) → nat_abs p ≤ 2 ^ 101 + 2 ^ 32 → nat_abs (c0 +ℤ p) ≤ 2 ^ 102
       by p h = let o = scale.offset in omega (arith, ints)
 
+  pub number_fits : FitsSigned w128 (told_by c0 c1 m)
+  number_fits = quot_fits w128 (pos m -ℤ c0) c1 (fits (pos m -ℤ c0) (omega (arith, rest_small))) (let r = scale.rises in omega (arith, ints))
+
   module _ (x y : ℤ) (offset : x ≡ c0) (factor : y ≡ c1) where
     offset_is : Z x ≡ c0
     offset_is = ap Z offset ∙ same c0 (let o = scale.offset in omega arith)
@@ -62,7 +67,7 @@ module _ (c0 c1 : ℤ) (m : ℕ) (scale : IsScale c0 c1) (few : m ≤ 2 ^ 100) w
     pub number_is : Z (int_div (Z (to_z w128 m -ℤ Z x)) (Z y)) ≡ told_by c0 c1 m
     number_is =
         ap₂ (λ a b. Z (int_div a b)) (ap Z rest_is ∙ same (pos m -ℤ c0) (omega (arith, rest_small))) factor_is
-        ∙ to_z-of_z w128 (told_by c0 c1 m) (quot_fits w128 (pos m -ℤ c0) c1 (fits (pos m -ℤ c0) (omega (arith, rest_small))) (let r = scale.rises in omega (arith, ints)))
+        ∙ to_z-of_z w128 (told_by c0 c1 m) number_fits
 
     product_is : (n : ℤ) → n ≡ told_by c0 c1 m → Z y *ℤ n ≡ c1 *ℤ told_by c0 c1 m
     product_is n e = ap₂ (λ a b. a *ℤ b) factor_is e
@@ -87,3 +92,20 @@ module _ (c0 c1 : ℤ) (m : ℕ) (scale : IsScale c0 c1) (few : m ≤ 2 ^ 100) w
 
     pub tells_not : (n : ℤ) → n ≡ told_by c0 c1 m → (of_z w128 (Z x +ℤ Z (Z y *ℤ n)) ≡ m → ⊥) → None ≡ Told
     tells_not n e h = sym (ap (λ b. cond b (Some (told_by c0 c1 m)) None) (false_from_ne_true (int_eq (c0 +ℤ (c1 *ℤ told_by c0 c1 m)) (pos m)) (λ t. h (ap (of_z w128) (all_is n e ∙ (Decides-int_eq (c0 +ℤ (c1 *ℤ told_by c0 c1 m)) (pos m)).0 t ∙ sym told_is) ∙ of_z-to_z w128 m (omega (arith, few))))))
+
+-- ---- the number is the only one that tells the size
+
+div_product : (k : ℕ) (r : ℤ) → int_div (pos (suc k) *ℤ r) (pos (suc k)) ≡ r
+div_product k (pos a) = ap pos (mul-div_cancel_left a (omega arith))
+div_product k (negsuc a) = below (suc k * suc a) (mul-pos (omega arith) (omega arith)) ∙ ap (λ n. neg_ℤ (pos n)) (mul-div_cancel_left (suc a) (omega arith))
+  where
+    below : (y : ℕ) → 0 < y → int_div (neg_ℤ (pos y)) (pos (suc k)) ≡ neg_ℤ (pos (y / suc k))
+    below zero h = absurd (omega arith)
+    below (suc y) h = refl
+
+pub only_number : (c0 c1 r : ℤ) (m : ℕ) → IsScale c0 c1 → c0 +ℤ (c1 *ℤ r) ≡ pos m → told_by c0 c1 m ≡ r
+only_number c0 (pos zero) r m scale e = absurd (let s = scale.rises in omega (arith, ints))
+only_number c0 (pos (suc k)) r m scale e =
+    let d : pos m -ℤ c0 ≡ pos (suc k) *ℤ r = ap (λ z. z -ℤ c0) (sym e ∙ +ℤ_comm c0 (pos (suc k) *ℤ r)) ∙ +ℤ-neg_ℤ_cancel (pos (suc k) *ℤ r) c0 in
+    ap (λ z. int_div z (pos (suc k))) d ∙ div_product k r
+only_number c0 (negsuc k) r m scale e = absurd (let s = scale.rises in omega (arith, ints))

@@ -1,4 +1,3 @@
-pub mod BuiltFlat
 pub mod Plains
 pub mod Scalars
 pub mod Seeking
@@ -11,10 +10,12 @@ pub mod OwnSizes
 pub mod Chains
 pub mod Listing
 pub mod Paths
-pub mod Containers
 pub mod Nested
 pub mod Wholes
 pub mod Filling
 pub mod Rooms
 pub mod Putting
 pub mod Spelt
+pub mod Sized
+pub mod Runs
+pub mod Telling

@@ -1,8 +1,8 @@
 -- Values of a container that are looked up by their parts.
 use Rattle.std.proofs.Common.{◌≡◌, ℕ, zero, suc, ◌+◌, ◌<◌, ◌≤◌, Bool, true, false, List, [], ◌∷◌, ◌++◌, ◌==◌, ◌&&◌, ◌-◌, length, drop, map, reverse, take, get_or, Some, None, Ok, refl, sym, ap, subst, ◌∙◌, append_assoc, arith, Vec, Global}
-use Rattle.std.specs.Prelude.{slice_get, if◌then◌else◌, IsTrue}
+use Rattle.std.specs.Prelude.{slice_get, if◌then◌else◌}
 use Rattle.std.specs.List.{AllByRecursion, flat_map}
-use Rattle.std.proofs.lemmas.List.{drop_more, reverse-append, take_more}
+use Rattle.std.proofs.lemmas.List.{drop_more, reverse-append}
 use Rattle.std.proofs.lemmas.Bool.{eq-eqb, false_from_ne_true, eqb-true, and_from, and_parts}
 use Rattle.eds_base.specs.declared.ids.TypeId.{TypeId}
 use Rattle.eds_types.specs.declared.row.Part.{Part}
@@ -84,13 +84,9 @@ pub valued_is : (y i : ℕ) (ps : List Part) → valued (placed_from y i ps) ≡
 valued_is y i [] = refl
 valued_is y i (p ∷ ps) = ap (λ n. (if has_value p then 1 else 0) + n) (valued_is y (i + 1) ps)
 
-values_more : (xs ys : List Part) → values_in (xs ++ ys) ≡ values_in xs + values_in ys
+pub values_more : (xs ys : List Part) → values_in (xs ++ ys) ≡ values_in xs + values_in ys
 values_more [] ys = omega arith
 values_more (x ∷ xs) ys = let h = values_more xs ys in let n : ℕ = if has_value x then 1 else 0 in ap (λ m. n + m) h ∙ omega arith
-
--- how many values stand before the next part
-pub values_next : (ps : List Part) (i : ℕ) (p : Part) → i < length ps → p ≡ get_or ps i p → values_in (take (i + 1) ps) ≡ values_in (take i ps) + values_in (p ∷ [])
-values_next ps i p lt e = ap values_in (take_more ps i p lt ∙ ap (λ (q : Part). take i ps ++ q ∷ []) (sym e)) ∙ values_more (take i ps) (p ∷ [])
 
 -- the values of the parts from one on
 pub values_left : (ps : List Part) (i : ℕ) (p : Part) → i < length ps → p ≡ get_or ps i p → values_in (drop i ps) ≡ values_in (p ∷ []) + values_in (drop (i + 1) ps)

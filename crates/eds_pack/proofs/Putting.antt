@@ -21,16 +21,10 @@ use Rattle.eds_bits.proofs.BitLaws.{length-with_piece, with_piece-append, with_p
 use Rattle.eds_bits.proofs.FormLaws.{one_canonical}
 use Rattle.eds_bits.proofs.OctetLaws.{length-bits_of}
 use Rattle.eds_codec.specs.Writing.{Written, TextRefused}
-use Rattle.eds_types.specs.declared.row.Part.{Part}
-use Rattle.eds_types.specs.declared.row.Part.TheVariants as part
-use Rattle.eds_pack.specs.BuiltTables.{IsBuiltPart}
-use Rattle.eds_types.specs.Fields.{Field, field_of, values_of}
-use Rattle.eds_types.specs.Plain.{Plain, truth, text, bits, items}
-use Rattle.eds_types.specs.Rows.{Table, Placed, placed_from}
-use Rattle.eds_types.specs.Spelling.{Progress, ItemsSpell, PartPasses, PartsPass}
-use Rattle.eds_types.proofs.Grown.{only_grown}
-use Rattle.eds_pack.specs.Putting.{IsPut, HasRoom, Writes, PartSpells, TruthSpells, TextSpells, BitsSpell}
-use Rattle.eds_pack.specs.Seeking.{values_in}
+use Rattle.eds_types.specs.Fields.{Field, values_of}
+use Rattle.eds_types.specs.Plain.{Plain, truth, text, bits}
+use Rattle.eds_types.specs.Spelling.{ItemsSpell}
+use Rattle.eds_pack.specs.Putting.{IsPut, HasRoom, Writes, TruthSpells, TextSpells, BitsSpell}
 
 -- ---- one after another
 
@@ -81,7 +75,7 @@ module _ (E : Plain → Bits → Type 0) where
       put = puts_more h.c (h.rest).0 at end after old m new h.put (w (h.rest).0 (h.rest).3 (omega (arith, length_is, room_is, fits, (h.put).1))) (omega (arith, length_is, fits, length-append h.c (h.rest).0));
     }
 
--- ---- entries
+-- ---- values that follow each other
 
 values_more : (xs ys : List Field) → values_of (xs ++ ys) ≡ values_of xs ++ values_of ys
 values_more [] ys = refl
@@ -92,90 +86,14 @@ at_end [] ws v = refl
 at_end (x ∷ vs) ws v = at_end vs ws v
 
 -- a value behind those so far
-found_next : (f : List Plain) (s m gs : List Field) (x : Field) (used : ℕ) → m ≡ s ++ x ∷ [] → f ≡ values_of (m ++ gs) → used ≡ length (values_of s) → slice_get f used ≡ Some x.value
+pub found_next : (f : List Plain) (s m gs : List Field) (x : Field) (used : ℕ) → m ≡ s ++ x ∷ [] → f ≡ values_of (m ++ gs) → used ≡ length (values_of s) → slice_get f used ≡ Some x.value
 found_next f s m gs x used grows is count =
     ap (slice_get f) count
     ∙ ap (λ l. slice_get l (length (values_of s))) (is ∙ ap (λ l. values_of (l ++ gs)) grows ∙ ap values_of (append_assoc s (x ∷ []) gs) ∙ values_more s (x ∷ gs))
     ∙ at_end (values_of s) (values_of gs) x.value
 
-more_values : (s m : List Field) (x : Field) → m ≡ s ++ x ∷ [] → length (values_of m) ≡ length (values_of s) + 1
+pub more_values : (s m : List Field) (x : Field) → m ≡ s ++ x ∷ [] → length (values_of m) ≡ length (values_of s) + 1
 more_values s m x e = ap (λ l. length (values_of l)) e ∙ ap length (values_more s (x ∷ [])) ∙ length-append (values_of s) (x.value ∷ [])
-
-module _ (t : Table) (C : ℕ → Plain → Bits → Type 0) (k : ℕ) (f : List Plain) where
-  pub record EntriesHalf (i used : ℕ) (rest : List Part) (b : Bits) (at : ℕ) (old m : List ℕ) (end : ℕ) : Type 0 where
-    pub s : Progress
-    pub u : Progress
-    pub c : Bits
-    pub d : Bits
-    pub is : b ≡ c ++ d
-    pub parts : PartsPass canonical t C s (placed_from k i rest) u d
-    pub values : f ≡ values_of u.fields
-    pub count : used ≡ length (values_of s.fields)
-    pub put : IsPut c at old m end
-
-  pub entries_end : (i used : ℕ) (b : Bits) (at : ℕ) (old m : List ℕ) (end : ℕ) → EntriesHalf i used [] b at old m end → IsPut b at old m end
-  entries_end i used b at old m end h = subst (λ x. IsPut x at old m end) (sym (h.is ∙ ap (λ x. h.c ++ x) (h.parts).1 ∙ append-nil h.c)) h.put
-
-  -- the bits of a part are those of its value, which is the next one
-  record PartNext (q : Part) (s m : Progress) (used : ℕ) (b : Bits) : Type 0 where
-    spells : PartSpells t C q (slice_get f used) b
-    count : used + values_in (q ∷ []) ≡ length (values_of m.fields)
-
-  part_next : (p : Placed) (q : Part) → IsBuiltPart q → (s m : Progress) (gs : List Field) (used : ℕ) (b : Bits) → f ≡ values_of (m.fields ++ gs) → used ≡ length (values_of s.fields) → PartPasses canonical t C s p q m b → PartNext q s m used b
-  part_next p (part.Plain name id) built s m gs used b is count h =
-      let grows = ap (λ (x : Progress). x.fields) h.2 in
-      record {
-        spells = subst (λ o. PartSpells t C (part.Plain name id) o b) (sym (found_next f s.fields m.fields gs (field_of p h.0) used grows is count)) h.1;
-        count = omega (arith, count, more_values s.fields m.fields (field_of p h.0) grows);
-      }
-  part_next p (part.Fixed name id v) built s m gs used b is count h = record { spells = h.0; count = omega (arith, count, ap (λ (x : Progress). length (values_of x.fields)) h.1) }
-  part_next p (part.Pad n) built s m gs used b is count h = record { spells = (h.0, h.1); count = omega (arith, count, ap (λ (x : Progress). length (values_of x.fields)) h.2) }
-  part_next p (part.List name id y i) built s m gs used b is count h =
-      let grows = ap (λ (x : Progress). x.fields) h.3 in
-      record {
-        spells = subst (λ o. PartSpells t C (part.List name id y i) o b) (sym (found_next f s.fields m.fields gs (field_of p (items h.0)) used grows is count)) (h.0, refl, h.2);
-        count = omega (arith, count, more_values s.fields m.fields (field_of p (items h.0)) grows);
-      }
-  part_next p (part.Length name id c0 c1) built s m gs used b is count h = absurd built
-  part_next p (part.Check name id check) built s m gs used b is count h = absurd built
-
-  module _ (i used : ℕ) (p : Part) (built : IsBuiltPart p) (ps : List Part) (b : Bits) (at : ℕ) (old m : List ℕ) (end : ℕ) (h : EntriesHalf i used (p ∷ ps) b at old m end) (fits : at + length b ≤ 8 * length old) where
-    abbrev here : Placed
-    here = record { container = k; place = i; part = p }
-
-    abbrev one : Bits
-    one = (h.parts).1
-
-    abbrev two : Bits
-    two = (h.parts).2
-
-    grown : (gs : List Field) × (h.u.fields ≡ (h.parts).0.fields ++ gs)
-    grown = only_grown canonical t C (placed_from k (i + 1) ps) (h.parts).0 h.u two (h.parts).5
-
-    next : PartNext p h.s (h.parts).0 used one
-    next = part_next here p built h.s (h.parts).0 grown.0 used one (h.values ∙ ap values_of grown.1) h.count (h.parts).4
-
-    length_all : length b ≡ length h.c + (length one + length two)
-    length_all = ap length (h.is ∙ ap (λ x. h.c ++ x) (h.parts).3) ∙ length-append h.c (one ++ two) ∙ ap (λ n. length h.c + n) (length-append one two)
-
-    room_all : length m ≡ length old
-    room_all = same_room h.c at end old m h.put (omega (arith, length_all, fits))
-
-    pub part_room : at + length b ≤ 524288 → HasRoom (PartSpells t C p (slice_get f used)) end m
-    part_room few = record { bits = one; has = next.spells; fits = omega (arith, length_all, room_all, fits, (h.put).1); few = omega (arith, length_all, few, (h.put).1) }
-
-    pub entries_next : (new : List ℕ) (after : ℕ) → Writes (PartSpells t C p (slice_get f used)) end m new after → EntriesHalf (i + 1) (used + values_in (p ∷ [])) ps b at old new after
-    entries_next new after w = record {
-      s = (h.parts).0;
-      u = h.u;
-      c = h.c ++ one;
-      d = two;
-      is = h.is ∙ ap (λ x. h.c ++ x) (h.parts).3 ∙ sym (append_assoc h.c one two);
-      parts = (h.parts).5;
-      values = h.values;
-      count = next.count;
-      put = puts_more h.c one at end after old m new h.put (w one next.spells (omega (arith, length_all, room_all, fits, (h.put).1))) (omega (arith, length_all, fits, length-append h.c one));
-    }
 
 -- ---- numbers
 

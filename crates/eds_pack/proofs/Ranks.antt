@@ -11,7 +11,7 @@ use Rattle.eds_types.specs.declared.row.Constraint.{Constraint}
 use Rattle.eds_types.specs.Failing.{path_steps}
 use Rattle.eds_types.specs.Fields.{type_by, StartsInEntries}
 use Rattle.eds_types.specs.Rows.{Table, id_of, base_of, chain, chain_within, chain_before, entries_of, trailers_of, constraints_of, list_has, Placed, placed_from, placed_entries, placed_trailers}
-use Rattle.eds_types.specs.Rules.{KeepsRules, IsNested, ConstraintKeeps, Follows}
+use Rattle.eds_types.specs.Rules.{KeepsRules, IsNested, ConstraintKeeps, Follows, PartKeeps}
 use Rattle.eds_types.proofs.AllOf.{All-weaker, All-both, All-front, All-back, All-at}
 use Rattle.eds_types.proofs.ReadingTests.{has_from}
 use Rattle.eds_pack.specs.Choices.{IsNear}
@@ -119,24 +119,24 @@ chain_is_low t n k ids low e = subst (AllByRecursion (λ (id : TypeId). IsLow t 
 
 -- ---- parts
 
-nested_part : (t : Table) (n : ℕ) (p : Part) → ((x : ℕ) → type_by (Some p) ≡ Some x → (x < length t) × IsLow t n x) → PartNests t n p
-nested_part t n (part.Plain name id) h = let l = h id.0 refl in record { known = l.0; rank = l.1 }
-nested_part t n (part.Fixed name id v) h = let l = h id.0 refl in record { known = l.0; rank = l.1 }
-nested_part t n (part.Pad m) h = tt
-nested_part t n (part.List name id y i) h = let l = h id.0 refl in record { known = l.0; rank = l.1 }
-nested_part t n (part.Length name id c0 c1) h = let l = h id.0 refl in record { known = l.0; rank = l.1 }
-nested_part t n (part.Check name id k) h = let l = h id.0 refl in record { known = l.0; rank = l.1 }
+nested_part : (t : Table) (n : ℕ) (q : Placed) (p : Part) → PartKeeps t q p → ((x : ℕ) → type_by (Some p) ≡ Some x → (x < length t) × IsLow t n x) → PartNests t n p
+nested_part t n q (part.Plain name id) keep h = let l = h id.0 refl in record { known = l.0; rank = l.1 }
+nested_part t n q (part.Fixed name id v) keep h = let l = h id.0 refl in record { known = l.0; rank = l.1 }
+nested_part t n q (part.Pad m) keep h = tt
+nested_part t n q (part.List name id y i) keep h = let l = h id.0 refl in record { known = l.0; rank = l.1 }
+nested_part t n q (part.Length name id c0 c1) keep h = let l = h id.0 refl in (record { known = l.0; rank = l.1 }, keep.1)
+nested_part t n q (part.Check name id k) keep h = let l = h id.0 refl in record { known = l.0; rank = l.1 }
 
 module _ (t : Table) (rules : KeepsRules t) (n y : ℕ) (low : IsLow t (n + 1) y) where
-  nest : (i : ℕ) (ps : List Part) → ((r : KeepsRules t) → AllByRecursion (λ (p : Placed). (x : ℕ) → type_by (Some p.part) ≡ Some x → IsNested t r.rank y x) (placed_from y i ps)) → AllByRecursion (PartNests t n) ps
-  nest i [] g = tt
-  nest i (p ∷ ps) g = (
-    nested_part t n p (λ x e. (((g rules).0 x e).0, λ r. (let less = ((g r).0 x e).1 in let top = low r in omega arith))),
-    nest (i + 1) ps (λ r. (g r).1),
+  nest : (i : ℕ) (ps : List Part) → AllByRecursion (λ (p : Placed). PartKeeps t p p.part) (placed_from y i ps) → ((r : KeepsRules t) → AllByRecursion (λ (p : Placed). (x : ℕ) → type_by (Some p.part) ≡ Some x → IsNested t r.rank y x) (placed_from y i ps)) → AllByRecursion (PartNests t n) ps
+  nest i [] k g = tt
+  nest i (p ∷ ps) k g = (
+    nested_part t n (record { container = y; place = i; part = p }) p k.0 (λ x e. (((g rules).0 x e).0, λ r. (let less = ((g r).0 x e).1 in let top = low r in omega arith))),
+    nest (i + 1) ps k.1 (λ r. (g r).1),
   )
 
   pub entries_nest : AllByRecursion (PartNests t n) (entries_of t y)
-  entries_nest = nest 0 (entries_of t y) (λ r. All-front (λ (p : Placed). (x : ℕ) → type_by (Some p.part) ≡ Some x → IsNested t r.rank y x) (placed_entries t y) (placed_trailers t y) (r.parts_nest y))
+  entries_nest = nest 0 (entries_of t y) (All-front (λ (p : Placed). PartKeeps t p p.part) (placed_entries t y) (placed_trailers t y) (rules.parts y)) (λ r. All-front (λ (p : Placed). (x : ℕ) → type_by (Some p.part) ≡ Some x → IsNested t r.rank y x) (placed_entries t y) (placed_trailers t y) (r.parts_nest y))
 
   pub trailers_nest : AllByRecursion (PartNests t n) (trailers_of t y)
-  trailers_nest = nest (length (entries_of t y)) (trailers_of t y) (λ r. All-back (λ (p : Placed). (x : ℕ) → type_by (Some p.part) ≡ Some x → IsNested t r.rank y x) (placed_entries t y) (placed_trailers t y) (r.parts_nest y))
+  trailers_nest = nest (length (entries_of t y)) (trailers_of t y) (All-back (λ (p : Placed). PartKeeps t p p.part) (placed_entries t y) (placed_trailers t y) (rules.parts y)) (λ r. All-back (λ (p : Placed). (x : ℕ) → type_by (Some p.part) ≡ Some x → IsNested t r.rank y x) (placed_entries t y) (placed_trailers t y) (r.parts_nest y))

@@ -47,7 +47,7 @@ pub by_number : (f : ℕ → List Placed) (xs : List ℕ) → flat_map (λ (id :
 by_number f [] = refl
 by_number f (x ∷ xs) = ap (λ b. f x ++ b) (by_number f xs)
 
-reverse_map : (xs : List ℕ) → reverse (map id_of xs) ≡ map id_of (reverse xs)
+pub reverse_map : (xs : List ℕ) → reverse (map id_of xs) ≡ map id_of (reverse xs)
 reverse_map [] = refl
 reverse_map (x ∷ xs) = reverse-append (id_of x ∷ []) (map id_of xs) ∙ ap (λ ys. ys ++ id_of x ∷ []) (reverse_map xs) ∙ sym (map-append id_of (reverse xs) (x ∷ [])) ∙ ap (map id_of) (sym (reverse-append (x ∷ []) xs))
 

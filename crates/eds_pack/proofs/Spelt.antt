@@ -1,6 +1,6 @@
 -- The canonical bits of a value, taken apart by the kind of its type.
 use Rattle.std.proofs.Common.{◌≡◌, ℕ, zero, suc, ◌+◌, ◌-◌, ◌<◌, ◌≤◌, List, [], ◌∷◌, drop, take, length, get_or, Option, Some, sym, ap, subst, ◌∙◌, arith}
-use Rattle.std.specs.Prelude.{slice_get, true}
+use Rattle.std.specs.Prelude.{slice_get}
 use Rattle.std.specs.List.{AllByRecursion}
 use Rattle.eds_bits.specs.Bits.{Bits}
 use Rattle.eds_bits.specs.Style.{canonical}
@@ -8,11 +8,10 @@ use Rattle.std.proofs.lemmas.List.{drop_more}
 use Rattle.eds_types.specs.declared.row.Part.{Part}
 use Rattle.eds_types.specs.declared.row.TypeRow.{TypeRow}
 use Rattle.eds_types.specs.Plain.{Plain, items, fields, list_of, plains_of}
-use Rattle.eds_types.specs.Rows.{Table, chain, list_has, placed_entries, sequence}
-use Rattle.eds_types.specs.Spelling.{started, PartsPass, ItemsSpell, KindSpells, ContainerSpells, SpellsWithin}
-use Rattle.eds_types.proofs.ReadingTests.{has_in}
+use Rattle.eds_types.specs.Rows.{Table}
+use Rattle.eds_types.specs.Spelling.{ItemsSpell, KindSpells, ContainerSpells, SpellsWithin}
 use Rattle.eds_pack.specs.Nesting.{Nests}
-use Rattle.eds_pack.specs.Putting.{HasRoom, EntriesSpell, FieldsSpell, ListSpells}
+use Rattle.eds_pack.specs.Putting.{HasRoom, FieldsSpell, ListSpells}
 use Rattle.eds_pack.proofs.Plains.{list_of-plains_of}
 
 -- what holds of all elements holds of the one at a place
@@ -42,12 +41,6 @@ own_spells t C s v k vs is b h =
     let own : k ≡ h.0 = cc in
     let ws : plains_of vs ≡ h.1 = cc in
     subst (λ x. ContainerSpells canonical t C s x vs b) (sym own) (subst (λ xs. ContainerSpells canonical t C s h.0 xs b) (sym (ap list_of ws) ∙ list_of-plains_of vs) h.3)
-
-pub entries_spell : (t : Table) (C : ℕ → Plain → Bits → Type 0) (s : ℕ) (k : ℕ) (vs : List Plain) → sequence t k ≡ placed_entries t k → (b : Bits) → ContainerSpells canonical t C s k vs b → EntriesSpell t C k vs b
-entries_spell t C s k vs seq b h = record { end = h.end; parts = subst (λ ps. PartsPass canonical t C started ps h.end b) seq h.parts; values = h.values }
-
-pub is_under : (t : Table) (C : ℕ → Plain → Bits → Type 0) (s k : ℕ) (vs : List Plain) (b : Bits) → ContainerSpells canonical t C s k vs b → list_has (chain t k) s ≡ true
-is_under t C s k vs b h = has_in (chain t k) s (h.under).before (h.under).after (h.under).is
 
 pub spells_next : (n m : ℕ) (t : Table) (id : ℕ) (row : TypeRow) (v : Plain) → 1 ≤ n → m ≡ n - 1 → slice_get t id ≡ Some row → (b : Bits) → SpellsWithin n canonical t id v b → KindSpells canonical t (SpellsWithin m canonical t) id row.kind v b
 unfolding SpellsWithin

@@ -1,4 +1,4 @@
--- Tables of the types that packing has been built for.
+-- Tables of the types that sheets give so far. Packing asks for nothing of the kind.
 use Rattle.std.specs.Prelude.{◌≡◌, ℕ, [], false, Option, None, Some, slice_get}
 use Rattle.std.specs.List.{AllByRecursion}
 use Rattle.eds_types.specs.declared.row.TypeRow.{TypeRow}
@@ -7,7 +7,6 @@ use Rattle.eds_types.specs.declared.row.Kind.TheVariants as kind
 use Rattle.eds_types.specs.declared.row.Container.{Container}
 use Rattle.eds_types.specs.declared.row.Part.{Part}
 use Rattle.eds_types.specs.declared.row.Part.TheVariants as part
-use Rattle.eds_types.specs.FlatTables.{IsFlatTable}
 use Rattle.eds_types.specs.Rows.{Table, base_of}
 
 -- neither a length entry nor an error control
@@ -38,7 +37,3 @@ IsBuiltKind base (kind.Con c) = IsBuilt base c
 -- every container of the table is such a one
 abbrev pub IsBuiltTable : Table → Type 0
 IsBuiltTable t = (id : ℕ) (row : TypeRow) → slice_get t id ≡ Some row → IsBuiltKind (base_of t id) row.kind
-
--- a flat table is such a one
-abbrev pub FlatIsBuilt : Type 0
-FlatIsBuilt = (t : Table) → IsFlatTable t → IsBuiltTable t

@@ -1,6 +1,7 @@
 pub mod BuiltTables
 pub mod Choices
 pub mod Counting
+pub mod Defaults
 pub mod Lengths
 pub mod Nesting
 pub mod Packs

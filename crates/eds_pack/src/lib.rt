@@ -5,7 +5,6 @@ mod choice;
 mod constraint;
 mod fail;
 mod fields;
-pub mod law;
 mod leaf;
 mod length;
 mod octets;
@@ -14,6 +13,7 @@ mod room;
 mod seek;
 mod size;
 mod tally;
+mod told;
 mod whole;
 mod write;
 

@@ -3,7 +3,6 @@
 ghost use Rattle.std.specs.Prelude.{◌≡◌, ◌<◌, ℕ, Ok, Err, length, replicate, IfOk, IfErr};
 ghost use Rattle.eds_base.specs.declared.fail.Fail.TheVariants.{Named, Memory};
 ghost use Rattle.eds_bits.specs.Bits.{Bits, octets_of};
-ghost use Rattle.eds_pack.specs.BuiltTables.{IsBuiltTable};
 ghost use Rattle.eds_types.specs.Packing.{PackFault, PackFailsAt};
 ghost use Rattle.eds_types.specs.Plain.{plain};
 ghost use Rattle.eds_types.specs.Spelling.{Canon};
@@ -31,7 +30,6 @@ pub fn pack(
     value: &Value,
 ) -> Result<(Octets, u32), Fail<PackFail>>
     requires known { id.0 < length table.now }
-    requires built { IsBuiltTable table.now }
     ensures size { IfOk result (λ p. Packs table.now id.0 (plain value.now) p.1) }
     ensures octets { IfOk result (λ p. (b : Bits) → Canon table.now id.0 (plain value.now) b → p.0 ≡ octets_of b) }
     ensures packs { (n : ℕ) → Packs table.now id.0 (plain value.now) n → IfErr result (λ e. e ≡ Memory) }

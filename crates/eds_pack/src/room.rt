@@ -2,7 +2,6 @@
 
 ghost use Rattle.std.specs.Prelude.{◌≡◌, ◌<◌, ◌≤◌, ◌+◌, ◌-◌, ◌*◌, ◌++◌, ◌⊎◌, ℕ, Ok, Err, All, false, length, drop, replicate, OnOk, OnErr, IfOk, IfErr};
 ghost use Rattle.eds_bits.specs.Bits.{Bits, bits_of, oct, octets_for, octets_of, with_piece};
-ghost use Rattle.eds_pack.specs.BuiltTables.{IsBuiltTable};
 ghost use Rattle.eds_types.specs.Packing.{PackFault, PackFailsAt};
 ghost use Rattle.eds_types.specs.Plain.{plain};
 ghost use Rattle.eds_types.specs.Spelling.{Canon};
@@ -29,7 +28,6 @@ fn fill(room: &mut [u8], at: u32)
 /// fills the last octet that is begun with zeros.
 pub(crate) fn write_whole(table: &TypeTable, id: TypeId, value: &Value, size: u32, room: &mut [u8])
     requires known { id.0 < length table.now }
-    requires built { IsBuiltTable table.now }
     requires packs { Packs table.now id.0 (plain value.now) size }
     requires fits { octets_for size ≤ length room.old }
     requires octets { All (λ o. o < 256) room.old }
@@ -51,7 +49,6 @@ pub fn pack_into(
     room: &mut [u8],
 ) -> Result<u32, PackFail>
     requires known { id.0 < length table.now }
-    requires built { IsBuiltTable table.now }
     ensures size { IfOk result (λ n. Packs table.now id.0 (plain value.now) n) }
     ensures packs { (n : ℕ) → Packs table.now id.0 (plain value.now) n → octets_for n ≤ length room.old → result ≡ Ok n }
     ensures written { OnOk result ((b : Bits) → Canon table.now id.0 (plain value.now) b → room.new ≡ octets_of b ++ drop (oct b) room.old) }

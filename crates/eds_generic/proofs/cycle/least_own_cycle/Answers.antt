@@ -1,4 +1,4 @@
-use Rattle.std.proofs.Common.{arith, rules}
+use Rattle.std.proofs.Common.{arith}
 use Rattle.eds_generic.specs.Every.{own_cycle_at}
 use Rattle.eds_generic.proofs.Cycling.{least-next_over}
 use Rattle.eds_generic.proofs.cycle.least_own_cycle.Goals as goal

@@ -1,4 +1,4 @@
-use Rattle.std.proofs.Common.{◌≡◌, ◌∙◌, ◌+◌, ap, sym, length, arith}
+use Rattle.std.proofs.Common.{◌∙◌, sym, length, arith}
 use Rattle.std.specs.Prelude.{not, ◌&&◌, ◌==◌}
 use Rattle.eds_types.specs.Reading.{is_candidate}
 use Rattle.eds_pack.specs.Seeking.{fields_of}

@@ -1,4 +1,4 @@
-use Rattle.std.proofs.Common.{◌++◌, length, ap, sym, ◌∙◌, append-nil, arith}
+use Rattle.std.proofs.Common.{◌++◌, length, ap, ◌∙◌, append-nil, arith}
 use Rattle.eds_types.specs.Failing.{path_steps}
 use Rattle.eds_pack.specs.Seeking.{fields_of}
 use Rattle.eds_pack.proofs.Counts.{condition_fails, condition_holds}

@@ -1,4 +1,4 @@
-use Rattle.std.proofs.Common.{◌≡◌, ◌∙◌, ap, sym, arith}
+use Rattle.std.proofs.Common.{◌∙◌, ap, sym, arith}
 use Rattle.std.specs.Prelude.{slice_get}
 use Rattle.eds_pack.proofs.Paths.{last_row, no_row}
 use Rattle.eds_pack.proofs.constraint.row_on.Goals as goal

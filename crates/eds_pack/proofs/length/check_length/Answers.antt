@@ -1,4 +1,4 @@
-use Rattle.std.proofs.Common.{◌≡◌, ◌∷◌, [], Some, None, sym, ap, ◌∙◌, arith}
+use Rattle.std.proofs.Common.{◌∷◌, ap, ◌∙◌}
 use Rattle.eds_bits.specs.Bits.{octets_for}
 use Rattle.eds_base.specs.declared.fault.Step.TheVariants as step
 use Rattle.eds_types.specs.PackedSizes.{packed_size_within}

@@ -1,7 +1,7 @@
 use Rattle.std.proofs.Common.{◌≡◌, ◌++◌, ℕ, List, length, drop, sym, ap, ◌∙◌, arith}
 use Rattle.eds_bits.specs.Bits.{oct, octets_of}
 use Rattle.eds_types.specs.Plain.{plain}
-use Rattle.eds_overlap.specs.Laws.{IsThere}
+use Rattle.eds_types.specs.Laws.{IsThere}
 use Rattle.eds_pack.proofs.Rooms.{no_size, all_replaced, none_left}
 use Rattle.eds_pack.proofs.octets.pack.Goals as goal
 

@@ -1,7 +1,7 @@
 use Rattle.std.proofs.Common.{◌≡◌, length, ap, ◌∙◌, arith}
 use Rattle.std.proofs.lemmas.List.{get_or_default}
 use Rattle.eds_types.specs.Plain.{plain}
-use Rattle.eds_overlap.specs.Laws.{IsThere}
+use Rattle.eds_types.specs.Laws.{IsThere}
 use Rattle.eds_pack.proofs.Filling.{octets_in_room}
 use Rattle.eds_pack.proofs.room.write_whole.Goals as goal
 

@@ -1,4 +1,4 @@
-use Rattle.std.proofs.Common.{◌≡◌, ◌+◌, ◌-◌, ◌<◌, ◌≤◌, [], get_or, sym, ap, subst, ◌∙◌, map, drop, length, refl, arith}
+use Rattle.std.proofs.Common.{◌+◌, ◌-◌, ◌<◌, ◌≤◌, [], get_or, sym, ap, subst, ◌∙◌, map, drop, length, refl, arith}
 use Rattle.std.specs.List.{AllByRecursion, flat_map}
 use Rattle.std.proofs.lemmas.List.{length-take}
 use Rattle.eds_base.specs.declared.ids.TypeId.{TypeId}

@@ -1,0 +1,163 @@
+-- Names by their positions, and what maps say of positions.
+use Rattle.std.proofs.Common.{◌≡◌, ◌≢◌, ℕ, ◌+◌, ◌<◌, ◌≤◌, length, get_or, drop, drop-cons, add-one, map, set, replicate, Bool, true, false, List, [], ◌∷◌, Option, Some, None, refl, sym, ap, ◌∙◌, is_some, arith, inl, inr, ◌⊎◌}
+use Rattle.std.specs.Prelude.{if◌then◌else◌, nat_lt, ◌==◌}
+use Rattle.std.specs.Map.{update}
+use Rattle.std.specs.Str.{bytes_eq}
+use Rattle.std.specs.List.{range_with_len}
+use Rattle.std.proofs.lemmas.List.{get_or-set_same, get_or-set_other, ext_get_or}
+use Rattle.std.proofs.lemmas.List.FromFn.{get_or-map-range_with_len, length-map-range_with_len}
+use Rattle.std.proofs.lemmas.Bool.{eq-eqb, eqb-true}
+use Rattle.std.proofs.lemmas.Bool.Decides.{nat_tests}
+use Rattle.std.proofs.lemmas.Slice.Eq.{bytes_eq-Decides}
+use Rattle.eds_base.specs.Reading.{same}
+use Rattle.eds_generic.specs.declared.face.Mapped.{Mapped}
+use Rattle.eds_generic.specs.declared.face.Source.{Source}
+use Rattle.eds_generic.specs.declared.pair.Bound.{Bound}
+use Rattle.eds_generic.specs.declared.pair.Bound.TheVariants as bound
+use Rattle.eds_generic.specs.Faces.{place_from, place_among, is_at, mapped}
+use Rattle.eds_generic.specs.Names.{or_else, entry_at}
+use Rattle.eds_generic.specs.Pairs.{meant, meant_by, set_at, noted as noted_in}
+
+-- ---- an index of names
+
+or_else-none : (o : Option ℕ) → or_else o None ≡ o
+or_else-none None = refl
+or_else-none (Some k) = refl
+
+or_else-assoc : (a b c : Option ℕ) → or_else (or_else a b) c ≡ or_else a (or_else b c)
+or_else-assoc None b c = refl
+or_else-assoc (Some k) b c = refl
+
+none_of : (o : Option ℕ) → is_some o ≡ false → o ≡ None
+none_of None h = refl
+none_of (Some k) h = cc
+
+over-some : (o other : Option ℕ) → is_some o ≡ true → o ≡ or_else o other
+over-some None other h = cc
+over-some (Some k) other h = refl
+
+-- a name that is there adds nothing
+pub kept : (old : List ℕ → Option ℕ) (k : ℕ) (one q : List ℕ) → is_some (old one) ≡ true → old q ≡ or_else (old q) (entry_at k one q)
+kept old k one q there = go (same one q) refl
+  where
+    go : (b : Bool) → same one q ≡ b → old q ≡ or_else (old q) (entry_at k one q)
+    go true h = let is : one ≡ q = (bytes_eq-Decides one q).0 h in over-some (old q) (entry_at k one q) (ap (λ n. is_some (old n)) (sym is) ∙ there)
+    go false h = rw h (sym (or_else-none (old q)))
+
+-- a new name has its position
+pub noted : (old new : List ℕ → Option ℕ) (k : ℕ) (one q : List ℕ) → new q ≡ update bytes_eq old one (Some k) q → is_some (old one) ≡ false → new q ≡ or_else (old q) (entry_at k one q)
+noted old new k one q e absent = go (bytes_eq one q) refl
+  where
+    go : (b : Bool) → bytes_eq one q ≡ b → new q ≡ or_else (old q) (entry_at k one q)
+    go true h =
+        let is : one ≡ q = (bytes_eq-Decides one q).0 h in
+        let none : old q ≡ None = ap old (sym is) ∙ none_of (old one) absent in
+        e ∙ rw (h, none) refl
+    go false h = e ∙ rw h (sym (or_else-none (old q)))
+
+place-split : (k : ℕ) (one : List ℕ) (names : List (List ℕ)) (q : List ℕ) → place_from k (one ∷ names) q ≡ or_else (entry_at k one q) (place_from (k + 1) names q)
+place-split k one names q = go (same one q) refl
+  where
+    go : (b : Bool) → same one q ≡ b → place_from k (one ∷ names) q ≡ or_else (entry_at k one q) (place_from (k + 1) names q)
+    go true h = rw h refl
+    go false h = rw h refl
+
+pub place-next : (old new : List ℕ → Option ℕ) (names : List (List ℕ)) (k : ℕ) (d one : List ℕ) → k < length names → one ≡ get_or names k d
+    → ((q : List ℕ) → new q ≡ or_else (old q) (entry_at k one q)) → ((q : List ℕ) → or_else (old q) (place_from k (drop k names) q) ≡ place_among names q)
+    → (q : List ℕ) → or_else (new q) (place_from (k + 1) (drop (k + 1) names) q) ≡ place_among names q
+place-next old new names k d one lt is more all q =
+    let opened : drop k names ≡ one ∷ drop (k + 1) names = drop-cons names k d lt ∙ rw (add-one, ← is) refl in
+    ap (λ o. or_else o (place_from (k + 1) (drop (k + 1) names) q)) (more q)
+    ∙ or_else-assoc (old q) (entry_at k one q) (place_from (k + 1) (drop (k + 1) names) q)
+    ∙ ap (or_else (old q)) (sym (place-split k one (drop (k + 1) names) q) ∙ ap (λ ns. place_from k ns q) (sym opened)) ∙ all q
+
+-- ---- what maps say of positions
+
+map-ranged : {A : Type 0} (f g : ℕ → A) (n : ℕ) → ((k : ℕ) → f k ≡ g k) → map f (range_with_len 0 n) ≡ map g (range_with_len 0 n)
+map-ranged f g n h = each (range_with_len 0 n)
+  where
+    each : (ks : List ℕ) → map f ks ≡ map g ks
+    each [] = refl
+    each (k ∷ ks) = rw (h k, each ks) refl
+
+split : (a b : ℕ) → (a < b) ⊎ (b ≤ a)
+split a b = go (nat_lt a b) refl
+  where
+    go : (t : Bool) → nat_lt a b ≡ t → (a < b) ⊎ (b ≤ a)
+    go true e = inl (grind (arith, nat_tests))
+    go false e = inr (grind (arith, nat_tests))
+
+length-set : (bs : List Bound) (k : ℕ) (b : Bound) → length (set bs k b) ≡ length bs
+length-set [] k b = refl
+length-set (x ∷ bs) ℕ.zero b = refl
+length-set (x ∷ bs) (ℕ.suc k) b = ap ℕ.suc (length-set bs k b)
+
+pub set-past : (bs : List Bound) (k : ℕ) (b : Bound) → length bs ≤ k → set bs k b ≡ bs
+set-past [] k b h = refl
+set-past (x ∷ bs) ℕ.zero b h = absurd (omega arith)
+set-past (x ∷ bs) (ℕ.suc k) b h = ap (λ xs. x ∷ xs) (set-past bs k b (omega arith))
+
+module _ (types : List Bound) (m : Mapped) (rest : List Mapped) (n : ℕ) where
+  abbrev before : ℕ → Bound
+  before k = meant_by types (mapped rest k)
+
+  abbrev after : ℕ → Bound
+  after k = meant_by types (mapped (m ∷ rest) k)
+
+  at-other : (g : Option ℕ) (k : ℕ) → m.generic ≡ g → is_at g k ≡ false → after k ≡ before k
+  at-other g k e h = let no : is_at m.generic k ≡ false = ap (λ o. is_at o k) e ∙ h in rw no refl
+
+  at-same : (k : ℕ) → m.generic ≡ Some k → after k ≡ meant types m.source
+  at-same k e = let yes : is_at m.generic k ≡ true = ap (λ o. is_at o k) e ∙ eq-eqb k k refl in rw yes refl
+
+  ranged-set : (g : ℕ) → m.generic ≡ Some g → set (map before (range_with_len 0 n)) g (meant types m.source) ≡ map after (range_with_len 0 n)
+  ranged-set g e =
+      let long : length (map before (range_with_len 0 n)) ≡ n = length-map-range_with_len before 0 n in
+      let longer : length (map after (range_with_len 0 n)) ≡ n = length-map-range_with_len after 0 n in
+      let kept_length = length-set (map before (range_with_len 0 n)) g (meant types m.source) in
+      ext_get_or bound.Unmapped (set (map before (range_with_len 0 n)) g (meant types m.source)) (map after (range_with_len 0 n)) (kept_length ∙ long ∙ sym longer) (λ k lt. each k (omega (arith, lt, kept_length, long)) (k == g) refl)
+    where
+      each : (k : ℕ) → k < n → (b : Bool) → (k == g) ≡ b → get_or (set (map before (range_with_len 0 n)) g (meant types m.source)) k bound.Unmapped ≡ get_or (map after (range_with_len 0 n)) k bound.Unmapped
+      each k lt true h =
+          let is : k ≡ g = eqb-true k g h in
+          let long : length (map before (range_with_len 0 n)) ≡ n = length-map-range_with_len before 0 n in
+          rw is (get_or-set_same (map before (range_with_len 0 n)) g (meant types m.source) bound.Unmapped (omega (arith, lt, is, long)) ∙ sym (at-same g e) ∙ sym (get_or-map-range_with_len after 0 n g g bound.Unmapped (omega (arith, lt, is)) (omega arith)))
+      each k lt false h =
+          let other : k ≢ g = λ is. let wrong : (k == g) ≡ true = eq-eqb k g is in cc in
+          let apart : is_at (Some g) k ≡ false = not-at k g other (g == k) refl in
+          get_or-set_other (map before (range_with_len 0 n)) g k (meant types m.source) bound.Unmapped other
+          ∙ get_or-map-range_with_len before 0 n k k bound.Unmapped lt (omega arith) ∙ sym (at-other (Some g) k e apart)
+          ∙ sym (get_or-map-range_with_len after 0 n k k bound.Unmapped lt (omega arith))
+        where
+          not-at : (k g : ℕ) → k ≢ g → (b : Bool) → (g == k) ≡ b → (g == k) ≡ false
+          not-at k g o true e = absurd (o (sym (eqb-true g k e)))
+          not-at k g o false e = e
+
+  -- one name of a map more, from the last to the first
+  pub noted-next : noted_in types m (map before (range_with_len 0 n)) ≡ map after (range_with_len 0 n)
+  noted-next = go m.generic refl
+    where
+      go : (g : Option ℕ) → m.generic ≡ g → set_at m.generic (meant types m.source) (map before (range_with_len 0 n)) ≡ map after (range_with_len 0 n)
+      go None e = ap (λ o. set_at o (meant types m.source) (map before (range_with_len 0 n))) e ∙ map-ranged before after n (λ k. sym (at-other None k e refl))
+      go (Some g) e = ap (λ o. set_at o (meant types m.source) (map before (range_with_len 0 n))) e ∙ ranged-set g e
+
+pub bound-next : (types : List Bound) (maps : List Mapped) (i j n : ℕ) (m d : Mapped) (old new : List Bound) → i < length maps → j ≡ i + 1 → m ≡ get_or maps i d
+    → old ≡ map (λ k. meant_by types (mapped (drop j maps) k)) (range_with_len 0 n) → new ≡ noted_in types m old
+    → new ≡ map (λ k. meant_by types (mapped (drop i maps) k)) (range_with_len 0 n)
+bound-next types maps i j n m d old new lt next is inv e =
+    let opened : drop i maps ≡ m ∷ drop (i + 1) maps = drop-cons maps i d lt ∙ rw (add-one, ← is) refl in
+    e ∙ ap (noted_in types m) (inv ∙ ap (λ l. map (λ k. meant_by types (mapped (drop l maps) k)) (range_with_len 0 n)) next) ∙ noted-next types m (drop (i + 1) maps) n
+    ∙ ap (λ ms. map (λ k. meant_by types (mapped ms k)) (range_with_len 0 n)) (sym opened)
+
+drop-whole : {A : Type 0} (xs : List A) → drop (length xs) xs ≡ []
+drop-whole [] = refl
+drop-whole (x ∷ xs) = drop-whole xs
+
+bound-none : (a n : ℕ) → replicate n bound.Unmapped ≡ map (λ k. bound.Unmapped) (range_with_len a n)
+bound-none a ℕ.zero = refl
+bound-none a (ℕ.suc n) = ap (λ bs. bound.Unmapped ∷ bs) (bound-none (a + 1) n)
+
+-- before any name of a map nothing is said
+pub bound-start : (types : List Bound) (maps : List Mapped) (n : ℕ) (items : List Bound) → items ≡ replicate n bound.Unmapped
+    → items ≡ map (λ k. meant_by types (mapped (drop (length maps) maps) k)) (range_with_len 0 n)
+bound-start types maps n items e = e ∙ bound-none 0 n ∙ ap (λ ms. map (λ k. meant_by types (mapped ms k)) (range_with_len 0 n)) (sym (drop-whole maps))

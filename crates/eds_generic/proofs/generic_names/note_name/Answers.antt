@@ -1,0 +1,15 @@
+use Rattle.std.proofs.Common.{ap, ◌∙◌, sym, Some, string_bytes}
+use Rattle.std.specs.HashMap.{get_by_text}
+use Rattle.std.specs.Map.{update}
+use Rattle.std.specs.Str.{bytes_eq}
+use Rattle.std.proofs.lemmas.Map.Text.{hash_map_updates_text}
+use Rattle.eds_generic.proofs.Indexing.{noted, kept}
+use Rattle.eds_generic.proofs.generic_names.note_name.Goals as goal
+
+pub returns-then-contains_key : goal.returns-then-contains_key
+returns-then-contains_key c q = kept (get_by_text c.args.index.now) c.args.at c.args.name.now q (sym c.contains_key.ensures ∙ c.if-contains_key.true)
+
+pub returns : goal.returns
+returns c q =
+    let updated = hash_map_updates_text (string_bytes c.in_ok-key.key) c.args.index.now c.insert.new.self (Some c.args.at) c.in_ok-_none.ensures.updates q in
+    noted (get_by_text c.args.index.now) (get_by_text c.insert.new.self) c.args.at c.args.name.now q (updated ∙ ap (λ name. update bytes_eq (get_by_text c.args.index.now) name (Some c.args.at) q) c.in_ok-key.ensures.ok) (sym c.contains_key.ensures ∙ c.if-contains_key.false)

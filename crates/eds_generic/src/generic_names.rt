@@ -1,0 +1,76 @@
+//! Generic names by their positions.
+
+ghost use Rattle.std.specs.Prelude.{◌≡◌, ℕ, List, OnOk, IfOk};
+ghost use Rattle.std.specs.HashMap.{get_by_text};
+ghost use Rattle.eds_generic.specs.Faces.{place_among};
+ghost use Rattle.eds_generic.specs.Names.{or_else, entry_at};
+
+use eds_base::{Items, Memory, Text};
+use indexmap::IndexMap;
+use std::alloc::Global;
+use std::marker::Model;
+
+/// The generic names of an interface, in order. The position of a name is found by hash.
+#[derive(Drop)]
+pub(crate) struct GenericNames {
+    names: Items<Text>,
+    index: IndexMap<String, usize>,
+}
+
+impl Model for GenericNames {
+    ghost use Rattle.std.specs.Prelude.{◌≡◌, ℕ, List};
+    ghost use Rattle.std.specs.HashMap.{get_by_text};
+    ghost use Rattle.eds_generic.specs.Faces.{place_among};
+
+    ghost Value = { List (List ℕ) };
+
+    ghost view = { λ g. g.names };
+
+    ghost invariant = { λ g. (q : List ℕ) → get_by_text g.index q ≡ place_among g.names q };
+}
+
+fn note_name(
+    alloc: Global,
+    index: &mut IndexMap<String, usize>,
+    name: &str,
+    at: usize,
+) -> Result<(), Memory>
+    ensures { OnOk result ((q : List ℕ) → get_by_text index.new q ≡ or_else (get_by_text index.old q) (entry_at at name.now q)) }
+{
+    if index.contains_key(name) {
+        return Ok(());
+    }
+    let key = String::from_str(alloc, name)?;
+    let _none = index.insert(key, at)?;
+    Ok(())
+}
+
+fn index_of(alloc: Global, names: &[Text]) -> Result<IndexMap<String, usize>, Memory>
+    ensures { IfOk result (λ m. (q : List ℕ) → get_by_text m q ≡ place_among names.now q) }
+{
+    let mut index = IndexMap::new(alloc);
+    for at in 0..names.len() {
+        note_name(alloc, &mut index, names[at].as_str(), at)?;
+    }
+    Ok(index)
+}
+
+impl GenericNames {
+    /// These names.
+    pub(crate) fn of(alloc: Global, names: Vec<Text>) -> Result<GenericNames, Memory>
+        ensures { IfOk result (λ g. g ≡ names.items) }
+    {
+        let index = index_of(alloc, names.as_slice())?;
+        Ok(GenericNames {
+            names: Items::from_vec(names),
+            index,
+        })
+    }
+
+    /// The position of a name among them, of several of one name the first.
+    pub(crate) fn position(&self, name: &str) -> Option<usize>
+        ensures { result ≡ place_among self.now name.now }
+    {
+        self.index.get(name).copied()
+    }
+}
