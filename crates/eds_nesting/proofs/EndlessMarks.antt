@@ -52,9 +52,9 @@ unmet-all g a (b ∷ from) past h = rw (unmet g a b past h.0, unmet-all g a from
 
 marks : (g : List (List ℕ)) (from : List ℕ) → AreWithin (length g) from → (a : ℕ) → mark (all_reached (reversed g) from) a ≡ list_any (is_met g a) from
 marks g from h a = elim (split a (length g)) [
-    | inl lt ↦ mark-there (reversed g) from a (omega (arith, long)) ∙ met-by g a from h
-    | inr le ↦ mark-past (reversed g) from a (omega (arith, long)) ∙ sym (unmet-all g a from le h)
-  ]
+  | inl lt ↦ mark-there (reversed g) from a (omega (arith, long)) ∙ met-by g a from h
+  | inr le ↦ mark-past (reversed g) from a (omega (arith, long)) ∙ sym (unmet-all g a from le h)
+]
   where
     long : length (reversed g) ≡ length g
     long = length-map-range_with_len _ 0 (length g)
