@@ -119,8 +119,8 @@ def inputs():
     }, (0, good % 512)
     yield "a circle of 512 interfaces", "check s", {"s": interfaces(*(interface(f"X{i}", [base(f"X{(i + 1) % 512}")]) for i in range(512)))}, (
         1, "refused 27 InterfaceCycle at 0:8\n")  # fmt: skip
-    yield "500 interfaces of 100 bases each", "check s", {
-        "s": interfaces(*(interface(f"X{i}", [base(f"X{j}") for j in range(max(0, i - 100), i)]) for i in range(500)))
+    yield "500 interfaces of 40 bases each", "check s", {
+        "s": interfaces(*(interface(f"X{i}", [base(f"X{j}") for j in range(max(0, i - 40), i)]) for i in range(500)))
     }, (0, good % 500)
     yield "ten levels of swapped generic names", "check s", {"s": interfaces(*swaps(10))}, (0, good % 12)
     yield "thirty levels of swapped generic names", "check s", {"s": interfaces(*swaps(30))}, (6, "")
