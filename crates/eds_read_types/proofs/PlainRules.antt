@@ -18,20 +18,20 @@ use Rattle.eds_types.specs.Fields.{type_by}
 use Rattle.eds_types.specs.Plain.{plain}
 use Rattle.eds_types.specs.Sizes.{open_of}
 use Rattle.eds_types.specs.Rows.{Table, base_in, base_of, container_by, container_in, container_of, concrete_in, entries_in, trailers_in, constraints_in, constraints_of, own_parts, Placed, placed_from, placed_entries, placed_trailers, sequence, chain, chain_before, chain_within, list_has, derived}
-use Rattle.eds_types.specs.Rules.{AreDistinct, KindKeeps, HasKind, IsContainer, IsHollow, IsValueOf, IsCounted, DerivesFrom, IsNested, ItemsNest, TailKeeps, PartKeeps, name_of, is_length, ConstraintKeeps, SequenceKeeps, KeepsRules}
+use Rattle.eds_types.specs.Rules.{AreDistinct, KindKeeps, HasKind, IsContainer, IsHollow, IsValueOf, IsInt, IsScale, HoldsCheck, IsCounted, DerivesFrom, IsNested, ItemsNest, TailKeeps, PartKeeps, name_of, is_length, ConstraintKeeps, SequenceKeeps, KeepsRules}
 
 -- the type, if it is a container, has entries
 abbrev pub IsSolid : Table → ℕ → Type 0
 IsSolid t id = (c : Container) → container_of t id ≡ Some c → c.entries ≡ [] → ⊥
 
--- what an entry of a container keeps; length entries and error controls are none yet
+-- what an entry of a container keeps
 abbrev pub PartFits : Table → Placed → Part → Type 0
-PartFits t p (part.Plain name id) = IsSolid t id.0 × (open_of t id.0 ≡ None)
+PartFits t p (part.Plain name id) = IsSolid t id.0 × IfSome (open_of t id.0) (λ n. TailKeeps t p)
 PartFits t p (part.Fixed name id v) = HasKind t id.0 (λ k. IsValueOf k (plain v)) × (open_of t id.0 ≡ None)
 PartFits t p (part.Pad n) = (1 ≤ n) × (n ≤ 524288)
 PartFits t p (part.List name id y i) = IsSolid t id.0 × (open_of t id.0 ≡ None) × IsCounted t p y.0 i
-PartFits t p (part.Length name id c0 c1) = ⊥
-PartFits t p (part.Check name id check) = ⊥
+PartFits t p (part.Length name id c0 c1) = IsInt t id.0 (λ form spans. Unit {0}) × IsScale c0 c1
+PartFits t p (part.Check name id check) = IsInt t id.0 (HoldsCheck check) × (base_of t id.0 ≡ None)
 
 -- and its type is nested less deep
 pub record EntryKeeps (t : Table) (rank : ℕ → ℕ) (p : Placed) : Type 0 where
@@ -46,6 +46,7 @@ pub record IsPlainContainer (t : Table) (rank : ℕ → ℕ) (id : ℕ) (base : 
   pub trailers : c.trailers ≡ []
   pub entries : AllByRecursion (EntryKeeps t rank) (placed_from id 0 c.entries)
   pub names : AreDistinct (filter_map name_of c.entries)
+  pub one_length : length (filter is_length c.entries) ≤ 1
 
 -- an array of items that have bits and are nested less deep
 pub record IsPlainArray (t : Table) (rank : ℕ → ℕ) (id item : ℕ) : Type 0 where
@@ -259,17 +260,13 @@ module _ (t : Table) (f : ArePlainRows t) where
           here : h.hollow ≡ id → ⊥
           here is = solid c (sym (ap (container_of t) is) ∙ e) (no_parts h.hollow c.entries (sym (own_sequence h.hollow c e) ∙ h.no_parts))
 
-  no_tail : (p : Placed) (o : Option ℕ) → o ≡ None → IfSome o (λ n. TailKeeps t p)
-  no_tail p None e = tt
-  no_tail p (Some n) e = absurd cc
-
   part_keeps : (p : Placed) (q : Part) → PartFits t p q → PartKeeps t p q
-  part_keeps p (part.Plain name id) h = (not_hollow id.0 h.0, no_tail p (open_of t id.0) h.1)
+  part_keeps p (part.Plain name id) h = (not_hollow id.0 h.0, h.1)
   part_keeps p (part.Fixed name id v) h = h
   part_keeps p (part.Pad n) h = h
   part_keeps p (part.List name id y i) h = (not_hollow id.0 h.0, h.1, h.2)
-  part_keeps p (part.Length name id c0 c1) h = absurd h
-  part_keeps p (part.Check name id check) h = absurd h
+  part_keeps p (part.Length name id c0 c1) h = h
+  part_keeps p (part.Check name id check) h = h
 
   keep : (ps : List Placed) → AllByRecursion (EntryKeeps t f.rank) ps → AllByRecursion (λ (p : Placed). PartKeeps t p p.part) ps
   keep [] h = tt
@@ -284,17 +281,13 @@ module _ (t : Table) (f : ArePlainRows t) where
   names_of y i [] = refl
   names_of y i (p ∷ ps) = rw (names_of y (i + 1) ps) refl
 
-  no_length : (p : Placed) (q : Part) → PartFits t p q → is_length q ≡ false
-  no_length p (part.Plain name id) h = refl
-  no_length p (part.Fixed name id v) h = refl
-  no_length p (part.Pad n) h = refl
-  no_length p (part.List name id y i) h = refl
-  no_length p (part.Length name id c0 c1) h = absurd h
-  no_length p (part.Check name id check) h = absurd h
-
-  no_lengths : (ps : List Placed) → AllByRecursion (EntryKeeps t f.rank) ps → filter (λ (p : Placed). is_length p.part) ps ≡ []
-  no_lengths [] h = refl
-  no_lengths (p ∷ ps) h = rw (no_length p p.part (h.0).fits) (no_lengths ps h.1)
+  lengths_of : (y i : ℕ) (ps : List Part) → length (filter (λ (p : Placed). is_length p.part) (placed_from y i ps)) ≡ length (filter is_length ps)
+  lengths_of y i [] = refl
+  lengths_of y i (p ∷ ps) = go (lengths_of y (i + 1) ps) (is_length p) refl
+    where
+      go : length (filter (λ (p : Placed). is_length p.part) (placed_from y (i + 1) ps)) ≡ length (filter is_length ps) → (b : Bool) → is_length p ≡ b → length (filter (λ (p : Placed). is_length p.part) (placed_from y i (p ∷ ps))) ≡ length (filter is_length (p ∷ ps))
+      go later true e = rw e (ap suc later)
+      go later false e = rw e later
 
   sequences : (k : ℕ) → SequenceKeeps (sequence t k)
   sequences k = go (container_of t k) refl
@@ -303,7 +296,7 @@ module _ (t : Table) (f : ArePlainRows t) where
       go None e = subst SequenceKeeps (sym (no_sequence k e)) (record { names = tt; one_length = lit≤ tt })
       go (Some c) e =
           let is = container_is k c e in
-          subst SequenceKeeps (sym (own_sequence k c e)) (record { names = subst AreDistinct (sym (names_of k 0 c.entries)) is.names; one_length = subst (λ (ps : List Placed). length ps ≤ 1) (sym (no_lengths (placed_from k 0 c.entries) is.entries)) (lit≤ tt) })
+          subst SequenceKeeps (sym (own_sequence k c e)) (record { names = subst AreDistinct (sym (names_of k 0 c.entries)) is.names; one_length = subst (λ n. n ≤ 1) (sym (lengths_of k 0 c.entries)) is.one_length })
 
   -- ---- families and items
 

@@ -1,6 +1,6 @@
 -- The rows of a sheet that breaks no rule on types keep the rules of a table.
 use Rattle.std.proofs.Common.{◌≡◌, ℕ, zero, suc, ◌+◌, ◌<◌, ◌≤◌, Bool, true, false, ◌||◌, ◌&&◌, List, [], ◌∷◌, ◌++◌, length, map, slice_get, option_map, Option, Some, None, refl, sym, ap, subst, ◌∙◌, arith, lit≤}
-use Rattle.std.specs.Prelude.{nat_le, codes, not, is_some, Ok, if◌then◌else◌}
+use Rattle.std.specs.Prelude.{nat_le, codes, not, is_some, IfSome, Ok, if◌then◌else◌}
 use Rattle.std.specs.List.{AllByRecursion, filter_map, flat_map, list_all}
 use Rattle.std.proofs.Common.{leb-true}
 use Rattle.std.proofs.lemmas.Bool.{and_parts, le-leb}
@@ -23,18 +23,19 @@ use Rattle.eds_names.specs.Repeats.{is_among}
 use Rattle.eds_names.specs.LookUp.{Names, AreApart, NamesDiffer, look_up, names_in}
 use Rattle.eds_names.proofs.Differing.{differ}
 use Rattle.eds_types.specs.declared.row.TypeRow.{TypeRow}
+use Rattle.eds_types.specs.declared.row.Kind.{Kind}
 use Rattle.eds_types.specs.declared.row.Kind.TheVariants as kind
 use Rattle.eds_types.specs.declared.row.Container.{Container}
 use Rattle.eds_types.specs.declared.row.Part.{Part}
 use Rattle.eds_types.specs.declared.row.Part.TheVariants as part
-use Rattle.eds_types.specs.Rows.{base_in, base_of, container_by, container_in, container_of, number_of_id, entries_in}
-use Rattle.eds_types.specs.Sizes.{open_of}
+use Rattle.eds_types.specs.Rows.{base_in, base_of, container_by, container_in, container_of, number_of_id, entries_in, Placed}
+use Rattle.eds_types.specs.Sizes.{open_by, open_in, open_of}
 use Rattle.eds_types.specs.Fields.{type_by}
 use Rattle.eds_graph.specs.Ways.{is_circular}
 use Rattle.eds_graph.specs.Search.{Has as is_one_of}
 use Rattle.eds_graph.proofs.Tests.{has-left}
 use Rattle.eds_nesting.specs.Families.{types_of, types_in}
-use Rattle.eds_types.specs.Rules.{AreDistinct, IsListing, KindKeeps, HasKind, DerivesFrom, IsNested, IsCounted, name_of, KeepsRules}
+use Rattle.eds_types.specs.Rules.{AreDistinct, IsListing, KindKeeps, HasKind, IsInt, IsIntBy, HoldsCheck, DerivesFrom, IsNested, IsCounted, TailKeeps, name_of, KeepsRules}
 use Rattle.eds_read_types.specs.declared.numbers.FormAndDomain.{FormAndDomain}
 use Rattle.eds_read_types.specs.Places.{element, is_element, is_container, is_sub_range, is_number, attribute, own_name, elements, types, type_places}
 use Rattle.eds_read_types.specs.References.{references, row_for, judged_text, judged_by, judged_at, broken_with}
@@ -43,7 +44,7 @@ use Rattle.eds_read_types.specs.declared.part_sort.PartSort.{PartSort}
 use Rattle.eds_read_types.specs.declared.part_sort.PartSort.TheVariants as sorts
 use Rattle.eds_read_types.specs.Entries.{sort_at, entries_at, named_among}
 use Rattle.eds_read_types.specs.ListFields.{field_place}
-use Rattle.eds_read_types.specs.PartRows.{entry_id, padding_bits, unread, plain_part, type_number, list_part, part_by, part_at}
+use Rattle.eds_read_types.specs.PartRows.{entry_id, padding_bits, unread, plain_part, type_number, list_part, length_part, check_part, part_by, part_at}
 use Rattle.eds_read_types.specs.Forms.{int_form_of, bool_form_of}
 use Rattle.eds_read_types.specs.Listings.{listing_of}
 use Rattle.eds_read_types.specs.Bases.{base_named, base_found, bases_of}
@@ -63,7 +64,11 @@ use Rattle.eds_read_types.specs.TypeCycle.{type_cycle_at}
 use Rattle.eds_read_types.specs.LimitNesting.{is_too_deep, nesting_at}
 use Rattle.eds_read_types.specs.EmptyType.{may_be_empty, is_empty_entry, empty_part_at}
 use Rattle.eds_read_types.specs.ListField.{is_told, list_field_at}
-use Rattle.eds_read_types.specs.LengthField.{untold_by, length_field_at}
+use Rattle.eds_read_types.specs.LengthField.{is_int, is_tail, has_length_above, length_field_at, second_length_at}
+use Rattle.eds_read_types.specs.Checks.{check_at}
+use Rattle.eds_read_types.specs.Parts.{PartJudgement, at_parts}
+use Rattle.eds_read_types.specs.PartElements.{judged_elements}
+use Rattle.eds_read_types.specs.ErrorControl.{is_held, error_control_at}
 use Rattle.eds_read_types.specs.declared.reference_row.Wanted.TheVariants.{NumberType}
 use Rattle.eds_read_types.proofs.NoBreaks.{least-none, append-none, types-apart, no_repeats}
 use Rattle.eds_read_types.proofs.Unbroken.{IsUnbroken, unbroken}
@@ -77,6 +82,9 @@ use Rattle.eds_read_types.proofs.LevelFacts.{HasLevels}
 use Rattle.eds_read_types.proofs.NestingFacts.{no_base_cycle, rank as rank_in, few_ranks, nested, base_ranks, part_named}
 use Rattle.eds_read_types.proofs.EmptyFacts.{has_bits, solid}
 use Rattle.eds_read_types.proofs.ListFieldFacts.{counted}
+use Rattle.eds_read_types.proofs.TailFacts.{tail_kept}
+use Rattle.eds_read_types.proofs.LengthFacts.{part_sort_named, scaled, int_is, one_length, entries_none}
+use Rattle.eds_read_types.proofs.CheckFacts.{held}
 use Rattle.eds_read_types.proofs.Found.{id_there, number_there}
 use Rattle.eds_read_types.proofs.SortFacts.{sort_named, binary_keeps}
 use Rattle.eds_read_types.proofs.ChainFacts.{over-none, each-none, unmet, level}
@@ -312,33 +320,59 @@ module _ (trees : List (List Node)) (names : Names) (word : Option (List ℕ)) (
   solid_type : (id : ℕ) → open_of (table_rows trees names) id ≡ None → may_be_empty (table_rows trees names) id ≡ false → IsSolid (table_rows trees names) id × (open_of (table_rows trees names) id ≡ None)
   solid_type id closed_type bits = (solid (table_rows trees names) id (has_bits (table_rows trees names) id bits).0, closed_type)
 
-  no_open : (o : Option ℕ) (at : Place) → untold_by at o ≡ [] → o ≡ None
-  no_open None at h = refl
-  no_open (Some n) at h = absurd cc
+  none_open : (o : Option ℕ) → is_some o ≡ false → o ≡ None
+  none_open None h = refl
+  none_open (Some n) h = absurd cc
 
-  -- the type of an entry has bits, and is no open binary
+  -- the part of an element of a sort, where a rule on parts is broken nowhere
+  unbroken_part : (judge : PartJudgement) → at_parts judge trees names ≡ [] → (id : ℕ) (d : Declared) → slice_get (types names) id ≡ Some d → is_container trees d.place ≡ true → (k : ℕ) (q : Place) → slice_get (entries_at trees d.place) k ≡ Some q → (s : PartSort) → sort_at trees q ≡ Some s
+      → judge (table_rows trees names) (record { container = id; place = k; part = part_by (Some s) trees names id (entries_at trees d.place) q }) q ≡ []
+  unbroken_part judge none id d there con k q e s is =
+      let part = part_there id d (container_is id d there con) k q e ∙ ap (λ s. Some (part_by s trees names id (entries_at trees d.place) q)) is in
+      part_none judge trees names none id d.place (place_there (types names) id d there) k (part_by (Some s) trees names id (entries_at trees d.place) q) part q e
+
+  -- the type of an entry has bits or is an open binary, which only the last entry of a told container is
   entry_solid : (id : ℕ) (d : Declared) → slice_get (types names) id ≡ Some d → is_container trees d.place ≡ true → (k : ℕ) (q : Place) → slice_get (entries_at trees d.place) k ≡ Some q → sort_at trees q ≡ Some sorts.Entry
-      → IsSolid (table_rows trees names) (entry_id trees names q).0 × (open_of (table_rows trees names) (entry_id trees names q).0 ≡ None)
+      → IsSolid (table_rows trees names) (entry_id trees names q).0 × IfSome (open_of (table_rows trees names) (entry_id trees names q).0) (λ n. TailKeeps (table_rows trees names) (record { container = id; place = k; part = plain_part trees names q }))
   entry_solid id d there con k q e s =
-      let place = place_there (types names) id d there in
+      let p : Placed = record { container = id; place = k; part = plain_part trees names q } in
       let part = part_there id d (container_is id d there con) k q e ∙ ap (λ s. Some (part_by s trees names id (entries_at trees d.place) q)) s in
-      let open_none = no_open (open_of (table_rows trees names) (entry_id trees names q).0) q (part_none length_field_at trees names u.lengths id d.place place k (plain_part trees names q) part q e) in
-      let bits = full (open_of (table_rows trees names) (entry_id trees names q).0) (may_be_empty (table_rows trees names) (entry_id trees names q).0) open_none
-      (unmet (is_empty_entry (table_rows trees names) (entry_id trees names q).0) _ (part_none empty_part_at trees names u.empty_parts id d.place place k (plain_part trees names q) part q e)) in
-      solid_type (entry_id trees names q).0 open_none bits
+      let lengths = unmet (is_some (open_of (table_rows trees names) (entry_id trees names q).0) && not (is_tail (table_rows trees names) p)) _ (unbroken_part length_field_at u.lengths id d there con k q e sorts.Entry s) in
+      let bits = unmet (is_empty_entry (table_rows trees names) (entry_id trees names q).0) _ (unbroken_part empty_part_at u.empty_parts id d there con k q e sorts.Entry s) in
+      full (open_of (table_rows trees names) (entry_id trees names q).0) refl bits (λ h. tail_kept (table_rows trees names) id k (plain_part trees names q) part h) lengths
     where
-      full : (o : Option ℕ) (empty : Bool) → o ≡ None → (not (is_some o) && empty) ≡ false → empty ≡ false
-      full None empty e h = h
-      full (Some n) empty e h = cc
+      no_entries : (o : Option TypeRow) (n : ℕ) → open_in o ≡ Some n → container_in o ≡ None
+      no_entries None n h = absurd cc
+      no_entries (Some row) n h = of_kind row.kind h
+        where
+          of_kind : (k : Kind) → open_by k ≡ Some n → container_by k ≡ None
+          of_kind (kind.Int form spans) h = refl
+          of_kind (kind.Enum form listing) h = refl
+          of_kind (kind.Bool form) h = refl
+          of_kind (kind.Str form) h = refl
+          of_kind (kind.Bin m free) h = refl
+          of_kind (kind.Arr item m) h = refl
+          of_kind (kind.Con c) h = absurd cc
+
+      tail_of : (b : Bool) → not b ≡ false → b ≡ true
+      tail_of true h = refl
+      tail_of false h = absurd cc
+
+      full : (o : Option ℕ) → open_of (table_rows trees names) (entry_id trees names q).0 ≡ o → (not (is_some o) && may_be_empty (table_rows trees names) (entry_id trees names q).0) ≡ false
+          → (is_tail (table_rows trees names) (record { container = id; place = k; part = plain_part trees names q }) ≡ true → TailKeeps (table_rows trees names) (record { container = id; place = k; part = plain_part trees names q }))
+          → (is_some o && not (is_tail (table_rows trees names) (record { container = id; place = k; part = plain_part trees names q }))) ≡ false
+          → IsSolid (table_rows trees names) (entry_id trees names q).0 × IfSome o (λ n. TailKeeps (table_rows trees names) (record { container = id; place = k; part = plain_part trees names q }))
+      full None none empty keep lengths = (solid (table_rows trees names) (entry_id trees names q).0 (has_bits (table_rows trees names) (entry_id trees names q).0 empty).0, tt)
+      full (Some n) is empty keep lengths =
+          ((λ c at. (let none = no_entries (slice_get (table_rows trees names) (entry_id trees names q).0) n is in let no : Some c ≡ None = sym at ∙ none in absurd cc)),
+          keep (tail_of (is_tail (table_rows trees names) (record { container = id; place = k; part = plain_part trees names q })) lengths))
 
   -- and the type of a list's items
   list_solid : (id : ℕ) (d : Declared) → slice_get (types names) id ≡ Some d → is_container trees d.place ≡ true → (k : ℕ) (q : Place) → slice_get (entries_at trees d.place) k ≡ Some q → sort_at trees q ≡ Some sorts.List
       → IsSolid (table_rows trees names) (entry_id trees names q).0 × (open_of (table_rows trees names) (entry_id trees names q).0 ≡ None)
   list_solid id d there con k q e s =
-      let place = place_there (types names) id d there in
-      let part = part_there id d (container_is id d there con) k q e ∙ ap (λ s. Some (part_by s trees names id (entries_at trees d.place) q)) s in
-      let open_none = no_open (open_of (table_rows trees names) (entry_id trees names q).0) q (part_none length_field_at trees names u.lengths id d.place place k (list_part trees names id (entries_at trees d.place) q) part q e) in
-      let bits = unmet (may_be_empty (table_rows trees names) (entry_id trees names q).0) _ (part_none empty_part_at trees names u.empty_parts id d.place place k (list_part trees names id (entries_at trees d.place) q) part q e) in
+      let open_none = none_open (open_of (table_rows trees names) (entry_id trees names q).0) (unmet (is_some (open_of (table_rows trees names) (entry_id trees names q).0)) _ (unbroken_part length_field_at u.lengths id d there con k q e sorts.List s)) in
+      let bits = unmet (may_be_empty (table_rows trees names) (entry_id trees names q).0) _ (unbroken_part empty_part_at u.empty_parts id d there con k q e sorts.List s) in
       solid_type (entry_id trees names q).0 open_none bits
 
   -- padding keeps its size, and has no type
@@ -354,22 +388,73 @@ module _ (trees : List (List Node)) (names : Names) (word : Option (List ℕ)) (
       let there = slice_get-map (part_at trees names id (entries_at trees d.place)) (entries_at trees d.place) k ∙ ap (option_map (part_at trees names id (entries_at trees d.place))) e in
       rw con (has-left (types_of (map (part_at trees names id (entries_at trees d.place)) (entries_at trees d.place))) (types_of []) x (part_named (map (part_at trees names id (entries_at trees d.place)) (entries_at trees d.place)) k (part_at trees names id (entries_at trees d.place) q) there x h))
 
+  -- the type of a part is nested less deep
+  part_nests : (id : ℕ) (d : Declared) → slice_get (types names) id ≡ Some d → is_container trees d.place ≡ true → (k : ℕ) (q : Place) → slice_get (entries_at trees d.place) k ≡ Some q → (s : PartSort) → sort_at trees q ≡ Some s
+      → (inner : ℕ) → type_by (Some (part_by (Some s) trees names id (entries_at trees d.place) q)) ≡ Some inner → (entry_id trees names q).0 ≡ inner → IsNested (table_rows trees names) rank id inner
+  part_nests id d there con k q e s sorted inner same_type is =
+      let here : part_at trees names id (entries_at trees d.place) q ≡ part_by (Some s) trees names id (entries_at trees d.place) q = ap (λ o. part_by o trees names id (entries_at trees d.place) q) sorted in
+      let lt = subst (λ n. n < length (table_rows trees names)) is (entry_there q id d there) in
+      nested (table_rows trees names) levels circleless id (table_row trees names id d) (row_of id d there) inner lt (holds_part id d con k q e inner (ap (λ p. type_by (Some p)) here ∙ same_type))
+
   plain_keeps : (id : ℕ) (d : Declared) → slice_get (types names) id ≡ Some d → is_container trees d.place ≡ true → (k : ℕ) (q : Place) → slice_get (entries_at trees d.place) k ≡ Some q → sort_at trees q ≡ Some sorts.Entry
       → EntryKeeps (table_rows trees names) rank (record { container = id; place = k; part = plain_part trees names q })
   plain_keeps id d there con k q e s =
       record {
         fits = entry_solid id d there con k q e s;
-        nests = λ inner same_type. nests inner same_type;
+        nests = λ inner same_type. (let is : (entry_id trees names q).0 ≡ inner = cc in part_nests id d there con k q e sorts.Entry s inner same_type is);
+      }
+
+  -- ---- length entries
+
+  length_keeps : (id : ℕ) (d : Declared) → slice_get (types names) id ≡ Some d → is_container trees d.place ≡ true → (k : ℕ) (q : Place) → slice_get (entries_at trees d.place) k ≡ Some q → sort_at trees q ≡ Some sorts.Length
+      → EntryKeeps (table_rows trees names) rank (record { container = id; place = k; part = length_part trees names q })
+  length_keeps id d there con k q e s =
+      let typed = unmet (not (is_int (table_rows trees names) (entry_id trees names q).0)) _ (unbroken_part length_field_at u.lengths id d there con k q e sorts.Length s) in
+      record {
+        fits = (int_is (table_rows trees names) (entry_id trees names q).0 (was (is_int (table_rows trees names) (entry_id trees names q).0) typed), scaled trees q);
+        nests = λ inner same_type. (let is : (entry_id trees names q).0 ≡ inner = cc in part_nests id d there con k q e sorts.Length s inner same_type is);
       }
     where
-      here : part_at trees names id (entries_at trees d.place) q ≡ plain_part trees names q
-      here = ap (λ s. part_by s trees names id (entries_at trees d.place) q) s
+      was : (b : Bool) → not b ≡ false → b ≡ true
+      was true h = refl
+      was false h = absurd cc
 
-      nests : (inner : ℕ) → type_by (Some (plain_part trees names q)) ≡ Some inner → IsNested (table_rows trees names) rank id inner
-      nests inner same_type =
-          let is : (entry_id trees names q).0 ≡ inner = cc in
-          let lt = subst (λ n. n < length (table_rows trees names)) is (entry_there q id d there) in
-          nested (table_rows trees names) levels circleless id (table_row trees names id d) (row_of id d there) inner lt (holds_part id d con k q e inner (ap (λ p. type_by (Some p)) here ∙ same_type))
+  -- ---- error controls
+
+  -- no sub-range is an integer type
+  no_sub_base : (at : Place) → is_element trees (codes "IntegerDataType") at ≡ true → base_found trees names at ≡ None
+  no_sub_base at h = let no : is_sub_range trees at ≡ false = ap (λ name. same name (codes "SubRangeDataType")) ((bytes_eq-Decides (node_name (element trees at)) (codes "IntegerDataType")).0 h) in ap (λ b. id_found names at (if b then attribute trees (codes "baseType") at else None)) no
+
+  check_type : (q : Place) → is_held trees names q ≡ true → IsInt (table_rows trees names) (entry_id trees names q).0 (HoldsCheck (check_at trees q)) × (base_of (table_rows trees names) (entry_id trees names q).0 ≡ None)
+  check_type q h =
+      let id = (entry_id trees names q).0 in
+      let found = held trees (type_places names) (bases_of trees names) (check_at trees q) id h in
+      let other = declared_there (types names) id found.place found.there in
+      let integer : is_element trees (codes "IntegerDataType") (other.0).place ≡ true = ap (is_element trees (codes "IntegerDataType")) other.2 ∙ found.integer in
+      let number : is_number trees (other.0).place ≡ true = ap (λ b. b || is_sub_range trees (other.0).place) integer in
+      let row = row_of id other.0 other.1 in
+      let root = no_sub_base (other.0).place integer in
+      let none = base_there trees names id found.place found.there ∙ no_sub_base found.place found.integer in
+      ((table_row trees names id other.0, row, subst (IsIntBy (HoldsCheck (check_at trees q))) (sym (number_kind trees names id (other.0).place number)) (found.numbers none)),
+      ap base_in row ∙ ap number_of_id root)
+
+  check_keeps : (id : ℕ) (d : Declared) → slice_get (types names) id ≡ Some d → is_container trees d.place ≡ true → (k : ℕ) (q : Place) → slice_get (entries_at trees d.place) k ≡ Some q → sort_at trees q ≡ Some sorts.ErrorControl
+      → EntryKeeps (table_rows trees names) rank (record { container = id; place = k; part = check_part trees names q })
+  check_keeps id d there con k q e s =
+      let here = each-none (judged_elements error_control_at trees names) (type_places names) u.checks id d.place (place_there (types names) id d there) in
+      let entries = entries_none (error_control_at trees names) trees d.place here in
+      let one = unmet (is_element trees (codes "ErrorControlEntry") q && not (is_held trees names q)) _ (each-none (error_control_at trees names) (entries_at trees d.place) entries k q e) in
+      record {
+        fits = check_type q (was (is_element trees (codes "ErrorControlEntry") q) (is_held trees names q) (part_sort_named (node_name (element trees q)) sorts.ErrorControl s) one);
+        nests = λ inner same_type. (let is : (entry_id trees names q).0 ≡ inner = cc in part_nests id d there con k q e sorts.ErrorControl s inner same_type is);
+      }
+    where
+      was : (a b : Bool) → a ≡ true → (a && not b) ≡ false → b ≡ true
+      was true true e h = refl
+      was true false e h = absurd cc
+      was false b e h = absurd cc
+
+  -- ---- lists
 
   -- the number of items is told by an entry before the list
   list_counted : (id : ℕ) (d : Declared) → slice_get (types names) id ≡ Some d → is_container trees d.place ≡ true → (k : ℕ) (q : Place) → slice_get (entries_at trees d.place) k ≡ Some q → sort_at trees q ≡ Some sorts.List
@@ -397,17 +482,8 @@ module _ (trees : List (List Node)) (names : Names) (word : Option (List ℕ)) (
       let full = list_solid id d there con k q e s in
       record {
         fits = (full.0, full.1, list_counted id d there con k q e s);
-        nests = λ inner same_type. nests inner same_type;
+        nests = λ inner same_type. (let is : (entry_id trees names q).0 ≡ inner = cc in part_nests id d there con k q e sorts.List s inner same_type is);
       }
-    where
-      here : part_at trees names id (entries_at trees d.place) q ≡ list_part trees names id (entries_at trees d.place) q
-      here = ap (λ s. part_by s trees names id (entries_at trees d.place) q) s
-
-      nests : (inner : ℕ) → type_by (Some (list_part trees names id (entries_at trees d.place) q)) ≡ Some inner → IsNested (table_rows trees names) rank id inner
-      nests inner same_type =
-          let is : (entry_id trees names q).0 ≡ inner = cc in
-          let lt = subst (λ n. n < length (table_rows trees names)) is (entry_there q id d there) in
-          nested (table_rows trees names) levels circleless id (table_row trees names id d) (row_of id d there) inner lt (holds_part id d con k q e inner (ap (λ p. type_by (Some p)) here ∙ same_type))
 
   part_keeps : (id : ℕ) (d : Declared) → slice_get (types names) id ≡ Some d → is_container trees d.place ≡ true → (k : ℕ) (q : Place) → slice_get (entries_at trees d.place) k ≡ Some q
       → EntryKeeps (table_rows trees names) rank (record { container = id; place = k; part = part_at trees names id (entries_at trees d.place) q })
@@ -419,8 +495,8 @@ module _ (trees : List (List Node)) (names : Names) (word : Option (List ℕ)) (
       go (Some sorts.FixedValue) s = unread_keeps id k
       go (Some sorts.Padding) s = let size = padding_keeps trees q in pad_keeps id k (padding_bits trees q) size.0 size.1
       go (Some sorts.List) s = list_keeps id d there con k q e s
-      go (Some sorts.Length) s = unread_keeps id k
-      go (Some sorts.ErrorControl) s = unread_keeps id k
+      go (Some sorts.Length) s = length_keeps id d there con k q e s
+      go (Some sorts.ErrorControl) s = check_keeps id d there con k q e s
 
   entry_keeps : (id : ℕ) (d : Declared) → slice_get (types names) id ≡ Some d → is_container trees d.place ≡ true → (k : ℕ) (p : Part) → slice_get (map (part_at trees names id (entries_at trees d.place)) (entries_at trees d.place)) k ≡ Some p → EntryKeeps (table_rows trees names) rank (record { container = id; place = k; part = p })
   entry_keeps id d there con k p e =
@@ -442,6 +518,7 @@ module _ (trees : List (List Node)) (names : Names) (word : Option (List ℕ)) (
           bare = refl;
           trailers = refl;
           entries = placed_all (EntryKeeps (table_rows trees names) rank) id 0 (map (part_at trees names id (entries_at trees d.place)) (entries_at trees d.place)) (λ k p e i same_place. subst (λ n. EntryKeeps (table_rows trees names) rank (record { container = id; place = n; part = p })) (to_sum k i same_place) (entry_keeps id d there is k p e));
+          one_length = one_length trees names id (entries_at trees d.place) (has_length_above (table_rows trees names) (base_of (table_rows trees names) id)) d.place (over-none (second_length_at trees (table_rows trees names)) 0 (type_places names) u.one_lengths id d.place place id (omega arith));
           names = names_distinct trees names id (entries_at trees d.place) (entries_at trees d.place) (no_repeats trees [] (named_among trees (entries_at trees d.place)) differ).1;
         };
       }

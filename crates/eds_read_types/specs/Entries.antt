@@ -1,5 +1,5 @@
 -- The parts of containers as elements, in document order (CCSDS 876.0-B, container entries).
-use Rattle.std.specs.Prelude.{ℕ, List, codes, filter, Bool, true, false, is_some, Option, Some, None}
+use Rattle.std.specs.Prelude.{ℕ, List, ◌||◌, codes, filter, Bool, true, false, is_some, Option, Some, None}
 use Rattle.std.specs.List.{flat_map}
 use Rattle.eds_base.specs.declared.ids.Place.{Place}
 use Rattle.eds_tree.specs.declared.tree.Node.{Node}
@@ -7,7 +7,7 @@ use Rattle.eds_tree.specs.Trees.{node_name}
 use Rattle.eds_read_types.specs.declared.part_sort.PartSort.{PartSort}
 use Rattle.eds_read_types.specs.declared.part_sort.PartSort.TheVariants as sort
 use Rattle.eds_read_types.specs.PartSorts.{part_sort_of}
-use Rattle.eds_read_types.specs.Places.{element, attribute, children, held}
+use Rattle.eds_read_types.specs.Places.{element, is_element, attribute, children, held}
 
 -- the sort of part that the element at a place is
 abbrev pub sort_at : List (List Node) → Place → Option PartSort
@@ -28,6 +28,14 @@ entries_at trees at = flat_map (parts_held trees) (held trees (codes "EntryList"
 -- its trailers
 abbrev pub trailers_at : List (List Node) → Place → List Place
 trailers_at trees at = flat_map (parts_held trees) (held trees (codes "TrailerEntryList") at)
+
+-- a list of entries or of trailers
+abbrev pub is_part_list : List (List Node) → Place → Bool
+is_part_list trees at = is_element trees (codes "EntryList") at || is_element trees (codes "TrailerEntryList") at
+
+-- the parts of a container in document order
+abbrev pub parts_at : List (List Node) → Place → List Place
+parts_at trees at = flat_map (parts_held trees) (filter (is_part_list trees) (children trees at))
 
 -- the reference to its type that a part has
 abbrev pub type_named : List (List Node) → Place → Option (List ℕ)

@@ -26,6 +26,7 @@ pub mod Calibrators
 pub mod Unbroken
 pub mod Numbers
 pub mod ListFields
+pub mod Checks
 pub mod PartRows
 pub mod TableRows
 pub mod Used
@@ -35,7 +36,9 @@ pub mod TypeCycle
 pub mod LimitNesting
 pub mod EmptyType
 pub mod ListField
+pub mod PartElements
 pub mod LengthField
+pub mod ErrorControl
 pub mod FaceReferences
 pub mod FaceRules
 pub mod TableBreaks

@@ -14,6 +14,8 @@ use Rattle.eds_read_types.specs.declared.part_sort.PartSort.TheVariants as sort
 use Rattle.eds_read_types.specs.Places.{attribute, own_name}
 use Rattle.eds_read_types.specs.Entries.{sort_at, type_named}
 use Rattle.eds_read_types.specs.ListFields.{field_place}
+use Rattle.eds_read_types.specs.Calibrators.{c0_or_plain, c1_or_plain}
+use Rattle.eds_read_types.specs.Checks.{check_at}
 use Rattle.eds_read_types.specs.ReadTypes.{id_found}
 use Rattle.eds_read_types.specs.TextForms.{natural, is_binary_size}
 
@@ -58,6 +60,14 @@ type_number id = record { 0 = if nat_le id 4294967295 then id else 4294967295 }
 abbrev pub list_part : List (List Node) → Names → (container : ℕ) → List Place → Place → Part
 list_part trees names container ats at = part.List (own_name trees at) (entry_id trees names at) (type_number container) (field_place trees ats at)
 
+-- a length entry by its name, its type and its scale
+abbrev pub length_part : List (List Node) → Names → Place → Part
+length_part trees names at = part.Length (own_name trees at) (entry_id trees names at) (c0_or_plain trees at) (c1_or_plain trees at)
+
+-- an error control by its name, its type and its check
+abbrev pub check_part : List (List Node) → Names → Place → Part
+check_part trees names at = part.Check (own_name trees at) (entry_id trees names at) (check_at trees at)
+
 -- a part of the container of a number, of all whose parts the elements are given
 abbrev pub part_by : Option PartSort → List (List Node) → Names → (container : ℕ) → List Place → Place → Part
 part_by None trees names container ats at = unread
@@ -65,8 +75,8 @@ part_by (Some sort.Entry) trees names container ats at = plain_part trees names 
 part_by (Some sort.FixedValue) trees names container ats at = unread
 part_by (Some sort.Padding) trees names container ats at = part.Pad (padding_bits trees at)
 part_by (Some sort.List) trees names container ats at = list_part trees names container ats at
-part_by (Some sort.Length) trees names container ats at = unread
-part_by (Some sort.ErrorControl) trees names container ats at = unread
+part_by (Some sort.Length) trees names container ats at = length_part trees names at
+part_by (Some sort.ErrorControl) trees names container ats at = check_part trees names at
 
 -- the part that the element at a place is
 abbrev pub part_at : List (List Node) → Names → (container : ℕ) → List Place → Place → Part

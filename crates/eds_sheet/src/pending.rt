@@ -20,8 +20,6 @@ fn is_pending(name: &str) -> bool
             "ArrayDataType",
             "FixedValueEntry",
             "PaddingEntry",
-            "LengthEntry",
-            "ErrorControlEntry",
             "ConstraintSet",
             "TrailerEntryList",
             "ComponentSet",
