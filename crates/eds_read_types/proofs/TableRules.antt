@@ -363,9 +363,10 @@ module _ (trees : List (List Node)) (names : Names) (word : Option (List ℕ)) (
           → (is_some o && not (is_tail (table_rows trees names) (record { container = id; place = k; part = plain_part trees names q }))) ≡ false
           → IsSolid (table_rows trees names) (entry_id trees names q).0 × IfSome o (λ n. TailKeeps (table_rows trees names) (record { container = id; place = k; part = plain_part trees names q }))
       full None none empty keep lengths = (solid (table_rows trees names) (entry_id trees names q).0 (has_bits (table_rows trees names) (entry_id trees names q).0 empty).0, tt)
-      full (Some n) is empty keep lengths =
-          ((λ c at. (let none = no_entries (slice_get (table_rows trees names) (entry_id trees names q).0) n is in let no : Some c ≡ None = sym at ∙ none in absurd cc)),
-          keep (tail_of (is_tail (table_rows trees names) (record { container = id; place = k; part = plain_part trees names q })) lengths))
+      full (Some n) is empty keep lengths = (
+        (λ c at. (let none = no_entries (slice_get (table_rows trees names) (entry_id trees names q).0) n is in let no : Some c ≡ None = sym at ∙ none in absurd cc)),
+        keep (tail_of (is_tail (table_rows trees names) (record { container = id; place = k; part = plain_part trees names q })) lengths),
+      )
 
   -- and the type of a list's items
   list_solid : (id : ℕ) (d : Declared) → slice_get (types names) id ≡ Some d → is_container trees d.place ≡ true → (k : ℕ) (q : Place) → slice_get (entries_at trees d.place) k ≡ Some q → sort_at trees q ≡ Some sorts.List
@@ -434,9 +435,10 @@ module _ (trees : List (List Node)) (names : Names) (word : Option (List ℕ)) (
       let number : is_number trees (other.0).place ≡ true = ap (λ b. b || is_sub_range trees (other.0).place) integer in
       let row = row_of id other.0 other.1 in
       let root = no_sub_base (other.0).place integer in
-      let none = base_there trees names id found.place found.there ∙ no_sub_base found.place found.integer in
-      ((table_row trees names id other.0, row, subst (IsIntBy (HoldsCheck (check_at trees q))) (sym (number_kind trees names id (other.0).place number)) (found.numbers none)),
-      ap base_in row ∙ ap number_of_id root)
+      let none = base_there trees names id found.place found.there ∙ no_sub_base found.place found.integer in (
+        (table_row trees names id other.0, row, subst (IsIntBy (HoldsCheck (check_at trees q))) (sym (number_kind trees names id (other.0).place number)) (found.numbers none)),
+        ap base_in row ∙ ap number_of_id root,
+      )
 
   check_keeps : (id : ℕ) (d : Declared) → slice_get (types names) id ≡ Some d → is_container trees d.place ≡ true → (k : ℕ) (q : Place) → slice_get (entries_at trees d.place) k ≡ Some q → sort_at trees q ≡ Some sorts.ErrorControl
       → EntryKeeps (table_rows trees names) rank (record { container = id; place = k; part = check_part trees names q })

@@ -114,11 +114,7 @@ fn is_held(alloc: Global, sheet: &NamedTrees, at: Place) -> Result<bool, Memory>
 {
     let id = entry_id(alloc, sheet, at)?;
     let found = sheet.types.get(id.0 as usize).copied();
-    Ok(holds_check_at(
-        sheet.trees,
-        check_at(sheet.trees, at),
-        found,
-    ))
+    Ok(holds_check_at(sheet.trees, check_at(sheet.trees, at), found))
 }
 
 /// The type of an error control holds its check.

@@ -14,8 +14,8 @@ use crate::breaks::{PlaceRule, TypeRule, least_over, least_over_types};
 use crate::duplicate_entry::DuplicateEntry;
 use crate::empty_range::{EmptyRange, EmptySubRange};
 use crate::empty_type::{EmptyItem, EmptyPart, EmptyWord};
-use crate::face_rules::{AtFaces, OpenInFace, UnresolvedInFace, WrongKindInFace};
 use crate::error_control::ErrorControl;
+use crate::face_rules::{AtFaces, OpenInFace, UnresolvedInFace, WrongKindInFace};
 use crate::length_field::{LengthField, LengthScale, SecondLength};
 use crate::limit_chain::LimitChain;
 use crate::limit_nesting::LimitNesting;
@@ -164,8 +164,10 @@ type Scalars = And<
 
 type EmptyType = And<AtRows<AtParts<EmptyPart>>, And<AtRows<EmptyItem>, EmptyWord>>;
 
-type Lengths =
-    And<AtRows<AtParts<LengthField>>, And<AtTypes<AtPartElements<LengthScale>>, AtRows<SecondLength>>>;
+type Lengths = And<
+    AtRows<AtParts<LengthField>>,
+    And<AtTypes<AtPartElements<LengthScale>>, AtRows<SecondLength>>,
+>;
 
 type Checks = AtTypes<AtPartElements<ErrorControl>>;
 
