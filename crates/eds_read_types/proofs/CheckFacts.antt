@@ -1,6 +1,6 @@
 -- The types of error controls.
 use Rattle.std.proofs.Common.{◌≡◌, ℕ, ◌==◌, ◌&&◌, not, Bool, true, false, List, slice_get, is_some, Option, Some, None, refl, sym, ap, subst, ◌∙◌}
-use Rattle.std.specs.Prelude.{codes, ℤ}
+use Rattle.std.specs.Prelude.{codes}
 use Rattle.std.proofs.lemmas.Bool.{and_parts, eqb-true}
 use Rattle.eds_base.specs.declared.ids.Place.{Place}
 use Rattle.eds_base.specs.declared.ids.TypeId.{TypeId}
@@ -16,7 +16,6 @@ use Rattle.eds_read_types.specs.Held.{child_named}
 use Rattle.eds_read_types.specs.Places.{is_element}
 use Rattle.eds_read_types.specs.Forms.{int_form_of}
 use Rattle.eds_read_types.specs.Ranges.{no_range, range_held, range_of}
-use Rattle.eds_read_types.specs.Domains.{domain_of}
 use Rattle.eds_read_types.specs.Bases.{base_at}
 use Rattle.eds_read_types.specs.Numbers.{form_or_wide, numbers_with, own_numbers, own_numbers_in, own_numbers_at, numbers_of}
 use Rattle.eds_read_types.specs.ScalarKinds.{is_integer}

@@ -1,5 +1,5 @@
 -- Open binaries that end their containers.
-use Rattle.std.proofs.Common.{◌≡◌, ℕ, zero, suc, ◌+◌, ◌==◌, ◌&&◌, ◌||◌, not, Bool, true, false, List, [], ◌∷◌, ◌++◌, length, reverse, slice_get, is_some, Option, Some, None, refl, sym, ap, subst, ◌∙◌, ◌⊎◌, inl, inr, arith}
+use Rattle.std.proofs.Common.{◌≡◌, ℕ, zero, suc, ◌+◌, ◌==◌, ◌&&◌, ◌||◌, not, Bool, true, false, List, [], ◌∷◌, ◌++◌, length, reverse, slice_get, is_some, Option, Some, None, refl, ap, ◌∙◌, ◌⊎◌, inl, inr, arith}
 use Rattle.std.specs.Prelude.{IsSome, IsTrue, nat_lt}
 use Rattle.std.specs.List.{AllByRecursion, flat_map, list_any}
 use Rattle.std.proofs.lemmas.Bool.{and_parts, eqb-true, eq-eqb}
@@ -7,8 +7,7 @@ use Rattle.eds_bits.specs.Lists.{Has, HasOne}
 use Rattle.eds_types.specs.declared.row.TypeRow.{TypeRow}
 use Rattle.eds_types.specs.declared.row.Part.{Part}
 use Rattle.eds_types.specs.Rows.{Table, base_in, base_of, number_of_id, entries_of, trailers_of, chain, chain_before, chain_within, Placed, placed_from, placed_entries, placed_trailers}
-use Rattle.eds_types.specs.Sizes.{part_size, trailers_along}
-use Rattle.eds_types.specs.Fields.{IsAtOrUnder}
+use Rattle.eds_types.specs.Sizes.{part_size}
 use Rattle.eds_types.specs.Rules.{is_length, TailKeeps}
 use Rattle.eds_types.proofs.AllOf.{All-flat, All-reverse}
 use Rattle.eds_read_types.specs.LengthField.{is_number, has_derived, is_last, tells_length, lacks_size, is_tail}
