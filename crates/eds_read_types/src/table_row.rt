@@ -81,12 +81,7 @@ fn seats_for(
 }
 
 /// Some parts of a container, which may name other parts of its sequence.
-fn parts_of(
-    alloc: Global,
-    graph: &BaseGraph,
-    id: usize,
-    places: &[Place],
-) -> Result<Parts, Memory>
+fn parts_of(alloc: Global, graph: &BaseGraph, id: usize, places: &[Place]) -> Result<Parts, Memory>
     ensures { IfOk result (λ p. p ≡ map (part_in graph.now.sheet.now.trees.now graph.now.sheet.now.space.now id) places.now) }
 {
     let seats = seats_for(alloc, graph, id, places)?;
@@ -95,12 +90,7 @@ fn parts_of(
 }
 
 /// The container at a place, of which the number among all types is given, without its constraints.
-fn container_at(
-    alloc: Global,
-    graph: &BaseGraph,
-    id: usize,
-    at: Place,
-) -> Result<Container, Memory>
+fn container_at(alloc: Global, graph: &BaseGraph, id: usize, at: Place) -> Result<Container, Memory>
     ensures { IfOk result (λ c. c ≡ container_by graph.now.sheet.now.trees.now graph.now.sheet.now.space.now id at) }
 {
     let trees = graph.sheet.trees;
