@@ -3,6 +3,7 @@ use Rattle.std.proofs.Common.{◌≡◌, ℕ, ◌+◌, ◌≤◌, ◌^◌, ◌&&
 use Rattle.std.specs.Prelude.{codes, if◌then◌else◌, ℤ, pos, negsuc, int_le, ◌≤ℤ◌, nat_abs}
 use Rattle.std.specs.List.{flat_map}
 use Rattle.std.proofs.lemmas.Bool.{and_parts}
+use Rattle.std.proofs.lemmas.Slice.Eq.{bytes_eq-Decides}
 use Rattle.std.proofs.lemmas.Int.{ints}
 use Rattle.std.proofs.lemmas.Grind.{flat_map-append}
 use Rattle.std.proofs.lemmas.List.{length-append}
@@ -21,13 +22,14 @@ use Rattle.eds_types.specs.Rows.{Table}
 use Rattle.eds_types.specs.Rules.{IsInt, IsIntBy, IsScale, is_length}
 use Rattle.eds_read_types.specs.declared.part_sort.PartSort.{PartSort}
 use Rattle.eds_read_types.specs.declared.part_sort.PartSort.TheVariants as sort
+use Rattle.eds_read_types.specs.declared.seat.Seat.{Seat}
 use Rattle.eds_read_types.specs.PartSorts.{part_sort_of}
 use Rattle.eds_read_types.specs.Places.{element, is_element, children}
-use Rattle.eds_read_types.specs.Entries.{sort_at, parts_held, is_part_list, entries_at, parts_at}
+use Rattle.eds_read_types.specs.Entries.{sort_at, parts_held, is_part_list, entries_at, trailers_at, own_parts_at, parts_at}
 use Rattle.eds_read_types.specs.References.{broken}
 use Rattle.eds_read_types.specs.Calibrators.{c0_at, c1_at, is_scale, c0_or_plain, c1_or_plain}
 use Rattle.eds_read_types.specs.PartRows.{part_by, part_at}
-use Rattle.eds_read_types.specs.LengthField.{is_int_by, is_int_in, is_int, lengths_at, further}
+use Rattle.eds_read_types.specs.LengthField.{is_int_by, is_int_in, is_int, lengths_at}
 use Rattle.eds_read_types.proofs.NoBreaks.{append-none}
 
 -- ---- sorts of parts
@@ -107,45 +109,76 @@ int_is t id h = go (slice_get t id) refl h
     go None e k = absurd cc
     go (Some row) e k = (row, e, int_by row.kind k)
 
--- ---- one of two lists
+-- ---- two lists
 
--- what is found in lists of one kind is found in those of one kind or another
-module _ {A B : Type 0} (p q : A → Bool) (f : A → List B) where
-  pub none_of_one : (xs : List A) → flat_map f (filter (λ x. p x || q x) xs) ≡ [] → flat_map f (filter p xs) ≡ []
-  none_of_one [] h = refl
-  none_of_one (x ∷ xs) h = go (p x) refl (q x) refl (none_of_one xs)
+-- what is found at none of some items is found at none of fewer
+pub none_of_fewer : {A B : Type 0} (r w : A → Bool) → ((x : A) → r x ≡ true → w x ≡ true) → (f : A → List B) (xs : List A) → flat_map f (filter w xs) ≡ [] → flat_map f (filter r xs) ≡ []
+none_of_fewer r w within f [] h = refl
+none_of_fewer r w within f (x ∷ xs) h = go (r x) refl (w x) refl (none_of_fewer r w within f xs)
+  where
+    no : (b : Bool) → b ≡ true → b ≡ false → ⊥
+    no b e g = cc
+
+    go : (a : Bool) → r x ≡ a → (b : Bool) → w x ≡ b → (flat_map f (filter w xs) ≡ [] → flat_map f (filter r xs) ≡ []) → flat_map f (filter r (x ∷ xs)) ≡ []
+    go true e true g later = let here = append-none (f x) (flat_map f (filter w xs)) (rw (g) at h) in rw (e, here.0) (later here.1)
+    go true e false g later = absurd (no (w x) (within x e) g)
+    go false e true g later = rw e (later ((append-none (f x) (flat_map f (filter w xs)) (rw (g) at h)).1))
+    go false e false g later = rw e (later (rw (g) at h))
+
+-- lists of one kind and lists of another have no more together than those of both in turn
+module _ {A B : Type 0} (p q : A → Bool) (one_kind : (x : A) → p x ≡ true → q x ≡ false) (f : A → List B) (r : B → Bool) where
+  joined : (x : A) (ys : List B) → length (filter r (f x ++ ys)) ≡ length (filter r (f x)) + length (filter r ys)
+  joined x ys = ap length (filter-append r (f x) ys) ∙ length-append (filter r (f x)) (filter r ys)
+
+  pub both_kinds : (xs : List A) → length (filter r (flat_map f (filter p xs))) + length (filter r (flat_map f (filter q xs))) ≤ length (filter r (flat_map f (filter (λ x. p x || q x) xs)))
+  both_kinds [] = lit≤ tt
+  both_kinds (x ∷ xs) = go (p x) refl (q x) refl (both_kinds xs)
     where
-      go : (a : Bool) → p x ≡ a → (b : Bool) → q x ≡ b → (flat_map f (filter (λ x. p x || q x) xs) ≡ [] → flat_map f (filter p xs) ≡ []) → flat_map f (filter p (x ∷ xs)) ≡ []
-      go true e b g later = let here = append-none (f x) (flat_map f (filter (λ x. p x || q x) xs)) (rw (e) at h) in rw (e, here.0) (later here.1)
-      go false e true g later = rw e (later ((append-none (f x) (flat_map f (filter (λ x. p x || q x) xs)) (rw (e, g) at h)).1))
-      go false e false g later = rw e (later (rw (e, g) at h))
+      no : (b : Bool) → b ≡ true → b ≡ false → ⊥
+      no b e g = cc
 
-  pub fewer_of_one : (r : B → Bool) (xs : List A) → length (filter r (flat_map f (filter p xs))) ≤ length (filter r (flat_map f (filter (λ x. p x || q x) xs)))
-  fewer_of_one r [] = lit≤ tt
-  fewer_of_one r (x ∷ xs) = go (p x) refl (q x) refl (fewer_of_one r xs)
-    where
-      joined : (ys : List B) → length (filter r (f x ++ ys)) ≡ length (filter r (f x)) + length (filter r ys)
-      joined ys = ap length (filter-append r (f x) ys) ∙ length-append (filter r (f x)) (filter r ys)
-
-      go : (a : Bool) → p x ≡ a → (b : Bool) → q x ≡ b → length (filter r (flat_map f (filter p xs))) ≤ length (filter r (flat_map f (filter (λ x. p x || q x) xs))) → length (filter r (flat_map f (filter p (x ∷ xs)))) ≤ length (filter r (flat_map f (filter (λ x. p x || q x) (x ∷ xs))))
-      go true e b g later = let one = joined (flat_map f (filter p xs)) in let all = joined (flat_map f (filter (λ x. p x || q x) xs)) in rw e (omega (arith, one, all, later))
-      go false e true g later = let all = joined (flat_map f (filter (λ x. p x || q x) xs)) in rw (e, g) (omega (arith, all, later))
+      go : (a : Bool) → p x ≡ a → (b : Bool) → q x ≡ b
+          → length (filter r (flat_map f (filter p xs))) + length (filter r (flat_map f (filter q xs))) ≤ length (filter r (flat_map f (filter (λ x. p x || q x) xs)))
+          → length (filter r (flat_map f (filter p (x ∷ xs)))) + length (filter r (flat_map f (filter q (x ∷ xs)))) ≤ length (filter r (flat_map f (filter (λ x. p x || q x) (x ∷ xs))))
+      go true e true g later = absurd (no (q x) g (one_kind x e))
+      go true e false g later = let one = joined x (flat_map f (filter p xs)) in let all = joined x (flat_map f (filter (λ x. p x || q x) xs)) in rw (e, g) (omega (arith, one, all, later))
+      go false e true g later = let one = joined x (flat_map f (filter q xs)) in let all = joined x (flat_map f (filter (λ x. p x || q x) xs)) in rw (e, g) (omega (arith, one, all, later))
       go false e false g later = rw (e, g) later
+
+module _ (trees : List (List Node)) where
+  -- no list is of both kinds
+  one_kind : (at : Place) → is_element trees (codes "EntryList") at ≡ true → is_element trees (codes "TrailerEntryList") at ≡ false
+  one_kind at e = ap (λ name. same name (codes "TrailerEntryList")) ((bytes_eq-Decides (node_name (element trees at)) (codes "EntryList")).0 e)
+
+  is_first : (a b : Bool) → a ≡ true → (a || b) ≡ true
+  is_first true b e = refl
+  is_first false b e = absurd cc
+
+  is_second : (a b : Bool) → b ≡ true → (a || b) ≡ true
+  is_second true b e = refl
+  is_second false b e = e
+
+  over : (f : Place → List Refusal) (lists : List Place) → flat_map f (flat_map (parts_held trees) lists) ≡ flat_map (λ l. flat_map f (parts_held trees l)) lists
+  over f [] = refl
+  over f (l ∷ lists) = flat_map-append f (parts_held trees l) (flat_map (parts_held trees) lists) ∙ ap (λ rs. flat_map f (parts_held trees l) ++ rs) (over f lists)
+
+  of_lists : (f : Place → List Refusal) (r : Place → Bool) → ((l : Place) → r l ≡ true → is_part_list trees l ≡ true) → (xs : List Place) → flat_map f (flat_map (parts_held trees) (filter (is_part_list trees) xs)) ≡ [] → flat_map f (flat_map (parts_held trees) (filter r xs)) ≡ []
+  of_lists f r within xs h = over f (filter r xs) ∙ none_of_fewer r (is_part_list trees) within (λ l. flat_map f (parts_held trees l)) xs (sym (over f (filter (is_part_list trees) xs)) ∙ h)
+
+  -- what breaks a rule at no part of a container in document order breaks it at none of its entries and trailers
+  pub own_none : (f : Place → List Refusal) (at : Place) → flat_map f (parts_at trees at) ≡ [] → flat_map f (own_parts_at trees at) ≡ []
+  own_none f at h =
+      let entries = of_lists f (is_element trees (codes "EntryList")) (λ l e. is_first (is_element trees (codes "EntryList") l) (is_element trees (codes "TrailerEntryList") l) e) (children trees at) h in
+      let trailers = of_lists f (is_element trees (codes "TrailerEntryList")) (λ l e. is_second (is_element trees (codes "EntryList") l) (is_element trees (codes "TrailerEntryList") l) e) (children trees at) h in
+      flat_map-append f (entries_at trees at) (trailers_at trees at) ∙ (ap (λ xs. xs ++ flat_map f (trailers_at trees at)) entries ∙ trailers)
 
 -- ---- one length entry at most
 
-further_none : (above : Bool) (ats : List Place) → map (broken LengthField) (further above ats) ≡ [] → length ats ≤ 1
-further_none true [] h = lit≤ tt
-further_none true (at ∷ ats) h = absurd cc
-further_none false [] h = lit≤ tt
-further_none false (at ∷ []) h = lit≤ tt
-further_none false (at ∷ b ∷ ats) h = absurd cc
-
-module _ (trees : List (List Node)) (names : Names) (container : ℕ) (parts : List Place) where
-  is_length_of : (q : Place) → is_length (part_at trees names container parts q) ≡ true → is_element trees (codes "LengthEntry") q ≡ true
+module _ (trees : List (List Node)) (names : Names) (container : ℕ) (seats : List Seat) where
+  is_length_of : (q : Place) → is_length (part_at trees names container seats q) ≡ true → is_element trees (codes "LengthEntry") q ≡ true
   is_length_of q h = go (sort_at trees q) refl h
     where
-      go : (s : Option PartSort) → sort_at trees q ≡ s → is_length (part_by s trees names container parts q) ≡ true → is_element trees (codes "LengthEntry") q ≡ true
+      go : (s : Option PartSort) → sort_at trees q ≡ s → is_length (part_by s trees names container seats q) ≡ true → is_element trees (codes "LengthEntry") q ≡ true
       go None e k = absurd cc
       go (Some sort.Entry) e k = absurd cc
       go (Some sort.FixedValue) e k = absurd cc
@@ -154,38 +187,25 @@ module _ (trees : List (List Node)) (names : Names) (container : ℕ) (parts : L
       go (Some sort.Length) e k = part_sort_named (node_name (element trees q)) sort.Length e
       go (Some sort.ErrorControl) e k = absurd cc
 
-  mapped_fewer : (ats : List Place) → length (filter is_length (map (part_at trees names container parts) ats)) ≤ length (filter (is_element trees (codes "LengthEntry")) ats)
+  mapped_fewer : (ats : List Place) → length (filter is_length (map (part_at trees names container seats) ats)) ≤ length (filter (is_element trees (codes "LengthEntry")) ats)
   mapped_fewer [] = lit≤ tt
-  mapped_fewer (q ∷ ats) = go (is_length (part_at trees names container parts q)) refl (is_element trees (codes "LengthEntry") q) refl (mapped_fewer ats)
+  mapped_fewer (q ∷ ats) = go (is_length (part_at trees names container seats q)) refl (is_element trees (codes "LengthEntry") q) refl (mapped_fewer ats)
     where
       no : (b : Bool) → b ≡ true → b ≡ false → ⊥
       no b e f = cc
 
-      go : (a : Bool) → is_length (part_at trees names container parts q) ≡ a → (b : Bool) → is_element trees (codes "LengthEntry") q ≡ b
-          → length (filter is_length (map (part_at trees names container parts) ats)) ≤ length (filter (is_element trees (codes "LengthEntry")) ats)
-          → length (filter is_length (map (part_at trees names container parts) (q ∷ ats))) ≤ length (filter (is_element trees (codes "LengthEntry")) (q ∷ ats))
+      go : (a : Bool) → is_length (part_at trees names container seats q) ≡ a → (b : Bool) → is_element trees (codes "LengthEntry") q ≡ b
+          → length (filter is_length (map (part_at trees names container seats) ats)) ≤ length (filter (is_element trees (codes "LengthEntry")) ats)
+          → length (filter is_length (map (part_at trees names container seats) (q ∷ ats))) ≤ length (filter (is_element trees (codes "LengthEntry")) (q ∷ ats))
       go true e true g later = rw (e, g) (omega (arith, later))
       go true e false g later = absurd (no (is_element trees (codes "LengthEntry") q) (is_length_of q e) g)
       go false e true g later = rw (e, g) (omega (arith, later))
       go false e false g later = rw (e, g) later
 
-  -- the entries of a container hold one length entry at most, where none of its parts is a second one
-  pub one_length : (above : Bool) (at : Place) → map (broken LengthField) (further above (lengths_at trees at)) ≡ [] → length (filter is_length (map (part_at trees names container parts) (entries_at trees at))) ≤ 1
-  one_length above at h =
-      let all = further_none above (lengths_at trees at) h in
-      let own = fewer_of_one (is_element trees (codes "EntryList")) (is_element trees (codes "TrailerEntryList")) (parts_held trees) (is_element trees (codes "LengthEntry")) (children trees at) in
-      let mapped = mapped_fewer (entries_at trees at) in
-      omega (arith, all, own, mapped)
-
--- what breaks a rule at no part of a container breaks it at no entry
-pub entries_none : (f : Place → List Refusal) (trees : List (List Node)) (at : Place) → flat_map f (parts_at trees at) ≡ [] → flat_map f (entries_at trees at) ≡ []
-entries_none f trees at h = go (children trees at) h
-  where
-    over : (lists : List Place) → flat_map f (flat_map (parts_held trees) lists) ≡ flat_map (λ l. flat_map f (parts_held trees l)) lists
-    over [] = refl
-    over (l ∷ lists) = flat_map-append f (parts_held trees l) (flat_map (parts_held trees) lists) ∙ ap (λ rs. flat_map f (parts_held trees l) ++ rs) (over lists)
-
-    go : (xs : List Place) → flat_map f (flat_map (parts_held trees) (filter (is_part_list trees) xs)) ≡ [] → flat_map f (flat_map (parts_held trees) (filter (is_element trees (codes "EntryList")) xs)) ≡ []
-    go xs k =
-        over (filter (is_element trees (codes "EntryList")) xs)
-        ∙ none_of_one (is_element trees (codes "EntryList")) (is_element trees (codes "TrailerEntryList")) (λ l. flat_map f (parts_held trees l)) xs (sym (over (filter (is_part_list trees) xs)) ∙ k)
+  -- the row of a container has no more length entries than its elements
+  pub own_fewer : (at : Place) → length (filter is_length (map (part_at trees names container seats) (own_parts_at trees at))) ≤ length (lengths_at trees at)
+  own_fewer at =
+      let split = ap length (filter-append (is_element trees (codes "LengthEntry")) (entries_at trees at) (trailers_at trees at)) ∙ length-append (filter (is_element trees (codes "LengthEntry")) (entries_at trees at)) (filter (is_element trees (codes "LengthEntry")) (trailers_at trees at)) in
+      let both = both_kinds (is_element trees (codes "EntryList")) (is_element trees (codes "TrailerEntryList")) (one_kind trees) (parts_held trees) (is_element trees (codes "LengthEntry")) (children trees at) in
+      let mapped = mapped_fewer (own_parts_at trees at) in
+      omega (arith, split, both, mapped)

@@ -1,15 +1,16 @@
 -- Open binaries that end their containers.
-use Rattle.std.proofs.Common.{◌≡◌, ℕ, zero, suc, ◌+◌, ◌==◌, ◌&&◌, ◌||◌, not, Bool, true, false, List, [], ◌∷◌, ◌++◌, length, reverse, slice_get, is_some, Option, Some, None, refl, ap, ◌∙◌, ◌⊎◌, inl, inr, arith}
+use Rattle.std.proofs.Common.{◌≡◌, ℕ, zero, suc, ◌+◌, ◌<◌, ◌==◌, ◌&&◌, ◌||◌, not, Bool, true, false, List, [], ◌∷◌, ◌++◌, length, reverse, slice_get, is_some, Option, Some, None, refl, ap, ◌∙◌, ◌⊎◌, inl, inr, arith, leb-true}
 use Rattle.std.specs.Prelude.{IsSome, IsTrue, nat_lt}
 use Rattle.std.specs.List.{AllByRecursion, flat_map, list_any}
 use Rattle.std.proofs.lemmas.Bool.{and_parts, eqb-true, eq-eqb}
 use Rattle.eds_bits.specs.Lists.{Has, HasOne}
 use Rattle.eds_types.specs.declared.row.TypeRow.{TypeRow}
 use Rattle.eds_types.specs.declared.row.Part.{Part}
-use Rattle.eds_types.specs.Rows.{Table, base_in, base_of, number_of_id, entries_of, trailers_of, chain, chain_before, chain_within, Placed, placed_from, placed_entries, placed_trailers}
+use Rattle.eds_types.specs.Rows.{Table, base_in, base_of, number_of_id, container_of, entries_of, trailers_of, chain, chain_before, chain_within, Placed, placed_from, placed_entries, placed_trailers}
 use Rattle.eds_types.specs.Sizes.{part_size}
 use Rattle.eds_types.specs.Rules.{is_length, TailKeeps}
 use Rattle.eds_types.proofs.AllOf.{All-flat, All-reverse}
+use Rattle.eds_read_types.specs.Parts.{parts_in}
 use Rattle.eds_read_types.specs.LengthField.{is_number, has_derived, is_last, tells_length, lacks_size, is_tail}
 use Rattle.eds_read_types.proofs.SequenceFacts.{has-parts}
 
@@ -137,15 +138,21 @@ module _ (t : Table) where
 
 -- ---- a tail
 
--- an entry that may be an open binary keeps the rule on tails
-pub tail_kept : (t : Table) (y k : ℕ) (p : Part) → slice_get (entries_of t y) k ≡ Some p → is_tail t (record { container = y; place = k; part = p }) ≡ true → TailKeeps t (record { container = y; place = k; part = p })
+front_there : {A : Type 0} (xs ys : List A) (k : ℕ) → k < length xs → slice_get (xs ++ ys) k ≡ slice_get xs k
+front_there [] ys k lt = absurd (omega (arith, lt))
+front_there (x ∷ xs) ys zero lt = refl
+front_there (x ∷ xs) ys (suc k) lt = front_there xs ys k (omega (arith, lt))
+
+-- a part that may be an open binary keeps the rule on tails
+pub tail_kept : (t : Table) (y k : ℕ) (p : Part) → slice_get (parts_in (container_of t y)) k ≡ Some p → is_tail t (record { container = y; place = k; part = p }) ≡ true → TailKeeps t (record { container = y; place = k; part = p })
 tail_kept t y k p there h =
     let p0 : Placed = record { container = y; place = k; part = p } in
     let first = and_parts (is_last t p0) (not (has_derived t y) && (list_any (tells_length t) (chain t y) && not (list_any (lacks_size t) (chain t y)))) h in
     let second = and_parts (not (has_derived t y)) (list_any (tells_length t) (chain t y) && not (list_any (lacks_size t) (chain t y))) first.1 in
     let third = and_parts (list_any (tells_length t) (chain t y)) (not (list_any (lacks_size t) (chain t y))) second.1 in
     let ends = and_parts (nat_lt k (length (entries_of t y))) (k + 1 == length (entries_of t y)) first.0 in
-    let last = last_placed y 0 (entries_of t y) k p there (eqb-true (k + 1) (length (entries_of t y)) ends.1) k (omega arith) in
+    let entry = sym (front_there (entries_of t y) (trailers_of t y) k (leb-true (suc k) (length (entries_of t y)) ends.0)) ∙ there in
+    let last = last_placed y 0 (entries_of t y) k p entry (eqb-true (k + 1) (length (entries_of t y)) ends.1) k (omega arith) in
     record {
       before = last.0;
       last = last.1;

@@ -4,7 +4,7 @@ ghost use Rattle.std.specs.Prelude.{◌≡◌, is_some, map, filter, drop, codes
 ghost use Rattle.std.specs.List.{list_any};
 ghost use Rattle.eds_base.specs.declared.rule.Rule.TheVariants.{LengthField as length_rule};
 ghost use Rattle.eds_base.specs.Refusals.{least};
-ghost use Rattle.eds_types.specs.Rows.{number_of_id, base_of as base_of_row, trailers_of as trailers_of_row, chain_within};
+ghost use Rattle.eds_types.specs.Rows.{number_of_id, chain_within};
 ghost use Rattle.eds_types.specs.Sizes.{size_within, kind_size, part_size};
 ghost use Rattle.eds_types.specs.Rules.{is_length as is_length_part};
 ghost use Rattle.eds_read_types.specs.Places.{is_element as is_named};
@@ -17,7 +17,9 @@ use crate::element::is_element;
 use crate::entry::parts_at;
 use crate::named_trees::NamedTrees;
 use crate::scalar_kind::refusal_where;
-use crate::sheet_rows::{PartAt, PartRule, RowRule, SheetRows, is_open, parts_of};
+use crate::sheet_rows::{
+    PartAt, PartRule, RowRule, SheetRows, base_of, entries_of, is_open, trailers_of,
+};
 use eds_base::{Memory, Place, Refusal, Rule, TypeId};
 use eds_tree::Tree;
 use eds_types::{Kind, Part, TypeRows};
@@ -40,29 +42,6 @@ fn is_int(rows: &TypeRows, id: TypeId) -> bool
         Some(row) => match &row.kind {
             Kind::Int(_, _) => true,
             _ => false,
-        },
-    }
-}
-
-/// The base of a type.
-fn base_of(rows: &TypeRows, id: usize) -> Option<TypeId>
-    ensures { number_of_id result ≡ base_of_row rows.now id }
-{
-    match rows.get(id) {
-        None => None,
-        Some(row) => row.base,
-    }
-}
-
-/// The trailers of a type, none where it is no container.
-fn trailers_of(rows: &TypeRows, id: usize) -> &[Part]
-    ensures { result.now ≡ trailers_of_row rows.now id }
-{
-    match rows.get(id) {
-        None => &[],
-        Some(row) => match &row.kind {
-            Kind::Con(container) => container.trailers.as_slice(),
-            _ => &[],
         },
     }
 }
@@ -123,7 +102,7 @@ fn has_derived(rows: &TypeRows, id: usize) -> bool
 fn tells_length(rows: &TypeRows, id: usize) -> bool
     ensures { result ≡ tells_length_row rows.now id }
 {
-    holds_length(parts_of(rows, id))
+    holds_length(entries_of(rows, id))
 }
 
 /// Whether one stands among those of a chain, of at most so many types.
@@ -221,7 +200,7 @@ fn is_unsized(rows: &TypeRows, most: u32, id: usize) -> bool
 fn is_last(at: &PartAt) -> bool
     ensures { result ≡ is_last_of at.now.rows.now (record { container = at.now.container; place = at.now.index; part = at.now.part.now }) }
 {
-    let entries = parts_of(at.rows, at.container).len();
+    let entries = entries_of(at.rows, at.container).len();
     at.index < entries && at.index + 1 == entries
 }
 
@@ -314,7 +293,7 @@ fn lengths_at(alloc: Global, trees: &[Tree], at: Place) -> Result<Vec<Place>, Me
 fn has_length(rows: &TypeRows, id: usize) -> bool
     ensures { result ≡ has_length_row rows.now id }
 {
-    holds_length(parts_of(rows, id)) || holds_length(trailers_of(rows, id))
+    holds_length(entries_of(rows, id)) || holds_length(trailers_of(rows, id))
 }
 
 /// Whether one stands in a chain, of at most so many types.

@@ -18,6 +18,7 @@ use crate::error_control::ErrorControl;
 use crate::face_rules::{AtFaces, OpenInFace, UnresolvedInFace, WrongKindInFace};
 use crate::length_field::{LengthField, LengthScale, SecondLength};
 use crate::limit_chain::LimitChain;
+use crate::limit_family::LimitFamily;
 use crate::limit_nesting::LimitNesting;
 use crate::part_element::AtPartElements;
 use crate::reference::{ReferenceRule, least_over_references};
@@ -154,7 +155,10 @@ type References = And<
 
 type Bases = And<
     AtNumbers<BaseCycle>,
-    And<AtNumbers<LimitChain>, And<AtRows<TypeCycle>, And<AtRows<LimitNesting>, NoRule>>>,
+    And<
+        AtNumbers<LimitChain>,
+        And<AtRows<TypeCycle>, And<AtRows<LimitFamily>, And<AtRows<LimitNesting>, NoRule>>>,
+    >,
 >;
 
 type Scalars = And<
@@ -174,7 +178,7 @@ type Checks = AtTypes<AtPartElements<ErrorControl>>;
 type Containers = And<
     EmptyType,
     And<
-        AtTypes<DuplicateEntry>,
+        AtRows<DuplicateEntry>,
         And<
             AtRows<AtParts<ListField>>,
             And<Lengths, And<Checks, And<AtFaces<OpenInFace>, NoRule>>>,

@@ -20,7 +20,7 @@ use Rattle.eds_tree.specs.ShapeCheck.{unless_broken}
 abbrev pub pending_names : List (List ℕ)
 pending_names = map codes (
     "ArrayDataType"
-    ∷ "FixedValueEntry" ∷ "PaddingEntry"
+    ∷ "FixedValueEntry"
     ∷ "ConstraintSet" ∷ "TrailerEntryList" ∷ "ComponentSet" ∷ "StateMachineSet" ∷ [])
 
 -- the element is one of these
