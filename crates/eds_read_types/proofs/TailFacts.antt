@@ -1,5 +1,5 @@
 -- Open binaries that end their containers.
-use Rattle.std.proofs.Common.{◌≡◌, ℕ, zero, suc, ◌+◌, ◌<◌, ◌==◌, ◌&&◌, ◌||◌, not, Bool, true, false, List, [], ◌∷◌, ◌++◌, length, reverse, slice_get, is_some, Option, Some, None, refl, ap, ◌∙◌, ◌⊎◌, inl, inr, arith, leb-true}
+use Rattle.std.proofs.Common.{◌≡◌, ℕ, zero, suc, ◌+◌, ◌<◌, ◌==◌, ◌&&◌, ◌||◌, not, Bool, true, false, List, [], ◌∷◌, ◌++◌, length, reverse, slice_get, is_some, Option, Some, None, refl, sym, ap, ◌∙◌, ◌⊎◌, inl, inr, arith, leb-true}
 use Rattle.std.specs.Prelude.{IsSome, IsTrue, nat_lt}
 use Rattle.std.specs.List.{AllByRecursion, flat_map, list_any}
 use Rattle.std.proofs.lemmas.Bool.{and_parts, eqb-true, eq-eqb}
