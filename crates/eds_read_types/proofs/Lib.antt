@@ -8,6 +8,7 @@ pub mod NoBreaks
 mod BaseSteps
 mod NumberSteps
 mod RowSteps
+mod ItemFacts
 pub mod SheetPlaces
 pub mod LevelFacts
 pub mod NestingFacts

@@ -25,6 +25,7 @@ pub mod DuplicateEntry
 pub mod Calibrators
 pub mod Unbroken
 pub mod Numbers
+pub mod Items
 pub mod ListFields
 pub mod PartRows
 pub mod TableRows
@@ -33,6 +34,7 @@ pub mod Parts
 pub mod Nesting
 pub mod TypeCycle
 pub mod LimitNesting
+pub mod LimitItems
 pub mod EmptyType
 pub mod ListField
 pub mod LengthField
