@@ -17,6 +17,7 @@ use crate::empty_type::{EmptyItem, EmptyPart, EmptyWord};
 use crate::face_rules::{AtFaces, OpenInFace, UnresolvedInFace, WrongKindInFace};
 use crate::length_field::LengthField;
 use crate::limit_chain::LimitChain;
+use crate::limit_family::LimitFamily;
 use crate::limit_items::LimitItems;
 use crate::limit_nesting::LimitNesting;
 use crate::reference::{ReferenceRule, least_over_references};
@@ -155,7 +156,10 @@ type Bases = And<
     AtNumbers<BaseCycle>,
     And<
         AtNumbers<LimitChain>,
-        And<AtRows<TypeCycle>, And<AtRows<LimitNesting>, And<AtRows<LimitItems>, NoRule>>>,
+        And<
+            AtRows<TypeCycle>,
+            And<AtRows<LimitFamily>, And<AtRows<LimitNesting>, And<AtRows<LimitItems>, NoRule>>>,
+        >,
     >,
 >;
 
@@ -169,7 +173,7 @@ type EmptyType = And<AtRows<AtParts<EmptyPart>>, And<AtRows<EmptyItem>, EmptyWor
 type Containers = And<
     EmptyType,
     And<
-        AtTypes<DuplicateEntry>,
+        AtRows<DuplicateEntry>,
         And<
             AtRows<AtParts<ListField>>,
             And<AtRows<AtParts<LengthField>>, And<AtFaces<OpenInFace>, NoRule>>,
