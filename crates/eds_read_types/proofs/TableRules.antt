@@ -174,22 +174,6 @@ number_kind trees names id at h =
     let array : is_array trees at ≡ false = number_apart (node_name (element trees at)) (codes "ArrayDataType") refl refl h in
     rw container (rw array (in_tree_number (slice_get trees at.file) at.node (numbers_of trees (type_places names) (bases_of trees names) id) h))
 
--- whatever is no container has no parts
-pub scalar_by : (o : Option (List Node)) (n : ℕ) (numbers : FormAndDomain) → container_by (scalar_kind_in o n numbers) ≡ None
-scalar_by None n numbers = refl
-scalar_by (Some t) n numbers = go (sort_of (name_at t n))
-  where
-    go : (s : Option Sort) → container_by (scalar_kind_by s t n numbers) ≡ None
-    go None = refl
-    go (Some sort.Integer) = refl
-    go (Some sort.Enumerated) = refl
-    go (Some sort.Boolean) = refl
-    go (Some sort.Text) = refl
-    go (Some sort.Binary) = refl
-    go (Some sort.Array) = refl
-    go (Some sort.SubRange) = refl
-    go (Some sort.Container) = refl
-
 -- ---- bases
 
 -- the base of a sub-range

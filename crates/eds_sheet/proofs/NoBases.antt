@@ -19,9 +19,8 @@ use Rattle.eds_types.specs.declared.row.TypeRow.{TypeRow}
 use Rattle.eds_types.specs.Rows.{base_in, base_of, container_by, container_in, number_of_id}
 use Rattle.eds_overlap.specs.Underived.{HasNoBases}
 use Rattle.eds_read_types.specs.Places.{is_container, attribute, elements, types, type_places}
-use Rattle.eds_read_types.specs.Bases.{base_found, bases_of}
+use Rattle.eds_read_types.specs.Bases.{base_found}
 use Rattle.eds_read_types.specs.ReadTypes.{id_found}
-use Rattle.eds_read_types.specs.Numbers.{numbers_of}
 use Rattle.eds_read_types.specs.TableRows.{kind_of, table_rows}
 use Rattle.eds_read_types.proofs.NoBreaks.{least-none}
 use Rattle.eds_read_types.proofs.SheetPlaces.{at_elements, at_one, of_types}
