@@ -92,6 +92,12 @@ few-times-right a b = sym (few-times a (few b)) ∙ (ap (λ x. few (few a * x)) 
 
 -- ---- sums
 
+pub none-before : (a b : ℕ) → a ≡ b → few (0 + a) ≡ few b
+none-before a b e = ap few (behind a b e)
+  where
+    behind : (a b : ℕ) → a ≡ b → 0 + a ≡ b
+    behind a b e = omega (arith, e)
+
 -- one interval more
 pub sum-next : (next before size rest : ℕ) → next ≡ few (before + few size) → few (next + rest) ≡ few (before + (size + rest))
 sum-next next before size rest e =
@@ -258,6 +264,10 @@ one-longer xs new x i p len = ap length p ∙ (length-append xs (x ∷ []) ∙ a
 pub row_some : (o : Option ℕ) → 1 ≤ row_items o
 row_some None = lit≤ tt
 row_some (Some n) = le-max_left 1 (few n)
+
+pub row_few : (o : Option ℕ) → row_items (option_map few o) ≡ row_items o
+row_few None = refl
+row_few (Some n) = ap (max 1) (few-few n)
 
 -- ---- numbers over all bases
 

@@ -577,11 +577,11 @@ module _ (trees : List (List Node)) (names : Names) (word : Option (List ℕ)) (
       go (Some sort.Container) = tt
 
   scalar_row : (id : ℕ) (d : Declared) → slice_get (types names) id ≡ Some d → is_container trees d.place ≡ false → is_array trees d.place ≡ false → KeepsRow (table_rows trees names) rank id (table_row trees names id d)
-  scalar_row id d there is no =
+  scalar_row id d there is other =
       record {
-        kind_keeps = rw is (rw no (scalar_keeps id d there is));
+        kind_keeps = rw is (rw other (scalar_keeps id d there is));
         derives = λ base e. derives_number id d there base e;
-        plain = rw is (rw no (plain_scalar id (slice_get trees d.place.file) d.place.node (numbers_of trees (type_places names) (bases_of trees names) id)));
+        plain = rw is (rw other (plain_scalar id (slice_get trees d.place.file) d.place.node (numbers_of trees (type_places names) (bases_of trees names) id)));
       }
 
   -- ---- arrays
@@ -602,11 +602,11 @@ module _ (trees : List (List Node)) (names : Names) (word : Option (List ℕ)) (
       let row = array_is id d there is arr in
       let broken = over-none (empty_item_at trees (table_rows trees names)) 0 (type_places names) u.empty_items id d.place place id (omega arith) in
       let bits = unmet (may_be_empty (table_rows trees names) (item_id d).0) _ (sym (ap (λ o. empty_item_by (table_rows trees names) d.place (item_in o)) row) ∙ broken) in
-      let full = has_bits (table_rows trees names) (item_id d).0 bits in
+      let is_closed = closed (open_of (table_rows trees names) (item_id d).0) (has_bits (table_rows trees names) (item_id d).0 bits).1 in
       record {
         nests = nested (table_rows trees names) levels circleless id (record { name = d.name; base = base_found trees names d.place; kind = array_kind trees names d.place }) row (item_id d).0 (item_there id d there) (inl refl);
-        solid = solid (table_rows trees names) (item_id d).0 full.0;
-        closed = closed (open_of (table_rows trees names) (item_id d).0) full.1;
+        solid = (solid_type (item_id d).0 is_closed bits).0;
+        closed = is_closed;
       }
 
   array_keeps : (id : ℕ) (d : Declared) → slice_get (types names) id ≡ Some d → is_container trees d.place ≡ false → is_array trees d.place ≡ true → KindKeeps (array_kind trees names d.place)
