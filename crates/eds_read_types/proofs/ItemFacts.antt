@@ -1,11 +1,11 @@
 -- How many values types have, and how many items arrays have.
 use Rattle.std.proofs.Common.{◌≡◌, ℕ, zero, suc, ◌+◌, ◌-◌, ◌*◌, ◌<◌, ◌≤◌, Bool, true, false, List, [], ◌∷◌, ◌++◌, length, map, take, drop, get_or, slice_get, option_map, Option, Some, None, refl, sym, ap, ap₂, subst, ◌∙◌, arith, inl, inr, ◌⊎◌, add-one, drop-cons, lit≤}
-use Rattle.std.specs.Prelude.{not, IfSome, nat_le, ℤ, if◌then◌else◌, max}
+use Rattle.std.specs.Prelude.{not, IfSome, ℤ, if◌then◌else◌, max}
 use Rattle.std.specs.List.{list_any}
 use Rattle.std.specs.Ordering.{int_eq}
 use Rattle.std.proofs.Math.Nat.{mul-le-mul_left, le-max_left}
 use Rattle.std.proofs.Math.Seq.{take-suc}
-use Rattle.std.proofs.lemmas.Bool.{le-leb, lt-leb, eqb-true}
+use Rattle.std.proofs.lemmas.Bool.{le-leb, lt-leb}
 use Rattle.std.proofs.lemmas.Bool.Decides.{leb_tells, Decides-int_eq}
 use Rattle.std.proofs.lemmas.List.{append-nil, append_assoc, length-append}
 use Rattle.eds_base.specs.declared.ids.Place.{Place}
@@ -34,12 +34,12 @@ few-few n = elim (few-cases n) [ inl h ↦ ap few h.1 | inr h ↦ ap few h.1 ∙
 
 few-sum : (a b : ℕ) → few (few a + few b) ≡ few (a + b)
 few-sum a b = elim (few-cases a) [
-    | inl h ↦ elim (few-cases b) [
-        | inl k ↦ ap₂ (λ x y. few (x + y)) h.1 k.1
-        | inr k ↦ let e = k.1 in let m = k.0 in few-high (few a + few b) (omega (arith, e)) ∙ sym (few-high (a + b) (omega (arith, m)))
-      ]
-    | inr h ↦ let e = h.1 in let m = h.0 in few-high (few a + few b) (omega (arith, e)) ∙ sym (few-high (a + b) (omega (arith, m)))
+  | inl h ↦ elim (few-cases b) [
+    | inl k ↦ ap₂ (λ x y. few (x + y)) h.1 k.1
+    | inr k ↦ let e = k.1 in let m = k.0 in few-high (few a + few b) (omega (arith, e)) ∙ sym (few-high (a + b) (omega (arith, m)))
   ]
+  | inr h ↦ let e = h.1 in let m = h.0 in few-high (few a + few b) (omega (arith, e)) ∙ sym (few-high (a + b) (omega (arith, m)))
+]
 
 zero_or : (n : ℕ) → (n ≡ 0) ⊎ (1 ≤ n)
 zero_or zero = inl refl
@@ -57,32 +57,26 @@ none-times b = omega arith
 -- where the second is great
 few-times-high : (a b : ℕ) → 65536 < b → few (few a * few b) ≡ few (a * b)
 few-times-high a b many = elim (zero_or a) [
-    | inl e ↦
+  | inl e ↦
       let left : few a * few b ≡ 0 = ap (λ x. few x * few b) e ∙ none-times (few b) in
       let right : a * b ≡ 0 = ap (λ x. x * b) e ∙ none-times b in
       ap few (left ∙ sym right)
-    | inr some ↦
+  | inr some ↦
       let big = few-high b many in
       few-high (few a * few b) (high-times (few a) (few b) (some_few a some) (omega (arith, big))) ∙ sym (few-high (a * b) (high-times a b some many))
-  ]
+]
   where
     some_few : (n : ℕ) → 1 ≤ n → 1 ≤ few n
     some_few n h = elim (few-cases n) [ inl k ↦ let e = k.1 in omega (arith, e) | inr k ↦ let e = k.1 in omega (arith, e) ]
 
 few-times : (a b : ℕ) → few (few a * few b) ≡ few (a * b)
 few-times a b = elim (few-cases b) [
-    | inl k ↦ elim (few-cases a) [
-        | inl h ↦ ap₂ (λ x y. few (x * y)) h.1 k.1
-        | inr h ↦ ap few (swapped (few a) (few b)) ∙ (few-times-high b a h.0 ∙ ap few (swapped b a))
-      ]
-    | inr k ↦ few-times-high a b k.0
+  | inl k ↦ elim (few-cases a) [
+    | inl h ↦ ap₂ (λ x y. few (x * y)) h.1 k.1
+    | inr h ↦ ap few (swapped (few a) (few b)) ∙ (few-times-high b a h.0 ∙ ap few (swapped b a))
   ]
-
-pub few-one : few 1 ≡ 1
-few-one = few-low 1 (omega arith)
-
-pub few-bound : (n : ℕ) → few n ≤ 65537
-few-bound n = elim (few-cases n) [ inl h ↦ let e = h.1 in let m = h.0 in omega (arith, e, m) | inr h ↦ let e = h.1 in omega (arith, e) ]
+  | inr k ↦ few-times-high a b k.0
+]
 
 few-left : (a b : ℕ) → few (few a + b) ≡ few (a + b)
 few-left a b = sym (few-sum (few a) b) ∙ (ap (λ x. few (x + few b)) (few-few a) ∙ few-sum a b)
@@ -97,23 +91,6 @@ none-before a b e = ap few (behind a b e)
   where
     behind : (a b : ℕ) → a ≡ b → 0 + a ≡ b
     behind a b e = omega (arith, e)
-
--- one interval more
-pub sum-next : (next before size rest : ℕ) → next ≡ few (before + few size) → few (next + rest) ≡ few (before + (size + rest))
-sum-next next before size rest e =
-    ap (λ x. few (x + rest)) e ∙ (few-left (before + few size) rest ∙ (ap few (moved before (few size) rest) ∙ (few-left size (before + rest) ∙ ap few (back before size rest))))
-  where
-    moved : (a b c : ℕ) → (a + b) + c ≡ b + (a + c)
-    moved a b c = omega arith
-
-    back : (a b c : ℕ) → b + (a + c) ≡ a + (b + c)
-    back a b c = omega arith
-
-pub sum-end : (size total : ℕ) (rest : ℕ) → rest ≡ 0 → few (size + rest) ≡ few total → few size ≡ size → size ≡ few total
-sum-end size total rest e h k = sym k ∙ (ap few (none size rest e) ∙ h)
-  where
-    none : (a b : ℕ) → b ≡ 0 → a ≡ a + b
-    none a b e = omega (arith, e)
 
 -- ---- different numbers
 
@@ -208,14 +185,6 @@ module _ {A : Type 0} (f : A → Option ℕ) (xs : List A) (i : ℕ) (x d : A) (
   here : option_map few (product_with items (f x ∷ map f (drop (i + 1) xs))) ≡ whole
   here = subst (λ ys. option_map few (product_with items ys) ≡ whole) opened inv
 
-  -- a dimension without a size
-  pub items-none : None ≡ option_map few (f x) → None ≡ whole
-  items-none e = go (f x) refl e
-    where
-      go : (o : Option ℕ) → f x ≡ o → None ≡ option_map few o → None ≡ whole
-      go None q h = subst (λ o. option_map few (product_with items (o ∷ map f (drop (i + 1) xs))) ≡ whole) q here
-      go (Some n) q h = absurd cc
-
   -- one dimension more
   pub items-next : (size next : ℕ) → Some size ≡ option_map few (f x) → next ≡ few (items * size) → option_map few (product_with next (map f (drop (i + 1) xs))) ≡ whole
   items-next size next e m = go (f x) refl e
@@ -247,8 +216,8 @@ pub known-next : (trees : List (List Node)) (places : List Place) (bases : List 
     → IfSome x (λ n. n ≡ option_map few (values_of trees places bases i)) → AreKnown trees places bases known → AreKnown trees places bases new
 known-next trees places bases i x known new len p h old id n e =
     elim (last_or known x (Some n) id (sym (ap (λ ks. slice_get ks id) p) ∙ e)) [
-    | inl g ↦ old id n g
-    | inr g ↦ subst (λ j. n ≡ option_map few (values_of trees places bases j)) (sym (g.0 ∙ len)) (here x h g.1)
+      | inl g ↦ old id n g
+      | inr g ↦ subst (λ j. n ≡ option_map few (values_of trees places bases j)) (sym (g.0 ∙ len)) (here x h g.1)
     ]
   where
     here : (x : Option (Option ℕ)) → IfSome x (λ n. n ≡ option_map few (values_of trees places bases i)) → x ≡ Some n → n ≡ option_map few (values_of trees places bases i)

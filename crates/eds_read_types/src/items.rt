@@ -99,12 +99,7 @@ fn values_in(alloc: Global, tree: &Tree, node: u32, spans: &Spans) -> Result<u32
 }
 
 /// How many values the type at a place has: labels with different numbers, truth values, or these numbers.
-fn values_at(
-    alloc: Global,
-    trees: &[Tree],
-    at: Option<Place>,
-    spans: &Spans,
-) -> Result<u32, Memory>
+fn values_at(alloc: Global, trees: &[Tree], at: Option<Place>, spans: &Spans) -> Result<u32, Memory>
     ensures { IfOk result (λ n. n ≡ few_of (values_by_place trees.now at spans.now)) }
 {
     let at = match at {
@@ -198,12 +193,7 @@ fn values_of(alloc: Global, graph: &BaseGraph, id: usize) -> Result<Option<u32>,
         return Ok(None);
     }
     let numbers = numbers_over_bases(alloc, graph, id)?;
-    let values = values_at(
-        alloc,
-        graph.sheet.trees,
-        type_at(graph, id),
-        &numbers.spans,
-    )?;
+    let values = values_at(alloc, graph.sheet.trees, type_at(graph, id), &numbers.spans)?;
     Ok(Some(values))
 }
 
@@ -215,7 +205,12 @@ fn are_named(alloc: Global, sheet: &NamedTrees) -> Result<Vec<bool>, Memory> {
     }
     for at in sheet.elements {
         if name_at(sheet.trees, *at) == "Dimension" {
-            let index = id_found(alloc, sheet, *at, attribute(sheet.trees, "indexTypeRef", *at))?;
+            let index = id_found(
+                alloc,
+                sheet,
+                *at,
+                attribute(sheet.trees, "indexTypeRef", *at),
+            )?;
             mark(&mut named, index);
         }
     }

@@ -97,7 +97,11 @@ fn own_numbers(alloc: Global, tree: &Tree, node: u32) -> Result<FormAndDomain, M
 }
 
 /// The numbers of the integer type at a place.
-pub(crate) fn own_numbers_at(alloc: Global, trees: &[Tree], at: Option<Place>) -> Result<FormAndDomain, Memory>
+pub(crate) fn own_numbers_at(
+    alloc: Global,
+    trees: &[Tree],
+    at: Option<Place>,
+) -> Result<FormAndDomain, Memory>
     ensures { IfOk result (λ n. n ≡ own_numbers_in trees.now at) }
 {
     let at = match at {

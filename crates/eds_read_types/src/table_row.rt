@@ -188,7 +188,12 @@ fn kind_of(alloc: Global, first: &ValueCounts, id: usize, at: Place) -> Result<K
 }
 
 /// A declared type as a row.
-fn table_row(alloc: Global, first: &ValueCounts, id: usize, one: &Declared) -> Result<TypeRow, Memory>
+fn table_row(
+    alloc: Global,
+    first: &ValueCounts,
+    id: usize,
+    one: &Declared,
+) -> Result<TypeRow, Memory>
     ensures { IfOk result (λ row. row ≡ table_row_of first.now.graph.now.sheet.now.trees.now first.now.graph.now.sheet.now.space.now id one.now) }
 {
     let name = Text::of(alloc, one.name.as_str())?;
