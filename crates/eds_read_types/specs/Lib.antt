@@ -37,6 +37,8 @@ pub mod EmptyType
 pub mod ListField
 pub mod LengthField
 pub mod FaceReferences
+pub mod ComponentReferences
+pub mod InnerReferences
 pub mod FaceRules
 pub mod TableBreaks
 pub mod TableRead

@@ -1,4 +1,4 @@
-//! The rules on the references inside interfaces.
+//! The rules on the references inside interfaces and components.
 
 ghost use Rattle.std.specs.Prelude.{◌≡◌, List, IfOk, is_some, option_map};
 ghost use Rattle.std.specs.List.{flat_map};
@@ -8,21 +8,25 @@ ghost use Rattle.eds_tree.specs.declared.tree.Node.{Node as node};
 ghost use Rattle.eds_names.specs.LookUp.{Names};
 ghost use Rattle.eds_types.specs.Rows.{Table};
 ghost use Rattle.eds_read_types.specs.declared.face_reference.FaceReference.{FaceReference as reference_of};
-ghost use Rattle.eds_read_types.specs.FaceReferences.{at_faces};
-ghost use Rattle.eds_read_types.specs.FaceRules.{suits as suits_sought, unsuited_by, generic_as, open_by};
+ghost use Rattle.eds_read_types.specs.InnerReferences.{at_faces};
+ghost use Rattle.eds_read_types.specs.FaceRules.{is_abstract_at as is_abstract_in, is_for_end as is_for_end_in, suits as suits_sought, unsuited_by, generic_as, open_by};
 
 use crate::breaks::{broken, broken_with};
-use crate::face_reference::{FaceReference, Sought, face_references};
+use crate::element::attribute;
+use crate::face_reference::{FaceReference, Sought};
+use crate::inner_reference::inner_references;
+use crate::named_trees::NamedTrees;
 use crate::reference::id_found;
 use crate::rules::SheetRule;
 use crate::sheet_rows::{SheetRows, is_open};
-use eds_base::{Memory, Refusal, Rule, TypeId};
+use eds_base::{Memory, Place, Refusal, Rule, TypeId};
 use eds_names::Item;
+use eds_tree::{Tree, flag_value};
 use eds_types::TypeRows;
 use std::alloc::Global;
 use std::marker::PhantomData;
 
-/// A rule that is judged at one reference inside an interface at a time.
+/// A rule that is judged at one reference inside an interface or a component at a time.
 pub(crate) trait FaceRule {
     /// All that breaks it there, of which the trees, the names and the rows of all types are given.
     ghost breaks: { List (List node) → Names → Table → reference_of → List refusal };
@@ -51,23 +55,23 @@ fn least_over_faces<R: FaceRule>(
     Ok(found)
 }
 
-/// A rule that is judged at the references inside all interfaces.
+/// A rule that is judged at the references inside all interfaces and components.
 pub(crate) struct AtFaces<R>(PhantomData<R>);
 
 impl<R: FaceRule> SheetRule for AtFaces<R> {
-    ghost use Rattle.eds_read_types.specs.FaceReferences.{at_faces};
+    ghost use Rattle.eds_read_types.specs.InnerReferences.{at_faces};
 
     ghost breaks = { λ trees names word. at_faces R.breaks trees names };
 
     fn least(alloc: Global, sheet: &SheetRows) -> Result<Option<Refusal>, Memory> {
-        let references = face_references(alloc, sheet.graph.sheet)?;
+        let references = inner_references(alloc, sheet.graph.sheet)?;
         least_over_faces::<R>(alloc, sheet, &references)
     }
 }
 
 // ---- a reference finds something
 
-/// A reference inside an interface finds something, unless it is a generic name of the interface itself.
+/// A reference inside an interface or a component finds something, unless it is a generic name of the interface itself.
 pub(crate) struct UnresolvedInFace;
 
 impl FaceRule for UnresolvedInFace {
@@ -98,11 +102,37 @@ impl FaceRule for UnresolvedInFace {
 
 // ---- what it finds is of the wanted kind
 
-fn suits(sought: Sought, found: Item) -> bool
-    ensures { result ≡ suits_sought sought found }
+fn is_abstract_at(trees: &[Tree], at: Option<Place>) -> bool
+    ensures { result ≡ is_abstract_in trees.now at }
+{
+    match at {
+        None => false,
+        Some(at) => match attribute(trees, "abstract", at) {
+            None => false,
+            Some(text) => flag_value(text) == Some(true),
+        },
+    }
+}
+
+fn is_for_end(sheet: &NamedTrees, found: Item) -> bool
+    ensures { result ≡ is_for_end_in sheet.now.trees.now sheet.now.space.now found }
+{
+    match found {
+        Item::Sort(_) => false,
+        Item::Face(id) => {
+            let at = sheet.faces.get(id.0 as usize).copied();
+            !is_abstract_at(sheet.trees, at)
+        }
+        Item::Comp(_) => false,
+    }
+}
+
+fn suits(sheet: &NamedTrees, sought: Sought, found: Item) -> bool
+    ensures { result ≡ suits_sought sheet.now.trees.now sheet.now.space.now sought found }
 {
     match sought {
         Sought::BaseInterface => found.is_face(),
+        Sought::EndInterface => is_for_end(sheet, found),
         Sought::GenericBase => found.is_sort(),
         Sought::MemberType => found.is_sort(),
     }
@@ -110,15 +140,16 @@ fn suits(sought: Sought, found: Item) -> bool
 
 fn judge_item(
     alloc: Global,
+    sheet: &NamedTrees,
     reference: &FaceReference,
     found: Option<Item>,
 ) -> Result<Option<Refusal>, Memory>
-    ensures { IfOk result (λ r. r ≡ least (unsuited_by reference.now found)) }
+    ensures { IfOk result (λ r. r ≡ least (unsuited_by sheet.now.trees.now sheet.now.space.now reference.now found)) }
 {
     match found {
         None => Ok(None),
         Some(item) => {
-            if suits(reference.sought, item) {
+            if suits(sheet, reference.sought, item) {
                 return Ok(None);
             }
             let text = reference.text.as_str();
@@ -135,12 +166,13 @@ fn judge_generic(alloc: Global, reference: &FaceReference) -> Result<Option<Refu
             let text = reference.text.as_str();
             Ok(Some(broken_with(alloc, Rule::WrongKind, reference.place, text)?))
         }
+        Sought::EndInterface => Ok(None),
         Sought::GenericBase => Ok(None),
         Sought::MemberType => Ok(None),
     }
 }
 
-/// What it finds is an interface for a base, and a type elsewhere; a generic name is a type.
+/// What it finds is an interface for a base, one that is not abstract for an end, and a type elsewhere; a generic name is a type.
 pub(crate) struct WrongKindInFace;
 
 impl FaceRule for WrongKindInFace {
@@ -156,9 +188,10 @@ impl FaceRule for WrongKindInFace {
         if reference.own {
             return judge_generic(alloc, reference);
         }
-        let space = sheet.graph.sheet.space;
-        let found = space.look_up(alloc, reference.place, reference.text.as_str())?;
-        judge_item(alloc, reference, found)
+        let named = sheet.graph.sheet;
+        let text = reference.text.as_str();
+        let found = named.space.look_up(alloc, reference.place, text)?;
+        judge_item(alloc, named, reference, found)
     }
 }
 
