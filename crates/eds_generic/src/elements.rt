@@ -1,6 +1,6 @@
 //! The elements of one file, and what their references find.
 
-ghost use Rattle.std.specs.Prelude.{◌≡◌, ◌++◌, [], unwrap_or, IfOk, OnOk};
+ghost use Rattle.std.specs.Prelude.{◌≡◌, ◌++◌, [], codes, unwrap_or, IfOk, OnOk};
 ghost use Rattle.std.specs.List.{flat_map};
 ghost use Rattle.eds_tree.specs.Trees.{attribute_at};
 ghost use Rattle.eds_generic.specs.Reading.{is_yes, held, held_in, own_name as own_name_of, type_of as type_of_item, face_of as face_of_item, type_found as type_found_by, face_found as face_found_by};
@@ -103,7 +103,12 @@ fn face_of(item: Item) -> Option<FaceId>
 }
 
 /// The type that a reference from a place finds.
-pub fn type_found(alloc: Global, space: &Space, at: Place, text: &str) -> Result<Option<TypeId>, Memory>
+pub fn type_found(
+    alloc: Global,
+    space: &Space,
+    at: Place,
+    text: &str,
+) -> Result<Option<TypeId>, Memory>
     ensures { IfOk result (λ id. id ≡ type_found_by space.now at text.now) }
 {
     match space.look_up(alloc, at, text)? {
@@ -113,7 +118,12 @@ pub fn type_found(alloc: Global, space: &Space, at: Place, text: &str) -> Result
 }
 
 /// The interface that a reference from a place finds.
-pub fn face_found(alloc: Global, space: &Space, at: Place, text: &str) -> Result<Option<FaceId>, Memory>
+pub fn face_found(
+    alloc: Global,
+    space: &Space,
+    at: Place,
+    text: &str,
+) -> Result<Option<FaceId>, Memory>
     ensures { IfOk result (λ id. id ≡ face_found_by space.now at text.now) }
 {
     match space.look_up(alloc, at, text)? {

@@ -1,5 +1,5 @@
 -- The interfaces that the ends of all components use, and what they break.
-use Rattle.std.specs.Prelude.{ℕ, List, [], map, Option, Some, None, slice_get, Result}
+use Rattle.std.specs.Prelude.{List, [], map, Option, Some, None, slice_get, Result}
 use Rattle.std.specs.List.{flat_map}
 use Rattle.eds_base.specs.declared.ids.Place.{Place}
 use Rattle.eds_base.specs.declared.refusal.Refusal.{Refusal}
@@ -33,9 +33,9 @@ all_uses trees names = flat_map (uses_at trees names) (component_places names)
 
 -- All that the interfaces of a sheet break: one is its own base; or, where none is, one breaks a rule under the map of an
 -- end, or without own generic names under the empty map.
-abbrev pub use_breaks : List (List Node) → Names → Table → List Refusal
-use_breaks trees names table = breaks_with_uses (faces_of trees names) (bases_of table) (all_uses trees names)
+abbrev pub end_breaks : List (List Node) → Names → Table → List Refusal
+end_breaks trees names table = breaks_with_uses (faces_of trees names) (bases_of table) (all_uses trees names)
 
 -- nothing, unless one of these rules is broken
-abbrev pub use_verdict : List (List Node) → Names → Table → Result (Unit {0}) Refusal
-use_verdict trees names table = unless_broken (least (use_breaks trees names table))
+abbrev pub end_verdict : List (List Node) → Names → Table → Result (Unit {0}) Refusal
+end_verdict trees names table = unless_broken (least (end_breaks trees names table))

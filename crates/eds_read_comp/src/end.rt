@@ -27,12 +27,7 @@ fn is_end_set(tree: &Tree, node: u32) -> bool
     name == "ProvidedInterfaceSet" || name == "RequiredInterfaceSet"
 }
 
-fn push_ends(
-    alloc: Global,
-    ends: &mut Vec<EndElement>,
-    tree: &Tree,
-    set: u32,
-) -> Result<(), Memory>
+fn push_ends(alloc: Global, ends: &mut Vec<EndElement>, tree: &Tree, set: u32) -> Result<(), Memory>
     ensures { OnOk result (ends.new.items ≡ ends.old.items ++ ends_in tree.now set) }
 {
     let required = tree.name_at(set) == "RequiredInterfaceSet";
@@ -61,7 +56,8 @@ pub(crate) fn end_elements(alloc: Global, tree: &Tree, node: u32) -> Result<Vec<
 
 // ---- what an end says
 
-fn type_at(alloc: Global, file: &File, node: u32) -> Result<TypeId, Memory>
+/// The type that the `type` of an element finds.
+pub(crate) fn type_at(alloc: Global, file: &File, node: u32) -> Result<TypeId, Memory>
     ensures { IfOk result (λ id. id ≡ (mapped_in file.now.tree.now file.now.space.now file.now.file node).1) }
 {
     let text = text_of(file.tree, node, "type");
@@ -98,7 +94,13 @@ pub(crate) fn use_at(alloc: Global, file: &File, node: u32) -> Result<FaceUse, M
     ensures { IfOk result (λ u. u ≡ use_in file.now.tree.now file.now.space.now file.now.file node) }
 {
     let face = face_at(alloc, file, node)?;
-    let nodes = held_in_sets(alloc, file.tree, "GenericTypeMapSet", "GenericTypeMap", node)?;
+    let nodes = held_in_sets(
+        alloc,
+        file.tree,
+        "GenericTypeMapSet",
+        "GenericTypeMap",
+        node,
+    )?;
     let map = map_of(alloc, file, nodes.as_slice())?;
     Ok(FaceUse {
         place: place(file.file, node),

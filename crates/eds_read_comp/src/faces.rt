@@ -3,7 +3,7 @@
 ghost use Rattle.std.specs.Prelude.{◌≡◌, ◌++◌, slice_get, IfOk, OnOk};
 ghost use Rattle.std.specs.Option.{option_copied};
 ghost use Rattle.eds_base.specs.Answering.{Answers};
-ghost use Rattle.eds_read_comp.specs.Uses.{component_places as component_places_of, uses_at, all_uses as all_uses_of, use_verdict};
+ghost use Rattle.eds_read_comp.specs.Uses.{component_places as component_places_of, uses_at, all_uses as all_uses_of, end_verdict};
 
 use crate::end::push_uses;
 use crate::file::File;
@@ -69,13 +69,13 @@ fn all_uses(alloc: Global, trees: &[Tree], space: &Space) -> Result<Vec<FaceUse>
 /// Judges the interfaces of a sheet and the ends of its components: no interface is its own base, and each keeps the rules on
 /// generic names and on members, under the map of each end that names it, and without own generic names under the empty map. The
 /// refusal is the first by place and then by number, and one of an interface that is its own base comes before all others.
-pub fn check_uses(
+pub fn check_ends(
     alloc: Global,
     trees: &Trees,
     space: &Space,
     table: &TypeTable,
 ) -> Result<(), Fail<Refusal>>
-    ensures { Answers (λ done. done) result (use_verdict trees.now space.now table.now) }
+    ensures { Answers (λ done. done) result (end_verdict trees.now space.now table.now) }
 {
     let faces = read_faces(alloc, trees.as_slice(), space)?;
     let types = bases_of(alloc, table)?;

@@ -2,7 +2,10 @@
 #![tactic(auto)]
 
 mod end;
+mod end_plan;
 mod faces;
 mod file;
+mod parameter_map;
+mod variable;
 
-pub use faces::check_uses;
+pub use faces::check_ends;

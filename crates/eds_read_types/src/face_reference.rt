@@ -258,7 +258,8 @@ pub(crate) fn push_face_references(
 ) -> Result<(), Memory>
     ensures { OnOk result (references.new.items ≡ references.old.items ++ face_references_of sheet.now.trees.now sheet.now.space.now) }
 {
-    for at in sheet.faces {
+    let places = face_places(alloc, sheet.space)?;
+    for at in places.as_slice() {
         push_references_in(alloc, references, sheet.trees, *at)?;
     }
     Ok(())

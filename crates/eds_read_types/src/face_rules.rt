@@ -9,13 +9,13 @@ ghost use Rattle.eds_names.specs.LookUp.{Names};
 ghost use Rattle.eds_types.specs.Rows.{Table};
 ghost use Rattle.eds_read_types.specs.declared.face_reference.FaceReference.{FaceReference as reference_of};
 ghost use Rattle.eds_read_types.specs.InnerReferences.{at_faces};
+ghost use Rattle.eds_read_types.specs.FaceReferences.{face_places as face_places_of};
 ghost use Rattle.eds_read_types.specs.FaceRules.{is_abstract_at as is_abstract_in, is_for_end as is_for_end_in, suits as suits_sought, unsuited_by, generic_as, open_by};
 
 use crate::breaks::{broken, broken_with};
 use crate::element::attribute;
-use crate::face_reference::{FaceReference, Sought};
+use crate::face_reference::{FaceReference, Sought, face_places};
 use crate::inner_reference::inner_references;
-use crate::named_trees::NamedTrees;
 use crate::reference::id_found;
 use crate::rules::SheetRule;
 use crate::sheet_rows::{SheetRows, is_open};
@@ -26,6 +26,14 @@ use eds_types::TypeRows;
 use std::alloc::Global;
 use std::marker::PhantomData;
 
+/// A sheet with the rows of its types and the elements of its declared interfaces, each at its `FaceId`.
+#[derive(Drop)]
+pub(crate) struct FaceSheet<'a> {
+    types: &'a SheetRows<'a>,
+    faces: &'a [Place],
+    ghost declared: { faces.now ≡ face_places_of types.now.graph.now.sheet.now.space.now },
+}
+
 /// A rule that is judged at one reference inside an interface or a component at a time.
 pub(crate) trait FaceRule {
     /// All that breaks it there, of which the trees, the names and the rows of all types are given.
@@ -34,18 +42,18 @@ pub(crate) trait FaceRule {
     /// The least of them.
     fn least_at(
         alloc: Global,
-        sheet: &SheetRows,
+        sheet: &FaceSheet,
         reference: &FaceReference,
     ) -> Result<Option<Refusal>, Memory>
-        ensures { IfOk result (λ r. r ≡ least (breaks sheet.now.graph.now.sheet.now.trees.now sheet.now.graph.now.sheet.now.space.now sheet.now.rows.now reference.now)) };
+        ensures { IfOk result (λ r. r ≡ least (breaks sheet.now.types.now.graph.now.sheet.now.trees.now sheet.now.types.now.graph.now.sheet.now.space.now sheet.now.types.now.rows.now reference.now)) };
 }
 
 fn least_over_faces<R: FaceRule>(
     alloc: Global,
-    sheet: &SheetRows,
+    sheet: &FaceSheet,
     references: &[FaceReference],
 ) -> Result<Option<Refusal>, Memory>
-    ensures { IfOk result (λ r. r ≡ least (flat_map (R.breaks sheet.now.graph.now.sheet.now.trees.now sheet.now.graph.now.sheet.now.space.now sheet.now.rows.now) references.now)) }
+    ensures { IfOk result (λ r. r ≡ least (flat_map (R.breaks sheet.now.types.now.graph.now.sheet.now.trees.now sheet.now.types.now.graph.now.sheet.now.space.now sheet.now.types.now.rows.now) references.now)) }
 {
     let mut found = None;
     for reference in references {
@@ -65,7 +73,12 @@ impl<R: FaceRule> SheetRule for AtFaces<R> {
 
     fn least(alloc: Global, sheet: &SheetRows) -> Result<Option<Refusal>, Memory> {
         let references = inner_references(alloc, sheet.graph.sheet)?;
-        least_over_faces::<R>(alloc, sheet, &references)
+        let faces = face_places(alloc, sheet.graph.sheet.space)?;
+        let judged = FaceSheet {
+            types: sheet,
+            faces: &faces,
+        };
+        least_over_faces::<R>(alloc, &judged, &references)
     }
 }
 
@@ -81,19 +94,15 @@ impl FaceRule for UnresolvedInFace {
 
     fn least_at(
         alloc: Global,
-        sheet: &SheetRows,
+        sheet: &FaceSheet,
         reference: &FaceReference,
     ) -> Result<Option<Refusal>, Memory> {
         if reference.own {
             return Ok(None);
         }
         let text = reference.text.as_str();
-        match sheet
-            .graph
-            .sheet
-            .space
-            .look_up(alloc, reference.place, text)?
-        {
+        let space = sheet.types.graph.sheet.space;
+        match space.look_up(alloc, reference.place, text)? {
             Some(_) => Ok(None),
             None => Ok(Some(broken_with(alloc, Rule::Unresolved, reference.place, text)?)),
         }
@@ -114,21 +123,21 @@ fn is_abstract_at(trees: &[Tree], at: Option<Place>) -> bool
     }
 }
 
-fn is_for_end(sheet: &NamedTrees, found: Item) -> bool
-    ensures { result ≡ is_for_end_in sheet.now.trees.now sheet.now.space.now found }
+fn is_for_end(sheet: &FaceSheet, found: Item) -> bool
+    ensures { result ≡ is_for_end_in sheet.now.types.now.graph.now.sheet.now.trees.now sheet.now.types.now.graph.now.sheet.now.space.now found }
 {
     match found {
         Item::Sort(_) => false,
         Item::Face(id) => {
             let at = sheet.faces.get(id.0 as usize).copied();
-            !is_abstract_at(sheet.trees, at)
+            !is_abstract_at(sheet.types.graph.sheet.trees, at)
         }
         Item::Comp(_) => false,
     }
 }
 
-fn suits(sheet: &NamedTrees, sought: Sought, found: Item) -> bool
-    ensures { result ≡ suits_sought sheet.now.trees.now sheet.now.space.now sought found }
+fn suits(sheet: &FaceSheet, sought: Sought, found: Item) -> bool
+    ensures { result ≡ suits_sought sheet.now.types.now.graph.now.sheet.now.trees.now sheet.now.types.now.graph.now.sheet.now.space.now sought found }
 {
     match sought {
         Sought::BaseInterface => found.is_face(),
@@ -140,11 +149,11 @@ fn suits(sheet: &NamedTrees, sought: Sought, found: Item) -> bool
 
 fn judge_item(
     alloc: Global,
-    sheet: &NamedTrees,
+    sheet: &FaceSheet,
     reference: &FaceReference,
     found: Option<Item>,
 ) -> Result<Option<Refusal>, Memory>
-    ensures { IfOk result (λ r. r ≡ least (unsuited_by sheet.now.trees.now sheet.now.space.now reference.now found)) }
+    ensures { IfOk result (λ r. r ≡ least (unsuited_by sheet.now.types.now.graph.now.sheet.now.trees.now sheet.now.types.now.graph.now.sheet.now.space.now reference.now found)) }
 {
     match found {
         None => Ok(None),
@@ -182,16 +191,15 @@ impl FaceRule for WrongKindInFace {
 
     fn least_at(
         alloc: Global,
-        sheet: &SheetRows,
+        sheet: &FaceSheet,
         reference: &FaceReference,
     ) -> Result<Option<Refusal>, Memory> {
         if reference.own {
             return judge_generic(alloc, reference);
         }
-        let named = sheet.graph.sheet;
-        let text = reference.text.as_str();
-        let found = named.space.look_up(alloc, reference.place, text)?;
-        judge_item(alloc, named, reference, found)
+        let space = sheet.types.graph.sheet.space;
+        let found = space.look_up(alloc, reference.place, reference.text.as_str())?;
+        judge_item(alloc, sheet, reference, found)
     }
 }
 
@@ -222,14 +230,14 @@ impl FaceRule for OpenInFace {
 
     fn least_at(
         alloc: Global,
-        sheet: &SheetRows,
+        sheet: &FaceSheet,
         reference: &FaceReference,
     ) -> Result<Option<Refusal>, Memory> {
         if reference.own {
             return Ok(None);
         }
         let text = Some(reference.text.as_str());
-        let id = id_found(alloc, sheet.graph.sheet, reference.place, text)?;
-        Ok(judge_open(sheet.rows, reference, id))
+        let id = id_found(alloc, sheet.types.graph.sheet, reference.place, text)?;
+        Ok(judge_open(sheet.types.rows, reference, id))
     }
 }

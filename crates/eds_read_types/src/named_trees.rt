@@ -4,7 +4,6 @@ ghost use Rattle.std.specs.Prelude.{◌≡◌, ◌≤◌, ◌++◌, Ok, length, 
 ghost use Rattle.eds_tree.specs.ShapeCheck.{shape_verdict};
 ghost use Rattle.eds_names.specs.LookUp.{names_in};
 ghost use Rattle.eds_read_types.specs.Places.{places_in, elements as elements_of, type_places as type_places_of};
-ghost use Rattle.eds_read_types.specs.FaceReferences.{face_places as face_places_of};
 ghost use Rattle.eds_read_types.specs.References.{word_place};
 
 use eds_base::{Memory, Place};
@@ -22,14 +21,11 @@ pub(crate) struct NamedTrees<'a> {
     pub(crate) elements: &'a [Place],
     /// The elements of the declared types, each at its `TypeId`.
     pub(crate) types: &'a [Place],
-    /// The elements of the declared interfaces, each at its `FaceId`.
-    pub(crate) faces: &'a [Place],
     ghost few: { length trees.now ≤ 64 },
     ghost shaped: { shape_verdict trees.now ≡ Ok tt },
     ghost named: { names_in trees.now ≡ Ok space.now },
     ghost walked: { elements.now ≡ elements_of trees.now },
     ghost known: { types.now ≡ type_places_of space.now },
-    ghost declared: { faces.now ≡ face_places_of space.now },
 }
 
 impl<'a> NamedTrees<'a> {

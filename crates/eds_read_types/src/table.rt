@@ -11,7 +11,6 @@ ghost use Rattle.eds_nesting.specs.Families.{families as families_of, nesting as
 ghost use Rattle.eds_read_types.specs.TableRead.{typed_of, table_read};
 
 use crate::base_graph::{BaseGraph, bases_of, cycles_of};
-use crate::face_reference::face_places;
 use crate::inner_reference::push_inner_types;
 use crate::named_trees::{NamedTrees, elements, type_places};
 use crate::reference::word_type;
@@ -123,14 +122,12 @@ pub fn read_types(
     let trees = trees.as_slice();
     let elements = elements(alloc, trees)?;
     let types = type_places(alloc, space)?;
-    let faces = face_places(alloc, space)?;
     let sheet = NamedTrees {
         trees,
         space,
         asked,
         elements: &elements,
         types: &types,
-        faces: &faces,
     };
     let bases = bases_of(alloc, &sheet)?;
     let cycles = cycles_of(alloc, &bases)?;
