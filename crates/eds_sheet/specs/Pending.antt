@@ -20,9 +20,9 @@ use Rattle.eds_tree.specs.ShapeCheck.{unless_broken}
 abbrev pub pending_names : List (List ℕ)
 pending_names = map codes (
     "ArrayDataType"
-    ∷ "FixedValueEntry" ∷ "PaddingEntry" ∷ "LengthEntry" ∷ "ErrorControlEntry"
-    ∷ "ConstraintSet" ∷ "TrailerEntryList"
-    ∷ "VariableSet" ∷ "ParameterMapSet" ∷ "ActivitySet" ∷ "StateMachineSet" ∷ [])
+    ∷ "FixedValueEntry" ∷ "LengthEntry" ∷ "ErrorControlEntry"
+    ∷ "ConstraintSet" ∷ "TrailerEntryList" ∷ "VariableSet"
+    ∷ "ParameterMapSet" ∷ "ActivitySet" ∷ "StateMachineSet" ∷ [])
 
 -- the element is one of these
 abbrev pub is_pending : (name : List ℕ) → Bool
