@@ -65,26 +65,30 @@ fn least_used(
     Ok(found)
 }
 
+fn less(left: Option<usize>, count: usize) -> Option<usize> {
+    match left {
+        None => None,
+        Some(left) => left.checked_sub(count),
+    }
+}
+
 /// Whether so many uses can be judged, each of which may meet every interface with its bases and members.
 fn is_little(faces: &[Face], uses: usize) -> bool {
     if uses == 0 {
         return true;
     }
-    let mut left = STEPS / uses;
+    let mut left = Some(STEPS / uses);
     for face in faces {
-        for count in [1, face.bases.len(), face.members.len()] {
-            match left.checked_sub(count) {
-                None => return false,
-                Some(less) => left = less,
-            }
-        }
+        left = less(left, 1);
+        left = less(left, face.bases.len());
+        left = less(left, face.members.len());
     }
-    true
+    left.is_some()
 }
 
 /// The first rule that the interfaces of a sheet break: one of them is its own base; or, where none is, one without own generic
-/// names breaks a rule under the empty map, or one that is used breaks it under its map, and the refusal stands where it is used. No memory is found where all that is used may meet more than 4,194,304
-/// interfaces, bases and members.
+/// names breaks a rule under the empty map, or one that is used breaks it under its map, and the refusal stands where it is used.
+/// No memory is found where all that is used may meet more than 4,194,304 interfaces, bases and members.
 pub fn judge_uses(
     alloc: Global,
     faces: &[Face],
