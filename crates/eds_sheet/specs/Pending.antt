@@ -19,8 +19,7 @@ use Rattle.eds_tree.specs.ShapeCheck.{unless_broken}
 -- and what the implementation of a component has
 abbrev pub pending_names : List (List ℕ)
 pending_names = map codes (
-    "ArrayDataType"
-    ∷ "FixedValueEntry" ∷ "LengthEntry" ∷ "ErrorControlEntry"
+    "FixedValueEntry" ∷ "LengthEntry" ∷ "ErrorControlEntry"
     ∷ "ConstraintSet" ∷ "TrailerEntryList" ∷ "VariableSet"
     ∷ "ParameterMapSet" ∷ "ActivitySet" ∷ "StateMachineSet" ∷ [])
 
