@@ -62,6 +62,14 @@ def base(of, *maps):
     return ["Base", {"type": of}, *held]
 
 
+def ends(count, parameters):
+    """A component with many ends of one interface."""
+    held = [["Interface", {"name": f"e{i}", "type": "X"}] for i in range(count)]
+    package = interfaces(interface("X", parameters=parameters))
+    package[1].append(["ComponentSet", ["Component", {"name": "C"}, ["RequiredInterfaceSet", *held]]])
+    return package
+
+
 def diamonds(levels):
     """Each interface has the one before it as a base twice: 2^levels ways to the first."""
     yield interface("X0", parameters=[("p", "U4")])
@@ -138,6 +146,9 @@ def inputs():
     yield "a map of 8,000 generic names", "check s", {
         "s": interfaces(interface("X", generics=[f"T{i}" for i in range(8000)]), interface("Top", [base("X", *((f"T{i}", "U4") for i in range(8000)))]))
     }, (0, good % 2)
+    yield "32,000 ends of an interface with 1,000 members", "check s", {"s": ends(32000, [("p%d" % i, "U4") for i in range(1000)])}, (6, "")
+    yield "32,000 ends of an interface with 100 members", "check s", {"s": ends(32000, [("p%d" % i, "U4") for i in range(100)])}, (
+        0, "accepted types 2 containers 0 interfaces 1 components 1\n")  # fmt: skip
     yield "20,000 members", "check s", {"s": interfaces(interface("X", parameters=[(f"p{i}", "U4") for i in range(20000)]))}, (
         1, "refused 8 Limit at 0:8 members\n")  # fmt: skip
     yield "20,000 parameters of generic types", "check s", {

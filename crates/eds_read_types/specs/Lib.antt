@@ -44,6 +44,8 @@ pub mod PartElements
 pub mod LengthField
 pub mod ErrorControl
 pub mod FaceReferences
+pub mod ComponentReferences
+pub mod InnerReferences
 pub mod FaceRules
 pub mod TableBreaks
 pub mod TableRead

@@ -11,7 +11,7 @@ ghost use Rattle.eds_nesting.specs.Families.{families as families_of, nesting as
 ghost use Rattle.eds_read_types.specs.TableRead.{typed_of, table_read};
 
 use crate::base_graph::{BaseGraph, bases_of, cycles_of};
-use crate::face_reference::push_face_types;
+use crate::inner_reference::push_inner_types;
 use crate::named_trees::{NamedTrees, elements, type_places};
 use crate::reference::word_type;
 use crate::rules::least_break;
@@ -32,7 +32,7 @@ pub struct SheetTypes {
     /// A row for each declared type, at its `TypeId`: in the order of files and elements.
     pub table: TypeTable,
     /// The types that parts and arrays name, in the order of types and parts, then that of the TYPE word, and then those that
-    /// parameters, arguments and maps of interfaces name. An open binary is none of them.
+    /// parameters, arguments and maps of interfaces and components, and variables name. An open binary is none of them.
     pub used: Used,
     /// The type that the TYPE word names, where there is a TYPE word.
     pub asked_type: Option<TypeId>,
@@ -46,7 +46,7 @@ fn typed_of(alloc: Global, sheet: &NamedTrees, rows: TypeRows) -> Result<SheetTy
 {
     let asked_type = word_type(alloc, sheet)?;
     let mut used = used_types(alloc, &rows, asked_type)?;
-    push_face_types(alloc, &mut used, sheet)?;
+    push_inner_types(alloc, &mut used, sheet)?;
     let table = TypeTable::of(alloc, rows)?;
     Ok(SheetTypes {
         table,

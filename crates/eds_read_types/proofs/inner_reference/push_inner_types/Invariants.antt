@@ -1,7 +1,7 @@
 use Rattle.std.proofs.Common.{◌≡◌, ◌++◌, drop}
 use Rattle.std.specs.List.{flat_map}
-use Rattle.eds_read_types.specs.FaceReferences.{used_at}
-use Rattle.eds_read_types.proofs.face_reference.push_face_types.Given as goal
+use Rattle.eds_read_types.specs.InnerReferences.{used_at}
+use Rattle.eds_read_types.proofs.inner_reference.push_inner_types.Given as goal
 
 abbrev pub invariant-loop-reference : goal.invariant-loop-reference
 invariant-loop-reference l =
