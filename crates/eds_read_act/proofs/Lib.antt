@@ -1,0 +1,4 @@
+pub mod Numbering
+pub mod Names
+pub mod Sound
+pub mod Stepping

@@ -1,9 +1,0 @@
-use Rattle.std.proofs.Common.{◌≡◌, ◌++◌, map, length}
-use Rattle.eds_read_comp.specs.Inside.{first_where, is_operand_at, operand_of}
-use Rattle.eds_read_comp.proofs.inside.operand_of.Given as goal
-
-abbrev pub invariant-loop-rest : goal.invariant-loop-rest
-invariant-loop-rest l = first_where (is_operand_at l.tree) l.rest ≡ operand_of l.tree l.node
-
-abbrev pub decreases-loop-rest : goal.decreases-loop-rest
-decreases-loop-rest l = length l.rest
