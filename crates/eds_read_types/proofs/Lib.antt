@@ -4,10 +4,13 @@ pub mod EndFacts
 pub mod ListingFacts
 pub mod LawFacts
 mod EntriesLemmas
+pub mod NameSets
 pub mod NoBreaks
 mod BaseSteps
 mod NumberSteps
 mod RowSteps
+mod SeatFacts
+mod ChainSteps
 pub mod SheetPlaces
 pub mod LevelFacts
 pub mod NestingFacts
@@ -30,3 +33,4 @@ pub mod Limits
 pub mod SequenceFacts
 pub mod FamilyFacts
 pub mod RowRules
+mod PartOrder

@@ -18,6 +18,7 @@ pub mod Unresolved
 pub mod WrongKind
 pub mod BaseCycle
 pub mod LimitChain
+pub mod LimitFamily
 pub mod BadEncoding
 pub mod EmptyRange
 pub mod BadEnumeration
@@ -25,6 +26,7 @@ pub mod DuplicateEntry
 pub mod Calibrators
 pub mod Unbroken
 pub mod Numbers
+pub mod Seats
 pub mod ListFields
 pub mod PartRows
 pub mod TableRows

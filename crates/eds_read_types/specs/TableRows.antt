@@ -1,20 +1,23 @@
 -- The rows of the table of types.
-use Rattle.std.specs.Prelude.{ℕ, ◌+◌, nat_le, List, [], ◌∷◌, length, map, Bool, false, ◌&&◌, if◌then◌else◌, Option, Some, None, slice_get}
+use Rattle.std.specs.Prelude.{ℕ, ◌+◌, nat_le, List, [], ◌∷◌, length, map, codes, Bool, true, ◌&&◌, if◌then◌else◌, Option, Some, None, slice_get}
 use Rattle.std.specs.Option.{unwrap_or}
 use Rattle.std.specs.List.{list_all}
 use Rattle.eds_base.specs.declared.ids.Place.{Place}
 use Rattle.eds_tree.specs.declared.tree.Node.{Node}
 use Rattle.eds_tree.specs.Trees.{name_at}
+use Rattle.eds_tree.specs.Unsupported.{spells_flag}
 use Rattle.eds_names.specs.declared.declared.Declared.{Declared}
 use Rattle.eds_names.specs.LookUp.{Names}
 use Rattle.eds_types.specs.declared.row.TypeRow.{TypeRow}
 use Rattle.eds_types.specs.declared.row.Kind.{Kind}
 use Rattle.eds_types.specs.declared.row.Kind.TheVariants as kind
 use Rattle.eds_types.specs.declared.row.Container.{Container}
-use Rattle.eds_types.specs.Rows.{container_by, entries_in}
+use Rattle.eds_types.specs.declared.row.Part.{Part}
+use Rattle.eds_types.specs.Rows.{container_by, entries_in, trailers_in}
 use Rattle.eds_read_types.specs.declared.numbers.FormAndDomain.{FormAndDomain}
-use Rattle.eds_read_types.specs.Places.{is_container, types, type_places}
-use Rattle.eds_read_types.specs.Entries.{entries_at}
+use Rattle.eds_read_types.specs.Places.{attribute, is_container, types, type_places}
+use Rattle.eds_read_types.specs.Entries.{entries_at, trailers_at}
+use Rattle.eds_read_types.specs.Seats.{seats_of}
 use Rattle.eds_read_types.specs.PartRows.{part_at}
 use Rattle.eds_read_types.specs.Forms.{int_form_of, bool_form_of}
 use Rattle.eds_read_types.specs.Listings.{listing_of}
@@ -27,9 +30,17 @@ use Rattle.eds_read_types.specs.Numbers.{form_or_wide, truth_or_octet, text_or_o
 
 -- ---- containers
 
--- the container at a place, of which the number among all types is given; it has entries alone
+-- the container at a place is abstract, as it isn't unless it says so
+abbrev pub is_abstract : List (List Node) → Place → Bool
+is_abstract trees at = spells_flag true (attribute trees (codes "abstract") at)
+
+-- the part that the element at a place is, of the container of a number
+abbrev pub part_in : List (List Node) → Names → (container : ℕ) → Place → Part
+part_in trees names id at = part_at trees names id (seats_of trees names id) at
+
+-- the container at a place, of which the number among all types is given, without its constraints
 abbrev pub container_at : List (List Node) → Names → ℕ → Place → Container
-container_at trees names id at = record { hidden = false; constraints = []; entries = map (part_at trees names id (entries_at trees at)) (entries_at trees at); trailers = [] }
+container_at trees names id at = record { hidden = is_abstract trees at; constraints = []; entries = map (part_in trees names id) (entries_at trees at); trailers = map (part_in trees names id) (trailers_at trees at) }
 
 -- ---- types
 
@@ -77,9 +88,9 @@ table_rows trees names = rows_from trees names 0 (types names)
 
 -- ---- limits
 
--- a container has at most 32,767 entries
+-- a container has at most 32,767 entries, and so many trailers
 abbrev pub has_few_entries : TypeRow → Bool
-has_few_entries row = nat_le (length (entries_in (container_by row.kind))) 32767
+has_few_entries row = nat_le (length (entries_in (container_by row.kind))) 32767 && nat_le (length (trailers_in (container_by row.kind))) 32767
 
 -- there are at most 4,096 types, and so many entries
 abbrev pub are_few : List TypeRow → Bool

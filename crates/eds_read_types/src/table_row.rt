@@ -1,49 +1,108 @@
 //! The rows of the table of types.
 
-ghost use Rattle.std.specs.Prelude.{◌≡◌, ◌++◌, ◌∷◌, [], map, filter, length, slice_get, IfOk, OnOk};
+ghost use Rattle.std.specs.Prelude.{◌≡◌, ◌++◌, ◌∷◌, [], map, filter, length, slice_get, true, option_map, IfOk, OnOk};
+ghost use Rattle.eds_tree.specs.Unsupported.{spells_flag};
 ghost use Rattle.eds_read_types.specs.Places.{is_type, type_places};
 ghost use Rattle.eds_read_types.specs.Bases.{bases_of as bases_in};
+ghost use Rattle.eds_read_types.specs.Seats.{seats_of as seats_in};
+ghost use Rattle.eds_read_types.specs.ListFields.{AreEnough};
+ghost use Rattle.eds_read_types.specs.PartRows.{part_at as part_with};
 ghost use Rattle.eds_read_types.specs.Numbers.{numbers_of as numbers_by_id};
-ghost use Rattle.eds_read_types.specs.TableRows.{container_at as container_by, binary_kind as binary_kind_of, scalar_kind as scalar_kind_of, scalar_kind_in as scalar_kind_by, kind_of as kind_by_id, table_row as table_row_of, rows_from, table_rows as table_rows_of};
+ghost use Rattle.eds_read_types.specs.TableRows.{part_in, is_abstract as is_abstract_at, container_at as container_by, binary_kind as binary_kind_of, scalar_kind as scalar_kind_of, scalar_kind_in as scalar_kind_by, kind_of as kind_by_id, table_row as table_row_of, rows_from, table_rows as table_rows_of};
 
 use crate::base_graph::{BaseGraph, base_found};
-use crate::element::{is_container, tree_at};
-use crate::entry::entries_at;
+use crate::element::{attribute, is_container, tree_at};
+use crate::entry::{entries_at, has_list, trailers_at};
 use crate::form::{bool_form_of, int_form_of};
 use crate::list_field::Fields;
 use crate::listing::listing_of;
 use crate::named_trees::NamedTrees;
 use crate::numbers::{FormAndDomain, form_or_wide, numbers_of, text_or_octet, truth_or_octet};
 use crate::part::part_at;
+use crate::seat::{Seat, seats_of};
 use crate::sort::{Sort, sort_of};
 use crate::text_form::{binary_bits_of, is_open, text_form_of};
 use eds_base::{Memory, Place, Text};
 use eds_names::Declared;
-use eds_tree::Tree;
+use eds_tree::{Tree, flag_value};
 use eds_types::{Constraints, Container, Kind, Parts, TypeRow, TypeRows};
 use std::alloc::Global;
 
-/// The container at a place, which has entries alone.
-fn container_at(
+fn is_true(text: Option<&str>) -> bool
+    ensures { result ≡ spells_flag true (option_map (λ t. t.now) text.entry) }
+{
+    match text {
+        None => false,
+        Some(text) => flag_value(text) == Some(true),
+    }
+}
+
+/// Whether the container at a place is abstract.
+fn is_abstract(trees: &[Tree], at: Place) -> bool
+    ensures { result ≡ is_abstract_at trees.now at }
+{
+    is_true(attribute(trees, "abstract", at))
+}
+
+/// The parts at some places, of the container of a number with such parts.
+fn parts_read(
     alloc: Global,
     sheet: &NamedTrees,
     id: usize,
-    at: Place,
-) -> Result<Container, Memory>
-    ensures { IfOk result (λ c. c ≡ container_by sheet.now.trees.now sheet.now.space.now id at) }
+    fields: &Fields,
+    places: &[Place],
+) -> Result<Parts, Memory>
+    requires { fields.now.trees.now ≡ sheet.now.trees.now }
+    ensures { IfOk result (λ p. p ≡ map (part_with sheet.now.trees.now sheet.now.space.now id fields.now.seats.now) places.now) }
 {
-    let places = entries_at(alloc, sheet.trees, at)?;
-    let fields = Fields::of(alloc, sheet.trees, &places)?;
-    let mut entries = Parts::new(alloc);
-    for entry in &places {
-        let part = part_at(alloc, sheet, id, &fields, *entry)?;
-        entries.push(part)?;
+    let mut parts = Parts::new(alloc);
+    for at in places {
+        let part = part_at(alloc, sheet, id, fields, *at)?;
+        parts.push(part)?;
     }
+    Ok(parts)
+}
+
+/// Where the parts of a container and its bases stand, where one of some parts is a list; else nothing, since no other part
+/// needs it.
+fn seats_for(
+    alloc: Global,
+    graph: &BaseGraph,
+    id: usize,
+    parts: &[Place],
+) -> Result<Vec<Seat>, Memory>
+    ensures { IfOk result (λ s. AreEnough graph.now.sheet.now.trees.now (seats_in graph.now.sheet.now.trees.now graph.now.sheet.now.space.now id) s.items parts.now) }
+{
+    if has_list(graph.sheet.trees, parts) {
+        seats_of(alloc, graph, id)
+    } else {
+        Ok(Vec::new(alloc))
+    }
+}
+
+/// Some parts of a container, which may name other parts of its sequence.
+fn parts_of(alloc: Global, graph: &BaseGraph, id: usize, places: &[Place]) -> Result<Parts, Memory>
+    ensures { IfOk result (λ p. p ≡ map (part_in graph.now.sheet.now.trees.now graph.now.sheet.now.space.now id) places.now) }
+{
+    let seats = seats_for(alloc, graph, id, places)?;
+    let fields = Fields::of(alloc, graph.sheet.trees, &seats)?;
+    parts_read(alloc, graph.sheet, id, &fields, places)
+}
+
+/// The container at a place, of which the number among all types is given, without its constraints.
+fn container_at(alloc: Global, graph: &BaseGraph, id: usize, at: Place) -> Result<Container, Memory>
+    ensures { IfOk result (λ c. c ≡ container_by graph.now.sheet.now.trees.now graph.now.sheet.now.space.now id at) }
+{
+    let trees = graph.sheet.trees;
+    let places = entries_at(alloc, trees, at)?;
+    let entries = parts_of(alloc, graph, id, &places)?;
+    let places = trailers_at(alloc, trees, at)?;
+    let trailers = parts_of(alloc, graph, id, &places)?;
     Ok(Container {
-        hidden: false,
+        hidden: is_abstract(trees, at),
         constraints: Constraints::new(alloc),
         entries,
-        trailers: Parts::new(alloc),
+        trailers,
     })
 }
 
@@ -106,7 +165,7 @@ fn kind_of(alloc: Global, graph: &BaseGraph, id: usize, at: Place) -> Result<Kin
 {
     let sheet = graph.sheet;
     if is_container(sheet.trees, at) {
-        let container = container_at(alloc, sheet, id, at)?;
+        let container = container_at(alloc, graph, id, at)?;
         Ok(Kind::Con(container))
     } else {
         let numbers = numbers_in_table(alloc, graph, id)?;

@@ -19,7 +19,6 @@ fn is_pending(name: &str) -> bool
         &[
             "ArrayDataType",
             "FixedValueEntry",
-            "PaddingEntry",
             "LengthEntry",
             "ErrorControlEntry",
             "ConstraintSet",
