@@ -2,3 +2,4 @@ pub mod Numbering
 pub mod Names
 pub mod Sound
 pub mod Stepping
+pub mod Over

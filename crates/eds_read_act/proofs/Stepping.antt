@@ -1,15 +1,11 @@
--- Conditions and statements, one level deeper; breaks, one element after another.
-use Rattle.std.proofs.Common.{◌≡◌, ◌≢◌, ℕ, zero, suc, ◌+◌, ◌-◌, ◌<◌, List, [], ◌∷◌, ◌++◌, length, get_or, drop, drop-cons, add-one, Option, Result, IfOk, refl, sym, ap, ◌∙◌, subst, arith}
+-- Conditions and statements, one level deeper.
+use Rattle.std.proofs.Common.{◌≡◌, ◌≢◌, ℕ, zero, suc, ◌-◌, Result, IfOk, refl, ap, ◌∙◌, subst, arith}
 use Rattle.eds_base.specs.declared.fail.Memory.{Memory}
-use Rattle.eds_base.specs.declared.refusal.Refusal.{Refusal}
-use Rattle.eds_base.specs.Refusals.{first_of, least}
-use Rattle.eds_base.proofs.LeastLaws.{least-append, first_assoc}
 use Rattle.eds_plan.specs.declared.activity.Guard.{Guard}
 use Rattle.eds_plan.specs.declared.activity.Statement.{Statement}
 use Rattle.eds_plan.specs.Statements.{Condition, condition, Stmt, stmt}
 use Rattle.eds_read_act.specs.declared.activity_sort.ActivitySort.{ActivitySort}
 use Rattle.eds_read_act.specs.ActivitySorts.{sort_at}
-use Rattle.eds_read_act.specs.Activities.{over_from}
 use Rattle.eds_read_act.specs.Bodies.{condition_as, condition_at, statement_as, statement_at, body_by}
 use Rattle.eds_read_act.specs.Scopes.{Scope}
 
@@ -32,13 +28,3 @@ module _ (s : Scope) where
   condition-by (suc depth) n k h is =
       let e : suc depth - 1 ≡ depth = omega arith in
       ap (λ d. condition_as s k (λ child. condition_at s d child) n) e ∙ ap (λ (j : ActivitySort). condition_as s j (λ child. condition_at s depth child) n) is
-
--- `found` stands for what came before, n is the element of the number i
-pub least-next_over : (f : ℕ → ℕ → List Refusal) (ns : List ℕ) (i n : ℕ) (found here next : Option Refusal) (whole : Option Refusal)
-    → i < length ns → n ≡ get_or ns i n → here ≡ least (f i n) → next ≡ first_of found here → first_of found (least (over_from f i (drop i ns))) ≡ whole
-    → first_of next (least (over_from f (i + 1) (drop (i + 1) ns))) ≡ whole
-least-next_over f ns i n found here next whole lt at h e w =
-    let opened : drop i ns ≡ n ∷ drop (i + 1) ns = drop-cons ns i n lt ∙ rw (add-one, ← at) refl in
-    let this : least (over_from f i (drop i ns)) ≡ first_of here (least (over_from f (i + 1) (drop (i + 1) ns))) =
-    ap (λ ms. least (over_from f i ms)) opened ∙ least-append (f i n) _ ∙ rw (← h) refl in
-    rw e (first_assoc found here (least (over_from f (i + 1) (drop (i + 1) ns))) ∙ ap (first_of found) (sym this) ∙ w)

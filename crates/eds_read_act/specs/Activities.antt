@@ -46,8 +46,8 @@ abbrev pub breaks_if : (file : ℕ) → Scope → List Course → (number : ℕ)
 breaks_if file s courses number n None = []
 breaks_if file s courses number n (Some head) = breaks_by file s courses number n head
 
--- what breaks a rule at some elements, each judged with its number, the first of which is k
-abbrev pub over_from : (ℕ → ℕ → List Refusal) → (k : ℕ) → List ℕ → List Refusal
+-- what some elements have, each by its number, the first of which is k
+abbrev pub over_from : {A : Type 0} → (ℕ → ℕ → List A) → (k : ℕ) → List ℕ → List A
 over_from f k [] = []
 over_from f k (n ∷ ns) = f k n ++ over_from f (k + 1) ns
 
@@ -77,11 +77,10 @@ abbrev pub activity_if : Scope → ℕ → Option Head → List Planned
 activity_if s n None = []
 activity_if s n (Some head) = activity_at s n head ∷ []
 
--- the activities that elements stand for, each by the head of its number, the first of which is k
-abbrev pub activities_from : Scope → (k : ℕ) → List ℕ → List Planned
-activities_from s k [] = []
-activities_from s k (n ∷ ns) = activity_if s n (slice_get s.activities k) ++ activities_from s (k + 1) ns
+-- the activity of a number, by its element
+abbrev pub numbered_activity : Scope → (number : ℕ) → ℕ → List Planned
+numbered_activity s number n = activity_if s n (slice_get s.activities number)
 
--- the activities of a component, whose elements are given
+-- the activities of a component, whose elements are given, each by the head of its number
 abbrev pub activities_at : Scope → List ℕ → List Planned
-activities_at s nodes = activities_from s 0 nodes
+activities_at s nodes = over_from (numbered_activity s) 0 nodes

@@ -1,9 +1,9 @@
 //! The activities of a component: their rules, and what they are as plan data.
 
-ghost use Rattle.std.specs.Prelude.{◌≡◌, IfOk, map};
+ghost use Rattle.std.specs.Prelude.{◌≡◌, ◌++◌, IfOk, OnOk, map};
 ghost use Rattle.eds_base.specs.Refusals.{least};
 ghost use Rattle.eds_read_act.specs.Scopes.{scope_of, with_arguments};
-ghost use Rattle.eds_read_act.specs.Activities.{bad_references_in, mismatches_in, cycle_if, circular_at, breaks_by, breaks_at, over_from, activity_breaks, planned, activity_at as activity_of, activities_at};
+ghost use Rattle.eds_read_act.specs.Activities.{bad_references_in, mismatches_in, cycle_if, circular_at, breaks_by, breaks_at, over_from, activity_breaks, planned, activity_at as activity_of, numbered_activity, activities_at};
 
 use crate::bad_reference::least_bad_reference;
 use crate::call_cycle::call_graph;
@@ -155,16 +155,11 @@ pub fn least_activity_break(
 {
     let graph = call_graph(alloc, scope, nodes)?;
     let courses = courses(alloc, &graph)?;
-    let least = least_over(alloc, file, scope, courses.as_slice(), nodes)?;
-    Ok(least)
+    let found = least_over(alloc, file, scope, courses.as_slice(), nodes)?;
+    Ok(found)
 }
 
-fn activity_at(
-    alloc: Global,
-    scope: &Scope,
-    node: u32,
-    head: &Head,
-) -> Result<Activity, Memory>
+fn activity_at(alloc: Global, scope: &Scope, node: u32, head: &Head) -> Result<Activity, Memory>
     ensures { IfOk result (λ a. planned a ≡ activity_of (scope_of scope.now) node head.now) }
 {
     let inner = with_head(scope, head);
@@ -178,6 +173,26 @@ fn activity_at(
     })
 }
 
+// Puts the activity of a number last, where it has a head.
+fn push_activity(
+    activities: &mut Items<Activity>,
+    alloc: Global,
+    scope: &Scope,
+    number: usize,
+    node: u32,
+) -> Result<(), Memory>
+    ensures { OnOk result (map planned activities.new ≡ map planned activities.old ++ numbered_activity (scope_of scope.now) number node) }
+{
+    match scope.activities.get(number) {
+        None => Ok(()),
+        Some(head) => {
+            let activity = activity_at(alloc, scope, node, head)?;
+            activities.push(activity)?;
+            Ok(())
+        }
+    }
+}
+
 /// The activities that elements stand for, whose heads the scope has.
 pub fn read_activities(
     alloc: Global,
@@ -188,10 +203,7 @@ pub fn read_activities(
 {
     let mut activities = Items::new(alloc);
     for (number, node) in nodes.iter().enumerate() {
-        if let Some(head) = scope.activities.get(number) {
-            let activity = activity_at(alloc, scope, *node, head)?;
-            activities.push(activity)?;
-        }
+        push_activity(&mut activities, alloc, scope, number, *node)?;
     }
     Ok(activities)
 }

@@ -31,7 +31,11 @@ pub(crate) fn output_of(alloc: Global, scope: &Scope, node: u32) -> Result<Optio
 pub(crate) fn iterator_of(alloc: Global, scope: &Scope, node: u32) -> Option<Found>
     ensures { result ≡ iterator_in (scope_of scope.now) node }
 {
-    variable_named(alloc, scope.variables, text_at(scope.tree, node, "iteratorVariableRef"))
+    variable_named(
+        alloc,
+        scope.variables,
+        text_at(scope.tree, node, "iteratorVariableRef"),
+    )
 }
 
 fn is_read_only(variables: &[VariableHead], at: u16) -> bool

@@ -59,12 +59,7 @@ fn comparison_of_two(
     Ok(Guard::Compare(relation, one, other))
 }
 
-fn comparison_of(
-    alloc: Global,
-    scope: &Scope,
-    node: u32,
-    operands: &[u32],
-) -> Result<Guard, Memory>
+fn comparison_of(alloc: Global, scope: &Scope, node: u32, operands: &[u32]) -> Result<Guard, Memory>
     ensures { IfOk result (λ g. condition g ≡ comparison_in (scope_of scope.now) node operands.now) }
 {
     match operands {

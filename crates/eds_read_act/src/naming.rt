@@ -7,8 +7,8 @@ ghost use Rattle.eds_read_act.specs.Numbered.{numbered};
 ghost use Rattle.eds_types.specs.Fields.{part_at};
 ghost use Rattle.eds_read_act.specs.Naming.{names_in, names_after, octets_left, has_name as has_name_of, entry_type as entry_type_of, entry_at as entry_at_place, entry_among as entry_in, entry_named as entry_of, short as short_of, follow as follow_names, follow_if, whole as whole_of, as_field as field_as, field_named as field_of, found_in as found_by_text, fields_of};
 
-use eds_base::{Items, Memory, Text, TypeId};
 use crate::variable::VariableHead;
+use eds_base::{Items, Memory, Text, TypeId};
 use eds_types::{EntryPath, Part, TypeTable};
 use std::alloc::Global;
 

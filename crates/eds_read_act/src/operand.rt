@@ -148,12 +148,7 @@ pub(crate) fn literal(
     }
 }
 
-fn is_literal(
-    alloc: Global,
-    table: &TypeTable,
-    wanted: Wanted,
-    text: &str,
-) -> Result<bool, Memory>
+fn is_literal(alloc: Global, table: &TypeTable, wanted: Wanted, text: &str) -> Result<bool, Memory>
     ensures { IfOk result (λ b. b ≡ is_some (literal_of table.now wanted text.now)) }
 {
     match literal(alloc, table, wanted, text)? {

@@ -1,8 +1,8 @@
 //! What the elements of an activity, a guard or an action may name.
 
+use crate::variable::VariableHead;
 use eds_base::{Text, TypeId};
 use eds_plan::{EndPlan, FieldList};
-use crate::variable::VariableHead;
 use eds_tree::Tree;
 use eds_types::TypeTable;
 

@@ -183,12 +183,7 @@ fn end_of<'a>(scope: &Scope<'a>, node: u32) -> Option<(usize, &'a EndPlan)>
     end_named(scope.ends, text_at(scope.tree, node, "interface"))
 }
 
-fn sent_at(
-    alloc: Global,
-    at: usize,
-    end: &EndPlan,
-    name: &str,
-) -> Result<Option<Taker>, Memory>
+fn sent_at(alloc: Global, at: usize, end: &EndPlan, name: &str) -> Result<Option<Taker>, Memory>
     ensures { IfOk result (λ c. c ≡ command_at_end leaving_at name.now (at, end.now)) }
 {
     match command_among(end.instance.members.as_slice(), name) {
@@ -205,11 +200,7 @@ fn sent_at(
 }
 
 /// The command that an element sends, with what it carries.
-pub(crate) fn sent_command(
-    alloc: Global,
-    scope: &Scope,
-    node: u32,
-) -> Result<Option<Taker>, Memory>
+pub(crate) fn sent_command(alloc: Global, scope: &Scope, node: u32) -> Result<Option<Taker>, Memory>
     ensures { IfOk result (λ c. c ≡ command_in leaving_at (scope_of scope.now) node) }
 {
     match end_of(scope, node) {
@@ -244,10 +235,7 @@ pub(crate) fn parameter_of(scope: &Scope, node: u32) -> Option<Held>
 }
 
 /// The activity that an element names, with its arguments.
-pub(crate) fn activity_of<'a>(
-    scope: &Scope<'a>,
-    node: u32,
-) -> Option<(usize, &'a [(Text, TypeId)])>
+pub(crate) fn activity_of<'a>(scope: &Scope<'a>, node: u32) -> Option<(usize, &'a [(Text, TypeId)])>
     ensures { option_map (λ p. (p.0, p.1.now)) result ≡ activity_in (scope_of scope.now) node }
 {
     head_named(scope.activities, text_at(scope.tree, node, "activity"))

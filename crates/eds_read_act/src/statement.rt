@@ -178,7 +178,11 @@ fn name_number(names: &[Text], name: &str) -> Option<usize>
 fn long(n: usize) -> u32
     ensures { result ≡ long_of n }
 {
-    if n <= 4294967295 { n as u32 } else { 4294967295 }
+    if n <= 4294967295 {
+        n as u32
+    } else {
+        4294967295
+    }
 }
 
 fn transaction_named(names: &[Text], name: &str) -> Option<u32>
@@ -228,12 +232,7 @@ fn op_of(held: Held, operation: &str) -> Op
     }
 }
 
-fn value_of(
-    alloc: Global,
-    scope: &Scope,
-    node: u32,
-    held: Held,
-) -> Result<Option<Operand>, Memory>
+fn value_of(alloc: Global, scope: &Scope, node: u32, held: Held) -> Result<Option<Operand>, Memory>
     ensures { IfOk result (λ a. a ≡ value_in (scope_of scope.now) node held) }
 {
     match operand_of(scope.tree, node) {

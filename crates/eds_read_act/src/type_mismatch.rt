@@ -38,12 +38,7 @@ fn fits_if(
     }
 }
 
-fn misfits_type(
-    alloc: Global,
-    scope: &Scope,
-    node: u32,
-    id: Option<TypeId>,
-) -> Result<bool, Memory>
+fn misfits_type(alloc: Global, scope: &Scope, node: u32, id: Option<TypeId>) -> Result<bool, Memory>
     ensures { IfOk result (λ b. b ≡ type_misfits (scope_of scope.now) node id) }
 {
     match id {
@@ -244,7 +239,13 @@ fn item_leaves(
     ensures value { IfOk result (λ n. n ≡ item_leaves_in (sort_at_in scope.now.tree.now node) (scope_of scope.now) left node) }
 {
     match sort_at(scope.tree, node) {
-        ActivitySort::Operator => { if left >= 2 { Ok(Some(left - 1)) } else { Ok(None) } }
+        ActivitySort::Operator => {
+            if left >= 2 {
+                Ok(Some(left - 1))
+            } else {
+                Ok(None)
+            }
+        }
         ActivitySort::Value | ActivitySort::VariableRef | ActivitySort::ArgumentRef => {
             if operand_fits(alloc, scope, Wanted::Number, node)? {
                 Ok(Some(left + 1))
@@ -334,9 +335,7 @@ fn mismatches_here(alloc: Global, scope: &Scope, link: Link) -> Result<bool, Mem
         }
         ActivitySort::Comparison => Ok(!is_comparison(alloc, scope, node)?),
         ActivitySort::Calculation => Ok(!is_calculation(alloc, scope, node)?),
-        ActivitySort::Iteration => {
-            Ok(!is_number_place(scope, iterator_of(alloc, scope, node)))
-        }
+        ActivitySort::Iteration => { Ok(!is_number_place(scope, iterator_of(alloc, scope, node))) }
         ActivitySort::Bound => {
             let operand = operand_of(scope.tree, node);
             Ok(!fits_if(alloc, scope, Wanted::Number, operand)?)

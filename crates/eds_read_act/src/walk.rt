@@ -10,12 +10,7 @@ use eds_tree::{Link, Tree, is_passed_over};
 use std::alloc::Global;
 
 #[cycle(push_below)]
-fn push_below(
-    links: &mut Vec<Link>,
-    tree: &Tree,
-    depth: usize,
-    link: Link,
-) -> Result<(), Memory>
+fn push_below(links: &mut Vec<Link>, tree: &Tree, depth: usize, link: Link) -> Result<(), Memory>
     ensures { OnOk result (links.new.items ≡ links.old.items ++ links_from tree.now depth link) }
 {
     if depth == 0 {

@@ -8,6 +8,6 @@ use Rattle.eds_read_act.proofs.activity.least_activity_break.Goals as goal
 
 pub returns : goal.returns
 returns c =
-    c.in_ok-least.ensures
+    c.in_ok-found.ensures
     ∙ ap (λ (cs : List Course). least (over_from (breaks_at c.args.file (scope_of c.args.scope.now) cs) 0 c.args.nodes.now))
-      (c.as_slice.ensures.value ∙ c.in_ok-courses.ensures ∙ ap all_courses c.in_ok-graph.ensures)
+    (c.as_slice.ensures.value ∙ c.in_ok-courses.ensures ∙ ap all_courses c.in_ok-graph.ensures)

@@ -25,8 +25,8 @@ statement_at-returns-in_ok-taker-in-SendCommand t c =
     let s = scope_of c.args.scope.now in
     read_as c.command_sent.result _ _
     (ap (λ (x : Option ℕ). command_by s c.args.node x c.in_ok-taker-in-SendCommand.taker) c.transaction_at.ensures
-     ∙ ap (λ (x : Option Taker). command_by s c.args.node (transaction_by s (attribute_at c.args.scope.now.tree.now c.args.node (codes "transaction"))) x) c.in_ok-taker-in-SendCommand.ensures
-     ∙ statement-by s c.args.depth c.args.node SendCommand c.if-depth-eq0.false c.in-SendCommand.ensures)
+    ∙ ap (λ (x : Option Taker). command_by s c.args.node (transaction_by s (attribute_at c.args.scope.now.tree.now c.args.node (codes "transaction"))) x) c.in_ok-taker-in-SendCommand.ensures
+    ∙ statement-by s c.args.depth c.args.node SendCommand c.if-depth-eq0.false c.in-SendCommand.ensures)
     c.command_sent.ensures
 
 pub statement_at-returns-in-SendParameter : goal.statement_at-returns-in-SendParameter
@@ -34,6 +34,6 @@ statement_at-returns-in-SendParameter t c =
     let s = scope_of c.args.scope.now in
     read_as c.parameter_sent.result _ _
     (ap (λ (x : Option ℕ). parameter_by s c.args.node x c.parameter_of-held.result) c.transaction_at-in-SendParameter.ensures
-     ∙ ap (λ (x : Option Held). parameter_by s c.args.node (transaction_by s (attribute_at c.args.scope.now.tree.now c.args.node (codes "transaction"))) x) c.parameter_of-held.ensures
-     ∙ statement-by s c.args.depth c.args.node SendParameter c.if-depth-eq0.false c.in-SendParameter.ensures)
+    ∙ ap (λ (x : Option Held). parameter_by s c.args.node (transaction_by s (attribute_at c.args.scope.now.tree.now c.args.node (codes "transaction"))) x) c.parameter_of-held.ensures
+    ∙ statement-by s c.args.depth c.args.node SendParameter c.if-depth-eq0.false c.in-SendParameter.ensures)
     c.parameter_sent.ensures
