@@ -3,3 +3,4 @@ pub mod Names
 pub mod Sound
 pub mod Stepping
 pub mod Over
+pub mod Planning

@@ -1,6 +1,7 @@
 //! The activities of a component: their rules, and what they are as plan data.
 
-ghost use Rattle.std.specs.Prelude.{◌≡◌, ◌++◌, IfOk, OnOk, map};
+ghost use Rattle.std.specs.Prelude.{◌≡◌, ◌++◌, IfOk, OnOk, map, slice_get};
+ghost use Rattle.std.specs.Option.{option_copied};
 ghost use Rattle.eds_base.specs.Refusals.{least};
 ghost use Rattle.eds_read_act.specs.Scopes.{scope_of, with_arguments};
 ghost use Rattle.eds_read_act.specs.Activities.{bad_references_in, mismatches_in, cycle_if, circular_at, breaks_by, breaks_at, over_from, activity_breaks, planned, activity_at as activity_of, numbered_activity, activities_at};
@@ -173,6 +174,12 @@ fn activity_at(alloc: Global, scope: &Scope, node: u32, head: &Head) -> Result<A
     })
 }
 
+fn head_at<'a>(scope: &Scope<'a>, number: usize) -> Option<&'a Head>
+    ensures { option_copied result ≡ slice_get scope.now.activities.now number }
+{
+    scope.activities.get(number)
+}
+
 // Puts the activity of a number last, where it has a head.
 fn push_activity(
     activities: &mut Items<Activity>,
@@ -183,7 +190,7 @@ fn push_activity(
 ) -> Result<(), Memory>
     ensures { OnOk result (map planned activities.new ≡ map planned activities.old ++ numbered_activity (scope_of scope.now) number node) }
 {
-    match scope.activities.get(number) {
+    match head_at(scope, number) {
         None => Ok(()),
         Some(head) => {
             let activity = activity_at(alloc, scope, node, head)?;

@@ -1,5 +1,4 @@
 use Rattle.std.proofs.Common.{◌≡◌, ◌+◌, ◌*◌, ◌++◌, map, drop, filter}
-use Rattle.eds_tree.specs.Trees.{children_at}
 use Rattle.eds_plan.specs.Statements.{condition}
 use Rattle.eds_read_act.specs.Scopes.{scope_of}
 use Rattle.eds_read_act.specs.Bodies.{is_condition_at, condition_at}

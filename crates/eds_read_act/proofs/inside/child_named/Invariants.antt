@@ -1,4 +1,4 @@
-use Rattle.std.proofs.Common.{◌≡◌, ◌++◌, map, length}
+use Rattle.std.proofs.Common.{◌≡◌, length}
 use Rattle.eds_tree.specs.Trees.{is_named}
 use Rattle.eds_read_act.specs.Inside.{first_where, child_named}
 use Rattle.eds_read_act.proofs.inside.child_named.Given as goal

@@ -1,4 +1,4 @@
-use Rattle.std.proofs.Common.{◌≡◌, ◌++◌, map, length}
+use Rattle.std.proofs.Common.{◌≡◌, length}
 use Rattle.eds_read_act.specs.Inside.{first_where, gives, given_for}
 use Rattle.eds_read_act.proofs.inside.given_for.Given as goal
 

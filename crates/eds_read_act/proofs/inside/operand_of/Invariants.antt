@@ -1,4 +1,4 @@
-use Rattle.std.proofs.Common.{◌≡◌, ◌++◌, map, length}
+use Rattle.std.proofs.Common.{◌≡◌, length}
 use Rattle.eds_read_act.specs.Inside.{first_where, is_operand_at, operand_of}
 use Rattle.eds_read_act.proofs.inside.operand_of.Given as goal
 

@@ -1,4 +1,4 @@
-use Rattle.std.proofs.Common.{◌≡◌, ◌++◌, map, length}
+use Rattle.std.proofs.Common.{◌≡◌, length}
 use Rattle.eds_read_act.specs.Naming.{entry_among}
 use Rattle.eds_read_act.proofs.naming.entry_among.Given as goal
 

@@ -1,4 +1,4 @@
-use Rattle.std.proofs.Common.{rules, arith, lit<}
+use Rattle.std.proofs.Common.{arith, lit<}
 use Rattle.eds_read_act.proofs.Names.{names-cut, names-whole, after-shorter}
 use Rattle.eds_read_act.proofs.naming.first_name.Goals as goal
 

@@ -1,4 +1,4 @@
-use Rattle.std.proofs.Common.{◌≡◌, ◌++◌, map, length}
+use Rattle.std.proofs.Common.{◌≡◌, ◌++◌, length}
 use Rattle.eds_plan.specs.Carried.{carried_fields}
 use Rattle.eds_read_act.proofs.sending.carried.Given as goal
 
