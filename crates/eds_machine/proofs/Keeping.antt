@@ -1,5 +1,5 @@
 -- After an event each machine is in one of its states, and at such times.
-use Rattle.std.proofs.Common.{◌≡◌, ◌≤◌, ◌<◌, ◌+◌, ◌-◌, ℕ, zero, suc, List, [], ◌∷◌, length, map, Bool, true, false, Option, Some, None, slice_get, refl, sym, ap, subst, ◌∙◌, arith}
+use Rattle.std.proofs.Common.{◌≡◌, ◌<◌, ◌+◌, ◌-◌, ℕ, zero, suc, List, [], ◌∷◌, length, map, Bool, true, false, Option, Some, None, slice_get, refl, sym, ap, subst, ◌∙◌, arith}
 use Rattle.std.specs.Prelude.{slice_set, ◌&&◌, if◌then◌else◌, OnOk, IfOk, Result, Ok, Err}
 use Rattle.std.specs.List.{AllByRecursion, find}
 use Rattle.eds_base.specs.declared.fail.Memory.{Memory}
@@ -21,8 +21,8 @@ use Rattle.eds_plan.specs.Sends.{Sent}
 use Rattle.eds_act.specs.Does.{AllConform, variable_types}
 use Rattle.eds_machine.specs.declared.event.Event.{Event}
 use Rattle.eds_machine.specs.declared.event.Event.TheVariants as event
-use Rattle.eds_machine.specs.Conditions.{AreTimely, IsTimely, HasStates, MachinesFit, IsStateAt}
-use Rattle.eds_machine.specs.Reactions.{Reacting, standing, settles, stays, taken, is_open, at_entry, at_exit, acts, moves, goes, goes_or_stays, machine_reacts, machines_react, map_reacts, mapped, mapped_by, maps_to, is_required, fires, reacts, starts, fresh, begins, trigger_of}
+use Rattle.eds_machine.specs.Conditions.{AreTimely, IsTimely, HasStates, IsStateAt}
+use Rattle.eds_machine.specs.Reactions.{Reacting, standing, settles, stays, taken, is_open, at_entry, at_exit, acts, moves, goes_or_stays, machine_reacts, machines_react, map_reacts, mapped, mapped_by, maps_to, is_required, fires, reacts, starts, fresh, begins, trigger_of}
 
 timely_set : (now : ℕ) (ms : List Machine) (rs : List MachineState) (i : ℕ) (machine : Machine) (m : MachineState) → slice_get ms i ≡ Some machine → IsTimely now machine m → AreTimely now ms rs → AreTimely now ms (slice_set rs i m)
 timely_set now [] rs i machine m at ok h = absurd cc
@@ -98,7 +98,7 @@ module _ (packs : ℕ → Plain → Bool) (t : Table) (c : ComponentPlan) where
       go (Some x) q =
           let there : x.to < length machine.states = found_holds (λ (y : Transition). y.to < length machine.states) (λ y. waits_for (standing r.machines i).at e y && is_open t c args r.world.variables r.world.waiting y) machine.transitions x q states.to in
           subst (λ rs. AreTimely now c.machines (slice_set rs i (record { at = x.to; entered = now; passed = now }))) (sym (moves_same args i machine (standing r.machines i).at x r))
-            (timely_set now c.machines r.machines i machine (record { at = x.to; entered = now; passed = now }) at (record { at = there; entered = omega arith; passed = omega arith }) h)
+          (timely_set now c.machines r.machines i machine (record { at = x.to; entered = now; passed = now }) at (record { at = there; entered = omega arith; passed = omega arith }) h)
 
   machines_keep : (now : ℕ) (e : Trigger) (args : List Plain) (i : ℕ) (ms : List Machine) (r : Reacting) → ((k : ℕ) → slice_get c.machines (i + k) ≡ slice_get ms k) → AllByRecursion HasStates ms → AreTimely now c.machines r.machines → AreTimely now c.machines (machines_react packs t c now e args i ms r).machines
   machines_keep now e args i [] r same states h = h
@@ -112,7 +112,7 @@ module _ (packs : ℕ → Plain → Bool) (t : Table) (c : ComponentPlan) where
   pub reacts_keep : (now : ℕ) (e : Event) (r : Reacting) → AllByRecursion HasStates c.machines → AreTimely now c.machines r.machines → AreTimely now c.machines (reacts packs t c now e r).machines
   reacts_keep now (event.Prim p) r states h =
       all_keep now (trigger_of p.op p.end.face p.member) (map plain p.arguments) (map_reacts c p.end.face p.member p.op (map plain p.arguments) r) states
-        (subst (AreTimely now c.machines) (sym (map_same c p.end.face p.member p.op (map plain p.arguments) r)) h)
+      (subst (AreTimely now c.machines) (sym (map_same c p.end.face p.member p.op (map plain p.arguments) r)) h)
   reacts_keep now (event.Timer i) r states h = go (slice_get c.machines i) refl
     where
       go : (o : Option Machine) → slice_get c.machines i ≡ o → AreTimely now c.machines (fires packs t c now i o r).machines

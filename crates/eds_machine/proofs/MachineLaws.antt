@@ -1,6 +1,6 @@
 -- Laws of machines and their timers.
-use Rattle.std.proofs.Common.{◌≡◌, ◌<◌, ◌+◌, ◌-◌, ℕ, zero, suc, List, [], ◌∷◌, length, Bool, true, false, cond, Option, Some, None, slice_get, refl, sym, ap, subst, ◌∙◌, arith}
-use Rattle.std.specs.Prelude.{slice_set, nat_lt, nat_eq, unwrap_or}
+use Rattle.std.proofs.Common.{◌≡◌, ◌<◌, ◌+◌, ◌-◌, ℕ, zero, suc, List, [], ◌∷◌, length, Bool, true, false, cond, Option, Some, None, refl, ap, subst, ◌∙◌, arith}
+use Rattle.std.specs.Prelude.{slice_set, nat_lt, nat_eq}
 use Rattle.std.proofs.lemmas.Bool.Decides.{nat_tests}
 use Rattle.eds_types.specs.Plain.{Plain}
 use Rattle.eds_types.specs.Rows.{Table}
@@ -12,7 +12,7 @@ use Rattle.eds_plan.specs.declared.machine.Trigger.TheVariants as trigger
 use Rattle.eds_plan.specs.declared.run.MachineState.{MachineState}
 use Rattle.eds_machine.specs.Laws.{UntakenChangesNothing, MomentsAreLater, MomentsPass}
 use Rattle.eds_machine.specs.Moments.{moment_by, moment, sooner, next_moment}
-use Rattle.eds_machine.specs.Reactions.{Reacting, standing, taken, goes_or_stays, machine_reacts, fires, stays, moves}
+use Rattle.eds_machine.specs.Reactions.{Reacting, standing, taken, goes_or_stays, machine_reacts, fires}
 use Rattle.eds_machine.proofs.Keeping.{moves_same}
 
 pub untaken_changes_nothing : UntakenChangesNothing

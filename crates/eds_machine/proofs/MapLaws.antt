@@ -1,6 +1,6 @@
 -- What the parameter map stores conforms.
 use Rattle.std.proofs.Common.{◌≡◌, ℕ, zero, suc, List, [], ◌∷◌, map, Bool, true, false, Option, Some, None, slice_get, refl, sym, ap, subst, ◌∙◌}
-use Rattle.std.specs.Prelude.{slice_set, OnOk, OnErr, Result, Ok, Err, ◌&&◌, ◌==◌, if◌then◌else◌}
+use Rattle.std.specs.Prelude.{slice_set, OnOk, OnErr, Result, Ok, Err, if◌then◌else◌}
 use Rattle.std.specs.List.{AllByRecursion, find}
 use Rattle.std.proofs.lemmas.Bool.Decides.{nat_tests}
 use Rattle.std.proofs.Common.{arith}
@@ -15,14 +15,13 @@ use Rattle.eds_plan.specs.declared.component.ComponentPlan.{ComponentPlan}
 use Rattle.eds_plan.specs.declared.component.EndPlan.{EndPlan}
 use Rattle.eds_plan.specs.declared.component.MapPlan.{MapPlan}
 use Rattle.eds_plan.specs.declared.component.VarPlan.{VarPlan}
-use Rattle.eds_plan.specs.declared.instance.Argument.{Argument}
 use Rattle.eds_plan.specs.declared.instance.Member.{Member}
 use Rattle.eds_plan.specs.declared.instance.Member.TheVariants as member
 use Rattle.eds_plan.specs.declared.run.CompState.{CompState}
 use Rattle.eds_plan.specs.declared.run.Primitive.{Primitive}
 use Rattle.eds_plan.specs.declared.run.Send.{Send}
 use Rattle.eds_plan.specs.declared.run.Way.{Way}
-use Rattle.eds_act.specs.Does.{Conforms, AllConform, variable_types, carried, carried_of}
+use Rattle.eds_act.specs.Does.{Conforms, AllConform, variable_types, carried}
 use Rattle.eds_act.proofs.Conforming.{conform_set}
 use Rattle.eds_machine.specs.Conditions.{MapFits, MachinesFit, Arrives}
 use Rattle.eds_machine.specs.Reactions.{Reacting, reacting, stored, mapped, mapped_by, map_reacts, maps_to, is_required}
@@ -94,7 +93,7 @@ module _ (t : Table) (c : ComponentPlan) where
       go (Some m) q =
           let f = found_fits p.end.face p.member c.maps m q fits in
           mapped_conforms (is_required c p.end.face) p.op p.way (slice_get e.instance.members p.member) p.end.face p.member m.variable (map plain p.arguments) r
-            (λ name id read_only is y there. f.0 e y name id read_only (ap (slice_get c.ends) f.1 ∙ at) (ap (slice_get e.instance.members) f.2 ∙ is) there) h all
+          (λ name id read_only is y there. f.0 e y name id read_only (ap (slice_get c.ends) f.1 ∙ at) (ap (slice_get e.instance.members) f.2 ∙ is) there) h all
 
   pub map_conforms : (res : Result (Unit {0}) Memory) (comp : ℕ) (p : Primitive) (s s' : CompState) (out out' : List Send) (left : ℕ) → MachinesFit t c → Arrives t comp c p → AllConform t (variable_types c) (map plain s.variables) → OnErr res (s'.variables ≡ s.variables) → OnOk res (reacting comp s' out' left ≡ map_reacts c p.end.face p.member p.op (map plain p.arguments) (reacting comp s out left)) → AllConform t (variable_types c) (map plain s'.variables)
   map_conforms (Ok u) comp p s s' out out' left fits a all kept ok = subst (AllConform t (variable_types c)) (sym (ap (λ (r : Reacting). r.world.variables) ok)) (reacts_conforms p a.end (reacting comp s out left) fits.maps a.end_is a.arguments all)

@@ -1,6 +1,5 @@
 -- Where machines stand, and since when.
 use Rattle.std.proofs.Common.{◌≡◌, ◌≤◌, ℕ, zero, suc, List, [], ◌∷◌, length, refl, ap, arith}
-use Rattle.std.specs.Prelude.{slice_get, unwrap_or}
 use Rattle.eds_plan.specs.declared.machine.Machine.{Machine}
 use Rattle.eds_plan.specs.declared.run.MachineState.{MachineState}
 use Rattle.eds_machine.specs.Conditions.{AreTimely}

@@ -19,7 +19,6 @@ use Rattle.eds_plan.specs.declared.machine.Trigger.TheVariants as trigger
 use Rattle.eds_plan.specs.declared.run.CompState.{CompState}
 use Rattle.eds_plan.specs.declared.run.MachineState.{MachineState}
 use Rattle.eds_plan.specs.declared.run.Outstanding.{Outstanding}
-use Rattle.eds_plan.specs.declared.run.Primitive.{Primitive}
 use Rattle.eds_plan.specs.declared.run.Send.{Send}
 use Rattle.eds_plan.specs.declared.run.Way.TheVariants.{Up}
 use Rattle.eds_plan.specs.Matching.{waits_for}

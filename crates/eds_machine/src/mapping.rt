@@ -11,9 +11,7 @@ ghost use Rattle.eds_machine.specs.Reactions.{reacting, maps_to as maps, stored,
 
 use crate::waiting::is_required;
 use eds_base::{CompId, Items, Memory};
-use eds_plan::{
-    CompState, ComponentPlan, End, MapPlan, Op, Primitive, Send, Sends, Values, Way,
-};
+use eds_plan::{CompState, ComponentPlan, End, MapPlan, Op, Primitive, Send, Sends, Values, Way};
 use eds_types::Value;
 use std::alloc::Global;
 
@@ -159,15 +157,7 @@ pub(crate) fn map_reacts(
         None => Ok(()),
         Some(map) => {
             let required = is_required(component, face);
-            mapped(
-                alloc,
-                comp,
-                required,
-                primitive,
-                map.variable,
-                state,
-                out,
-            )?;
+            mapped(alloc, comp, required, primitive, map.variable, state, out)?;
             Ok(())
         }
     }

@@ -57,9 +57,7 @@ fn open_at<'a>(
     match machine.transitions.get(usize::from(place)) {
         None => None,
         Some(transition) => {
-            if is_open(
-                table, component, arguments, variables, waiting, transition,
-            ) {
+            if is_open(table, component, arguments, variables, waiting, transition) {
                 Some(transition)
             } else {
                 None

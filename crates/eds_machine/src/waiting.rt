@@ -108,8 +108,13 @@ fn settle_at(
         None => Ok(()),
         Some(name) => {
             if is_required(component, face) {
-                state.outstanding =
-                    without(alloc, state.outstanding.as_slice(), face, member, name)?;
+                state.outstanding = without(
+                    alloc,
+                    state.outstanding.as_slice(),
+                    face,
+                    member,
+                    name,
+                )?;
             }
             Ok(())
         }
