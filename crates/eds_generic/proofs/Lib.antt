@@ -13,3 +13,4 @@ pub mod Cycling
 pub mod Endless
 pub mod ReadingFacts
 pub mod InTurn
+pub mod UseLaws

@@ -11,3 +11,4 @@ pub mod Every
 pub mod EachOnce
 pub mod Sameness
 pub mod Sheets
+pub mod Uses

@@ -38,7 +38,7 @@ fn alone_at(
 }
 
 /// The first break at an interface without own generic names.
-fn least_alone(
+pub(crate) fn least_alone(
     alloc: Global,
     faces: &[Face],
     types: &[Option<TypeId>],

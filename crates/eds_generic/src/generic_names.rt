@@ -1,4 +1,4 @@
-//! Generic names by their positions.
+//! Names by their positions.
 
 ghost use Rattle.std.specs.Prelude.{◌≡◌, ℕ, List, OnOk, IfOk};
 ghost use Rattle.std.specs.HashMap.{get_by_text};
@@ -10,9 +10,9 @@ use indexmap::IndexMap;
 use std::alloc::Global;
 use std::marker::Model;
 
-/// The generic names of an interface, in order. The position of a name is found by hash.
+/// Names in order, as the generic names of an interface. The position of a name is found by hash.
 #[derive(Drop)]
-pub(crate) struct GenericNames {
+pub struct GenericNames {
     names: Items<Text>,
     index: IndexMap<String, usize>,
 }
@@ -57,7 +57,7 @@ fn index_of(alloc: Global, names: &[Text]) -> Result<IndexMap<String, usize>, Me
 
 impl GenericNames {
     /// These names.
-    pub(crate) fn of(alloc: Global, names: Vec<Text>) -> Result<GenericNames, Memory>
+    pub fn of(alloc: Global, names: Vec<Text>) -> Result<GenericNames, Memory>
         ensures { IfOk result (λ g. g ≡ names.items) }
     {
         let index = index_of(alloc, names.as_slice())?;
@@ -68,7 +68,7 @@ impl GenericNames {
     }
 
     /// The position of a name among them, of several of one name the first.
-    pub(crate) fn position(&self, name: &str) -> Option<usize>
+    pub fn position(&self, name: &str) -> Option<usize>
         ensures { result ≡ place_among self.now name.now }
     {
         self.index.get(name).copied()

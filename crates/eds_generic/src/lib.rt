@@ -3,6 +3,7 @@
 #![tactic(auto)]
 
 mod cycle;
+mod elements;
 mod every;
 mod face;
 mod found;
@@ -16,9 +17,15 @@ mod read;
 mod resolving;
 mod rules;
 mod sheet;
+mod used;
 
+pub use elements::{
+    face_found, held_among, held_by, held_in_sets, own_name, place, read_only, text_of, type_found,
+};
 pub use every::judge_faces;
 pub use face::{Base, Face, Faces, Generic, Mapped, OwnArgument, OwnMember, Source};
+pub use generic_names::GenericNames;
 pub use read::read_faces;
 pub use resolving::resolve_face;
 pub use sheet::{bases_of, check_faces, resolve};
+pub use used::{FaceUse, instance, judge_uses};

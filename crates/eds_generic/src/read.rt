@@ -5,12 +5,15 @@ ghost use Rattle.std.specs.Option.{option_copied};
 ghost use Rattle.std.specs.List.{flat_map};
 ghost use Rattle.eds_tree.specs.Trees.{attribute_at};
 ghost use Rattle.eds_generic.specs.Faces.{place_among};
-ghost use Rattle.eds_generic.specs.Reading.{is_yes, held, held_in, own_name as own_name_of, type_of as type_of_item, face_of as face_of_item, type_found as type_found_by, face_found as face_found_by, type_or_first, names_among, names_at as names_at_place, base_type as base_type_of, generic_of as generic_at, source_named as source_at_name, source_of as source_at, mapped_of as mapped_at, base_face as base_face_of, base_of as base_at, mode_named as mode_by_name, parameter_of, argument_of as argument_at, command_of, members_of, face_at, face_of_place, face_places as face_places_of, faces_of};
+ghost use Rattle.eds_generic.specs.Reading.{own_name as own_name_of, type_or_first, names_among, names_at as names_at_place, base_type as base_type_of, generic_of as generic_at, source_named as source_at_name, source_of as source_at, mapped_of as mapped_at, base_face as base_face_of, base_of as base_at, mode_named as mode_by_name, parameter_of, argument_of as argument_at, command_of, members_of, face_at, face_of_place, face_places as face_places_of, faces_of};
 
+use crate::elements::{
+    face_found, held_by, held_in_sets, own_name, place, read_only, text_of, type_found,
+};
 use crate::face::{Base, Face, Generic, Mapped, OwnArgument, OwnMember, Source};
 use crate::generic_names::GenericNames;
 use eds_base::{FaceId, Items, Memory, Place, Text, TypeId};
-use eds_names::{Item, Space};
+use eds_names::Space;
 use eds_plan::Mode;
 use eds_tree::Tree;
 use std::alloc::Global;
@@ -23,110 +26,6 @@ struct File<'a> {
     file: u16,
     /// The generic names of each interface.
     all: &'a [GenericNames],
-}
-
-fn place(file: u16, node: u32) -> Place
-    ensures { result ≡ record { file = file; node = node } }
-{
-    Place { file, node }
-}
-
-fn push_held(nodes: &mut Vec<u32>, tree: &Tree, name: &str, node: u32) -> Result<(), Memory>
-    ensures { OnOk result (nodes.new.items ≡ nodes.old.items ++ held tree.now name.now node) }
-{
-    for child in tree.children_at(node) {
-        if tree.name_at(*child) == name {
-            nodes.push(*child)?;
-        }
-    }
-    Ok(())
-}
-
-fn held_by(alloc: Global, tree: &Tree, name: &str, node: u32) -> Result<Vec<u32>, Memory>
-    ensures { IfOk result (λ v. v.items ≡ held tree.now name.now node) }
-{
-    let mut nodes = Vec::new(alloc);
-    push_held(&mut nodes, tree, name, node)?;
-    Ok(nodes)
-}
-
-fn held_among(alloc: Global, tree: &Tree, name: &str, sets: &[u32]) -> Result<Vec<u32>, Memory>
-    ensures { IfOk result (λ v. v.items ≡ flat_map (held tree.now name.now) sets.now) }
-{
-    let mut nodes = Vec::new(alloc);
-    for set in sets {
-        push_held(&mut nodes, tree, name, *set)?;
-    }
-    Ok(nodes)
-}
-
-fn held_in_sets(
-    alloc: Global,
-    tree: &Tree,
-    set: &str,
-    name: &str,
-    node: u32,
-) -> Result<Vec<u32>, Memory>
-    ensures { IfOk result (λ v. v.items ≡ held_in tree.now set.now name.now node) }
-{
-    let sets = held_by(alloc, tree, set, node)?;
-    held_among(alloc, tree, name, sets.as_slice())
-}
-
-fn own_name(tree: &Tree, node: u32) -> &str
-    ensures { result.now ≡ own_name_of tree.now node }
-{
-    match tree.attribute_at(node, "name") {
-        Some(name) => name,
-        None => "",
-    }
-}
-
-fn text_of<'a>(tree: &'a Tree, node: u32, name: &str) -> &'a str
-    ensures { result.now ≡ unwrap_or (attribute_at tree.now node name.now) [] }
-{
-    match tree.attribute_at(node, name) {
-        Some(text) => text,
-        None => "",
-    }
-}
-
-fn type_of(item: Item) -> Option<TypeId>
-    ensures { result ≡ type_of_item item }
-{
-    match item {
-        Item::Sort(id) => Some(id),
-        Item::Face(_) => None,
-        Item::Comp(_) => None,
-    }
-}
-
-fn face_of(item: Item) -> Option<FaceId>
-    ensures { result ≡ face_of_item item }
-{
-    match item {
-        Item::Sort(_) => None,
-        Item::Face(id) => Some(id),
-        Item::Comp(_) => None,
-    }
-}
-
-fn type_found(alloc: Global, space: &Space, at: Place, text: &str) -> Result<Option<TypeId>, Memory>
-    ensures { IfOk result (λ id. id ≡ type_found_by space.now at text.now) }
-{
-    match space.look_up(alloc, at, text)? {
-        None => Ok(None),
-        Some(item) => Ok(type_of(item)),
-    }
-}
-
-fn face_found(alloc: Global, space: &Space, at: Place, text: &str) -> Result<Option<FaceId>, Memory>
-    ensures { IfOk result (λ id. id ≡ face_found_by space.now at text.now) }
-{
-    match space.look_up(alloc, at, text)? {
-        None => Ok(None),
-        Some(item) => Ok(face_of(item)),
-    }
 }
 
 fn names_of(alloc: Global, tree: &Tree, nodes: &[u32]) -> Result<Vec<Text>, Memory>
@@ -288,13 +187,6 @@ fn bases_of(
         bases.push(base)?;
     }
     Ok(bases)
-}
-
-fn read_only(tree: &Tree, node: u32) -> bool
-    ensures { result ≡ is_yes (unwrap_or (attribute_at tree.now node (codes "readOnly")) []) }
-{
-    let text = text_of(tree, node, "readOnly");
-    text == "true" || text == "1"
 }
 
 fn mode_named(text: &str) -> Mode

@@ -62,7 +62,7 @@ fn least_break(alloc: Global, asked: &Asked, members: &[Member]) -> Result<Optio
     Ok(Refusal::first(found, generic))
 }
 
-fn copied_map(alloc: Global, given: &[(Text, TypeId)]) -> Result<TypeMap, Memory>
+pub(crate) fn copied_map(alloc: Global, given: &[(Text, TypeId)]) -> Result<TypeMap, Memory>
     ensures { IfOk result (λ m. m ≡ given.now) }
 {
     let mut copy = Vec::new(alloc);

@@ -1,5 +1,5 @@
 -- Plans that fit their table: what is named is there, and operands fit what takes them.
-use Rattle.std.specs.Prelude.{◌≡◌, ◌≢◌, ℕ, suc, ◌+◌, ◌<◌, ℤ, pos, List, [], ◌∷◌, length, map, Bool, true, false, if◌then◌else◌, Option, Some, None, slice_get, ◌⊎◌}
+use Rattle.std.specs.Prelude.{◌≡◌, ◌≢◌, ℕ, suc, ◌+◌, ◌<◌, ℤ, pos, List, [], ◌∷◌, length, map, Option, Some, None, slice_get, ◌⊎◌}
 use Rattle.std.specs.List.{AllByRecursion}
 use Rattle.eds_base.specs.declared.ids.TypeId.{TypeId}
 use Rattle.eds_bits.specs.Lists.{Has}
@@ -10,7 +10,6 @@ use Rattle.eds_types.specs.declared.row.Part.TheVariants as part
 use Rattle.eds_types.specs.Fields.{part_at, IsAtOrUnder}
 use Rattle.eds_types.specs.Plain.{Plain, plain, num}
 use Rattle.eds_types.specs.Rows.{Table, chain}
-use Rattle.eds_plan.specs.declared.activity.Action.{Action}
 use Rattle.eds_plan.specs.declared.activity.Activity.{Activity}
 use Rattle.eds_plan.specs.declared.activity.MathItem.{MathItem}
 use Rattle.eds_plan.specs.declared.activity.MathItem.TheVariants as math
@@ -19,7 +18,7 @@ use Rattle.eds_plan.specs.declared.activity.Op.TheVariants as op
 use Rattle.eds_plan.specs.declared.activity.Operand.{Operand}
 use Rattle.eds_plan.specs.declared.activity.Operand.TheVariants as source
 use Rattle.eds_plan.specs.declared.activity.Relation.{Relation}
-use Rattle.eds_plan.specs.declared.activity.Relation.TheVariants.{Equal, NotEqual, Less, LessOrEqual, Greater, GreaterOrEqual}
+use Rattle.eds_plan.specs.declared.activity.Relation.TheVariants.{Equal, NotEqual}
 use Rattle.eds_plan.specs.declared.activity.Target.{Target}
 use Rattle.eds_plan.specs.declared.component.ComponentPlan.{ComponentPlan}
 use Rattle.eds_plan.specs.declared.component.EndPlan.{EndPlan}

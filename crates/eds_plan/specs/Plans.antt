@@ -2,6 +2,7 @@
 use Rattle.std.specs.Prelude.{ℕ, List, [], slice_get, unwrap_or}
 use Rattle.eds_plan.specs.declared.activity.Activity.{Activity}
 use Rattle.eds_plan.specs.declared.component.ComponentPlan.{ComponentPlan}
+use Rattle.eds_plan.specs.declared.machine.Machine.{Machine}
 
 -- what stands for a component that isn't there
 abbrev pub no_component : ComponentPlan
@@ -18,3 +19,11 @@ component_at plan comp = unwrap_or (slice_get plan comp) no_component
 -- the activity of a number
 abbrev pub activity_at : ComponentPlan → ℕ → Activity
 activity_at c activity = unwrap_or (slice_get c.activities activity) no_activity
+
+-- what stands for a machine that isn't there
+abbrev pub no_machine : Machine
+no_machine = record { name = []; states = []; entry = 0; transitions = [] }
+
+-- the machine of a number
+abbrev pub machine_at : ComponentPlan → ℕ → Machine
+machine_at c machine = unwrap_or (slice_get c.machines machine) no_machine

@@ -1,5 +1,5 @@
 -- Conditions and statements as plain data.
-use Rattle.std.specs.Prelude.{ℕ, ℤ, List, [], ◌∷◌, map, Option, Some, None}
+use Rattle.std.specs.Prelude.{ℕ, ℤ, List, [], ◌∷◌, map, Option}
 use Rattle.eds_plan.specs.declared.activity.Operand.{Operand}
 use Rattle.eds_plan.specs.declared.activity.Target.{Target}
 use Rattle.eds_plan.specs.declared.activity.Action.{Action}

@@ -63,6 +63,3 @@ impl ComponentPlan {
         &self.transactions.as_slice()[number as usize]
     }
 }
-
-/// The components of a sheet, in document order.
-pub type Plan = Items<ComponentPlan>;

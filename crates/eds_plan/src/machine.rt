@@ -1,6 +1,6 @@
 //! State machines.
 
-use crate::{Action, Guard, Op};
+use crate::{Action, Guard, Op, Transitions};
 use eds_base::{Items, Text};
 
 /// A state, with what is done when it is entered and left.
@@ -41,5 +41,5 @@ pub struct Machine {
     pub name: Text,
     pub states: Items<State>,
     pub entry: u16,
-    pub transitions: Items<Transition>,
+    pub transitions: Transitions,
 }

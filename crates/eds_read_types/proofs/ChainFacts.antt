@@ -76,6 +76,9 @@ module _ (bases : List (Option TypeId)) (places : List Place) (known : (id : ℕ
       go None e = ap (list_any (λ base. base == id)) (no_bases bases (length bases) id (known id e))
       go (Some at) e = unmet (is_in_cycle bases id) _ (over-none (cycle_at bases) 0 places no_cycles id at e id (omega arith))
 
+  meets_none : (id : ℕ) → meets_cycle bases id ≡ false
+  meets_none id = none-any (is_in_cycle bases) in_no_cycle (id ∷ all_bases bases id)
+
   pub few_bases : (id : ℕ) → level bases id < 16
   unfolding level
   few_bases id = go (slice_get places id) refl
@@ -89,7 +92,7 @@ module _ (bases : List (Option TypeId)) (places : List Place) (known : (id : ℕ
 
       go : (o : Option Place) → slice_get places id ≡ o → length (bases_within 16 bases id) < 16
       go None e = let len = ap length (no_bases bases 16 id (known id e)) in omega (arith, len)
-      go (Some at) e = below (length (bases_within 16 bases id)) (short (is_long bases id) (meets_cycle bases id) (none-any (is_in_cycle bases) in_no_cycle (id ∷ all_bases bases id)) (unmet (is_long bases id && not (meets_cycle bases id)) _ (over-none (chain_at bases) 0 places no_long id at e id (omega arith))))
+      go (Some at) e = below (length (bases_within 16 bases id)) (short (is_long bases id) (meets_cycle bases id) (meets_none id) (unmet (is_long bases id && not (meets_cycle bases id)) _ (over-none (chain_at bases) 0 places no_long id at e id (omega arith))))
 
   -- the base has one base less
   pub less_bases : (id : ℕ) (base : TypeId) → base_at bases id ≡ Some base → level bases id ≡ suc (level bases base.0)

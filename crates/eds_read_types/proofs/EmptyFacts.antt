@@ -5,7 +5,7 @@ use Rattle.eds_types.specs.declared.row.Container.{Container}
 use Rattle.eds_types.specs.Rows.{Table, container_of}
 use Rattle.eds_types.specs.Sizes.{open_of}
 use Rattle.eds_read_types.specs.EmptyType.{is_empty, is_empty_container, is_hollow, has_empty_items, item_of, is_empty_within, may_be_empty}
-use Rattle.eds_read_types.proofs.PlainRules.{IsSolid}
+use Rattle.eds_read_types.proofs.PlainRules.{HasEntries}
 
 neither : (a b : Bool) → (a || b) ≡ false → (a ≡ false) × (b ≡ false)
 neither true b h = cc
@@ -56,7 +56,7 @@ bits-within n t id h =
 pub has_bits : (t : Table) (id : ℕ) → may_be_empty t id ≡ false → (is_hollow t id ≡ false) × (is_some (open_of t id) ≡ false)
 has_bits t id h = bits-within 31 t id h
 
-pub solid : (t : Table) (id : ℕ) → is_hollow t id ≡ false → IsSolid t id
+pub solid : (t : Table) (id : ℕ) → is_hollow t id ≡ false → HasEntries t id
 solid t id h c e none =
     let full : is_empty c.entries ≡ false = ap is_empty_container (sym e) ∙ h in
     let both : true ≡ false = ap is_empty (sym none) ∙ full in

@@ -19,7 +19,7 @@ repeat_of-present before at name h = rw h refl
 pub repeat_of-absent : (before : List (List ℕ)) (at : Place) (name : List ℕ) → is_among before name ≡ false → repeat_of before at name ≡ []
 repeat_of-absent before at name h = rw h refl
 
-repeats-same : (trees : List (List Node)) (before others : List (List ℕ)) (ats : List Place) → SameNames before others → repeats trees before ats ≡ repeats trees others ats
+pub repeats-same : (trees : List (List Node)) (before others : List (List ℕ)) (ats : List Place) → SameNames before others → repeats trees before ats ≡ repeats trees others ats
 repeats-same trees before others [] s = refl
 repeats-same trees before others (at ∷ ats) s = rw (s (own_name trees at), repeats-same trees (own_name trees at ∷ before) (own_name trees at ∷ others) ats (λ q. ap (λ b. same q (own_name trees at) || b) (s q))) refl
 

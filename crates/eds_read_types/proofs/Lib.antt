@@ -4,10 +4,14 @@ pub mod EndFacts
 pub mod ListingFacts
 pub mod LawFacts
 mod EntriesLemmas
+pub mod NameSets
 pub mod NoBreaks
 mod BaseSteps
 mod NumberSteps
 mod RowSteps
+mod ItemFacts
+mod SeatFacts
+mod ChainSteps
 pub mod SheetPlaces
 pub mod LevelFacts
 pub mod NestingFacts
@@ -30,3 +34,4 @@ pub mod Limits
 pub mod SequenceFacts
 pub mod FamilyFacts
 pub mod RowRules
+mod PartOrder

@@ -37,15 +37,14 @@ use Rattle.eds_names.specs.declared.declared.Declared.{Declared}
 use Rattle.eds_names.specs.Standings.{below, standings_of}
 use Rattle.eds_names.specs.Declarations.{Declaration, kind_of, declared_as, declaration_at, declarations_in, declarations_from, numbered, counted, item_of, none_counted, declared_in, is_sort}
 use Rattle.eds_names.specs.LookUp.{Names, duplicates, names_of, unless, names_in}
-use Rattle.eds_types.specs.Rows.{container_by, entries_in}
+use Rattle.eds_types.specs.Rows.{trailers_in, container_by, entries_in}
 use Rattle.eds_read_types.proofs.SheetPlaces.{Standing, link_of, links}
-use Rattle.eds_read_types.specs.Places.{element, is_element, in_file, held, is_container, is_type, types, type_places}
+use Rattle.eds_read_types.specs.Places.{element, is_element, in_file, held, is_container, is_array, is_type, types, type_places}
 use Rattle.eds_read_types.specs.PartSorts.{part_sort_of}
-use Rattle.eds_read_types.specs.Entries.{is_part, parts_held, entries_at}
-use Rattle.eds_read_types.specs.PartRows.{part_at}
+use Rattle.eds_read_types.specs.Entries.{trailers_at, is_part, parts_held, entries_at}
 use Rattle.eds_read_types.specs.Bases.{bases_of}
 use Rattle.eds_read_types.specs.Numbers.{numbers_of}
-use Rattle.eds_read_types.specs.TableRows.{scalar_kind_by, scalar_kind_in, kind_of as kind_at, table_row, rows_from, table_rows, has_few_entries, are_few}
+use Rattle.eds_read_types.specs.TableRows.{part_in, scalar_kind_by, scalar_kind_in, array_kind, kind_of as kind_at, table_row, rows_from, table_rows, has_few_entries, are_few}
 use Rattle.eds_read_types.specs.declared.sort.Sort.{Sort}
 use Rattle.eds_read_types.specs.declared.sort.Sort.TheVariants as sort
 use Rattle.eds_read_types.specs.Sorts.{sort_of}
@@ -61,7 +60,7 @@ rank name =
     if same name (codes "Component") then 3 else
     if same name (codes "DataTypeSet") then 4 else
     if ends_with nat_eq name (codes "DataType") then 5 else
-    if same name (codes "EntryList") then 6 else 7
+    if same name (codes "EntryList") || same name (codes "TrailerEntryList") then 6 else 7
 
 -- names as their characters
 abbrev group : List String → List (List ℕ)
@@ -303,14 +302,19 @@ names_part t n = is_some (part_sort_of (name_at t n))
 abbrev parts_below : List Node → ℕ → List ℕ
 parts_below t n = filter (names_part t) (children_at t n)
 
--- the entries of a container
-abbrev entries : List Node → ℕ → List ℕ
-entries t n = flat_map (parts_below t) (named t (codes "EntryList") n)
+-- the lists of parts that a container has: that of its entries, or of its trailers
+abbrev list_name : (trailing : Bool) → List ℕ
+list_name false = codes "EntryList"
+list_name true = codes "TrailerEntryList"
+
+-- the entries of a container, or its trailers
+abbrev entries : List Node → (trailing : Bool) → ℕ → List ℕ
+entries t b n = flat_map (parts_below t) (named t (list_name b) n)
 
 -- a type stands in a set of types, and a container has few entries
 record IsSound (t : List Node) (link : Link) : Type 0 where
   typed : ends_with nat_eq (name_at t link.node) (codes "DataType") ≡ true → stands_under t (codes "DataTypeSet") (codes "DATATYPE") link ≡ true
-  few : same (name_at t link.node) (codes "ContainerDataType") ≡ true → length (entries t link.node) ≤ 32767
+  few : same (name_at t link.node) (codes "ContainerDataType") ≡ true → (trailing : Bool) → length (entries t trailing link.node) ≤ 32767
 
 -- an element is described by the table, and as many elements of lower ranks are there as stand above it
 record IsPlaced (t : List Node) (depth : ℕ) (link : Link) : Type 0 where
@@ -336,15 +340,20 @@ and-false : (b : Bool) → false ≡ (b && false)
 and-false true = refl
 and-false false = refl
 
-list-counts : (name : List ℕ) → same name (codes "EntryList") ≡ (not (is_passed_over name) && is_member (codes "EntryList") name)
-list-counts name = go (same name (codes "EntryList")) refl
+list-counts : (trailing : Bool) (name : List ℕ) → same name (list_name trailing) ≡ (not (is_passed_over name) && is_member (list_name trailing) name)
+list-counts false name = go (same name (codes "EntryList")) refl
   where
     go : (b : Bool) → same name (codes "EntryList") ≡ b → b ≡ (not (is_passed_over name) && is_member (codes "EntryList") name)
     go true e = let is = same-is name (codes "EntryList") e in subst (λ n. true ≡ (not (is_passed_over n) && is_member (codes "EntryList") n)) (sym is) refl
     go false e = let other : is_member (codes "EntryList") name ≡ false = bytes_eq-sym (codes "EntryList") name ∙ e in rw other (and-false (not (is_passed_over name)))
+list-counts true name = go (same name (codes "TrailerEntryList")) refl
+  where
+    go : (b : Bool) → same name (codes "TrailerEntryList") ≡ b → b ≡ (not (is_passed_over name) && is_member (codes "TrailerEntryList") name)
+    go true e = let is = same-is name (codes "TrailerEntryList") e in subst (λ n. true ≡ (not (is_passed_over n) && is_member (codes "TrailerEntryList") n)) (sym is) refl
+    go false e = let other : is_member (codes "TrailerEntryList") name ≡ false = bytes_eq-sym (codes "TrailerEntryList") name ∙ e in rw other (and-false (not (is_passed_over name)))
 
-lists_counted : (t : List Node) (n : ℕ) → named t (codes "EntryList") n ≡ members_of t (codes "EntryList") (children_of t n)
-lists_counted t n = keep_both (is_named t (codes "EntryList")) (λ c. not (is_passed_over (name_at t c))) (λ c. is_member (codes "EntryList") (name_at t c)) (λ c. list-counts (name_at t c)) (children_at t n)
+lists_counted : (t : List Node) (trailing : Bool) (n : ℕ) → named t (list_name trailing) n ≡ members_of t (list_name trailing) (children_of t n)
+lists_counted t b n = keep_both (is_named t (list_name b)) (λ c. not (is_passed_over (name_at t c))) (λ c. is_member (list_name b) (name_at t c)) (λ c. list-counts b (name_at t c)) (children_at t n)
 
 abbrev children_in : Option ElementShape → List ChildRow
 children_in None = []
@@ -358,20 +367,24 @@ container_holds : (above : List ℕ) (s : ElementShape) → shape_named above (c
 unfolding table_one table_two table_three table_four table_five
 container_holds above s e = sym (ap children_in e)
 
-of_three : {A : Type 0} (f : ChildRow → List A) (x y z : ChildRow) → flat_map f (x ∷ y ∷ z ∷ []) ≡ [] → f y ≡ []
-of_three f x y z h = (append-none (f y) (f z ++ []) (append-none (f x) (f y ++ (f z ++ [])) h).1).0
+of_three : {A : Type 0} (f : ChildRow → List A) (x y z : ChildRow) → flat_map f (x ∷ y ∷ z ∷ []) ≡ [] → (f y ≡ []) × (f z ≡ [])
+of_three f x y z h = let rest = append-none (f y) (f z ++ []) (append-none (f x) (f y ++ (f z ++ [])) h).1 in (rest.0, (append-none (f z) [] rest.1).0)
 
 -- a container whose children are supported has one list of entries at most
 one_list : (t : List Node) (link : Link) (s : ElementShape) → name_at t link.node ≡ codes "ContainerDataType" → shape_at t link ≡ Some s → unknown_children t link (Some s) ≡ []
-    → AllByRecursion (λ c. is_supported t link.node c ≡ true) (children_of t link.node) → drop 1 (members_of t (codes "EntryList") (children_of t link.node)) ≡ []
-one_list t link s named known judged supported =
+    → AllByRecursion (λ c. is_supported t link.node c ≡ true) (children_of t link.node) → (trailing : Bool) → drop 1 (members_of t (list_name trailing) (children_of t link.node)) ≡ []
+one_list t link s named known judged supported b =
     let cs = children_of t link.node in
     let test = is_supported t link.node in
     let many : flat_map (λ row. filter test (too_many t cs row)) s.children ≡ [] = (append-none (filter test (unlisted t s.children cs)) (flat_map (λ row. filter test (too_many t cs row)) s.children) judged).1 in
     let rows = container_holds (name_at t link.parent) s (subst (λ n. shape_named (name_at t link.parent) n ≡ Some s) named known) in
     let lists = of_three (λ row. filter test (too_many t cs row)) (at_most_one "ConstraintSet") (at_most_one "EntryList") (at_most_one "TrailerEntryList") (subst (λ rows. flat_map (λ row. filter test (too_many t cs row)) rows ≡ []) rows many) in
-    let members = members_of t (codes "EntryList") cs in
-    all-pass test (drop 1 members) (all-dropped (λ c. test c ≡ true) members (all-kept (λ c. test c ≡ true) (λ c. is_member (codes "EntryList") (name_at t c)) cs supported)) lists
+    let members = members_of t (list_name b) cs in
+    all-pass test (drop 1 members) (all-dropped (λ c. test c ≡ true) members (all-kept (λ c. test c ≡ true) (λ c. is_member (list_name b) (name_at t c)) cs supported)) (of_list b lists)
+  where
+    of_list : (b : Bool) → (filter (is_supported t link.node) (too_many t (children_of t link.node) (at_most_one "EntryList")) ≡ []) × (filter (is_supported t link.node) (too_many t (children_of t link.node) (at_most_one "TrailerEntryList")) ≡ []) → filter (is_supported t link.node) (drop 1 (members_of t (list_name b) (children_of t link.node))) ≡ []
+    of_list false h = h.0
+    of_list true h = h.1
 
 few-there : {A : Type 0} (xs : List A) (n : ℕ) → slice_get xs n ≡ None → length xs ≤ n
 few-there [] n e = omega arith
@@ -440,12 +453,16 @@ placed_children t depth link p j h = go (shape_at t link) refl p.known j.childre
 
 -- ---- the entries of a container
 
+list_rank : (trailing : Bool) → rank (list_name trailing) ≡ 6
+list_rank false = refl
+list_rank true = refl
+
 -- a container has no list of entries where no element stands that deep
-no_lists : (t : List Node) (link : Link) → IsPlaced t 1 link → name_at t link.node ≡ codes "ContainerDataType" → (lists : List ℕ) → AllByRecursion (λ c. is_named t (codes "EntryList") c ≡ true) lists → lists ≡ []
-no_lists t link p is [] h = refl
-no_lists t link p is (n ∷ lists) h =
+no_lists : (t : List Node) (link : Link) → IsPlaced t 1 link → name_at t link.node ≡ codes "ContainerDataType" → (trailing : Bool) (lists : List ℕ) → AllByRecursion (λ c. is_named t (list_name trailing) c ≡ true) lists → lists ≡ []
+no_lists t link p is b [] h = refl
+no_lists t link p is b (n ∷ lists) h =
     let five : rank (name_at t link.node) ≡ 5 = ap rank is in
-    let six : rank (name_at t n) ≡ 6 = ap rank (same-is (name_at t n) (codes "EntryList") h.0) in
+    let six : rank (name_at t n) ≡ 6 = ap rank (same-is (name_at t n) (list_name b) h.0) ∙ list_rank b in
     let deep = subst (λ k. length t ≤ 1 + before k t) five (p.deep (omega (arith, five))) in
     absurd (omega (arith, deep, before-more 5 6 t link.node five (omega arith) (omega arith), before-more 6 7 t n six (omega arith) (omega arith), before-most 7 t))
 
@@ -457,25 +474,25 @@ all-passing q (x ∷ xs) = go (q x) refl (all-passing q xs)
     go true e rest = rw e (e, rest)
     go false e rest = rw e rest
 
-few_at_end : (t : List Node) (link : Link) → IsPlaced t 1 link → same (name_at t link.node) (codes "ContainerDataType") ≡ true → length (entries t link.node) ≤ 32767
-few_at_end t link p e =
-    let none = no_lists t link p (same-is (name_at t link.node) (codes "ContainerDataType") e) (named t (codes "EntryList") link.node) (all-passing (is_named t (codes "EntryList")) (children_at t link.node)) in
+few_at_end : (t : List Node) (link : Link) → IsPlaced t 1 link → same (name_at t link.node) (codes "ContainerDataType") ≡ true → (trailing : Bool) → length (entries t trailing link.node) ≤ 32767
+few_at_end t link p e b =
+    let none = no_lists t link p (same-is (name_at t link.node) (codes "ContainerDataType") e) b (named t (list_name b) link.node) (all-passing (is_named t (list_name b)) (children_at t link.node)) in
     subst (λ lists. length (flat_map (parts_below t) lists) ≤ 32767) (sym none) (omega arith)
 
 few_above : (t : List Node) (link : Link) → is_some (shape_at t link) ≡ true → IsJudged t link → AllByRecursion (λ c. IsJudged t (child_link link c)) (children_of t link.node)
-    → same (name_at t link.node) (codes "ContainerDataType") ≡ true → length (entries t link.node) ≤ 32767
-few_above t link k j h e = go (shape_at t link) refl k j.children
+    → same (name_at t link.node) (codes "ContainerDataType") ≡ true → (trailing : Bool) → length (entries t trailing link.node) ≤ 32767
+few_above t link k j h e b = go (shape_at t link) refl k j.children
   where
     cs : List ℕ
     cs = children_of t link.node
 
-    go : (o : Option ElementShape) → shape_at t link ≡ o → is_some o ≡ true → unknown_children t link o ≡ [] → length (entries t link.node) ≤ 32767
+    go : (o : Option ElementShape) → shape_at t link ≡ o → is_some o ≡ true → unknown_children t link o ≡ [] → length (entries t b link.node) ≤ 32767
     go None known some u = absurd (cc)
     go (Some s) known some u =
-        let one = one_list t link s (same-is (name_at t link.node) (codes "ContainerDataType") e) known u (supported_children t link cs h) in
+        let one = one_list t link s (same-is (name_at t link.node) (codes "ContainerDataType") e) known u (supported_children t link cs h) b in
         let few = all-weaker (λ c. IsJudged t (child_link link c)) (λ c. length (children_at t c) ≤ 32767) (λ c i. few-there (children_at t c) 32767 i.few) cs h in
-        let kept = all-kept (λ c. length (children_at t c) ≤ 32767) (λ c. is_member (codes "EntryList") (name_at t c)) cs few in
-        subst (λ lists. length (flat_map (parts_below t) lists) ≤ 32767) (sym (lists_counted t link.node)) (few_entries t 32767 (members_of t (codes "EntryList") cs) one kept)
+        let kept = all-kept (λ c. length (children_at t c) ≤ 32767) (λ c. is_member (list_name b) (name_at t c)) cs few in
+        subst (λ lists. length (flat_map (parts_below t) lists) ≤ 32767) (sym (lists_counted t b link.node)) (few_entries t 32767 (members_of t (list_name b) cs) one kept)
 
 -- ---- all elements of a file
 
@@ -761,17 +778,17 @@ module _ (trees : List (List Node)) (file : ℕ) (t : List Node) (there : slice_
       let first : length (parts_held trees (place file n)) ≡ length (parts_below t n) = ap length (parts_in_file n) ∙ length-map (parts_below t n) (place file) in
       length-append (parts_held trees (place file n)) (flat_map (parts_held trees) (map (place file) ns)) ∙ (rw (first, parts_in_all ns) (sym (length-append (parts_below t n) (flat_map (parts_below t) ns))))
 
-  entries_counted : (n : ℕ) → length (entries_at trees (place file n)) ≡ length (entries t n)
-  entries_counted n = ap (λ lists. length (flat_map (parts_held trees) lists)) (held_in (codes "EntryList") n) ∙ parts_in_all (named t (codes "EntryList") n)
+  entries_counted : (trailing : Bool) (n : ℕ) → length (flat_map (parts_held trees) (held trees (list_name trailing) (place file n))) ≡ length (entries t trailing n)
+  entries_counted b n = ap (λ lists. length (flat_map (parts_held trees) lists)) (held_in (list_name b) n) ∙ parts_in_all (named t (list_name b) n)
 
--- the container at a place has few entries
+-- the container at a place has few entries, and few trailers
 abbrev HasFew : List (List Node) → Place → Type 0
-HasFew trees at = is_container trees at ≡ true → length (entries_at trees at) ≤ 32767
+HasFew trees at = is_container trees at ≡ true → (length (entries_at trees at) ≤ 32767) × (length (trailers_at trees at) ≤ 32767)
 
 few_at : (trees : List (List Node)) (file : ℕ) (t : List Node) (link : Link) → slice_get trees file ≡ Some t → IsSound t link → HasFew trees (place file link.node)
 few_at trees file t link there sound e =
     let container : same (name_at t link.node) (codes "ContainerDataType") ≡ true = rw there at e in
-    omega (arith, entries_counted trees file t there link.node, sound.few container)
+    (omega (arith, entries_counted trees file t there false link.node, sound.few container false), omega (arith, entries_counted trees file t there true link.node, sound.few container true))
 
 few_declared : (trees : List (List Node)) (t : List Node) (file : ℕ) (s : Standing) → HasFew trees (place file s.node) → AllByRecursion (λ (d : Declaration). HasFew trees d.place) (declaration_at t file s)
 few_declared trees t file s few = go (kind_of (name_at t s.node) (name_at t s.parent))
@@ -805,8 +822,8 @@ few_numbered trees c (d ∷ ds) h = (h.0, few_numbered trees (counted c d.kind) 
 -- ---- the rows of the table
 
 -- a type that is no container has no entries
-no_container : (trees : List (List Node)) (names : Names) (id : ℕ) (at : Place) → is_container trees at ≡ false → container_by (kind_at trees names id at) ≡ None
-no_container trees names id at e = rw e (in_file_or_not (slice_get trees at.file))
+pub no_container : (trees : List (List Node)) (names : Names) (id : ℕ) (at : Place) → is_container trees at ≡ false → container_by (kind_at trees names id at) ≡ None
+no_container trees names id at e = rw e (go (is_array trees at) refl)
   where
     scalar : (t : List Node) (s : Option Sort) → container_by (scalar_kind_by s t at.node (numbers_of trees (type_places names) (bases_of trees names) id)) ≡ None
     scalar t None = refl
@@ -823,12 +840,16 @@ no_container trees names id at e = rw e (in_file_or_not (slice_get trees at.file
     in_file_or_not None = refl
     in_file_or_not (Some t) = scalar t (sort_of (name_at t at.node))
 
+    go : (b : Bool) → is_array trees at ≡ b → container_by (if b then array_kind trees names at else scalar_kind_in (slice_get trees at.file) at.node (numbers_of trees (type_places names) (bases_of trees names) id)) ≡ None
+    go true q = refl
+    go false q = in_file_or_not (slice_get trees at.file)
+
 few_row : (trees : List (List Node)) (names : Names) (id : ℕ) (d : Declared) → HasFew trees d.place → has_few_entries (table_row trees names id d) ≡ true
 few_row trees names id d h = go (is_container trees d.place) refl
   where
     go : (b : Bool) → is_container trees d.place ≡ b → has_few_entries (table_row trees names id d) ≡ true
-    go true e = rw e (rw (length-map (entries_at trees d.place) (part_at trees names id (entries_at trees d.place))) (le-leb (length (entries_at trees d.place)) 32767 (h e)))
-    go false e = subst (λ c. nat_le (length (entries_in c)) 32767 ≡ true) (sym (no_container trees names id d.place e)) refl
+    go true e = rw e (rw (length-map (entries_at trees d.place) (part_in trees names id), length-map (trailers_at trees d.place) (part_in trees names id)) (and_from (nat_le (length (entries_at trees d.place)) 32767) (nat_le (length (trailers_at trees d.place)) 32767) (le-leb (length (entries_at trees d.place)) 32767 (h e).0) (le-leb (length (trailers_at trees d.place)) 32767 (h e).1)))
+    go false e = subst (λ c. (nat_le (length (entries_in c)) 32767 && nat_le (length (trailers_in c)) 32767) ≡ true) (sym (no_container trees names id d.place e)) refl
 
 few_rows : (trees : List (List Node)) (names : Names) (n : ℕ) (ds : List Declared) → AllByRecursion (λ (d : Declared). HasFew trees d.place) ds → list_all has_few_entries (rows_from trees names n ds) ≡ true
 few_rows trees names n [] h = refl

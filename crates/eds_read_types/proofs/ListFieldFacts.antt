@@ -1,34 +1,76 @@
 -- Lists whose numbers are told by entries before them.
-use Rattle.std.proofs.Common.{◌≡◌, ℕ, zero, suc, ◌+◌, ◌<◌, ◌&&◌, ◌||◌, not, Bool, true, false, List, [], ◌∷◌, ◌++◌, length, map, slice_get, Option, Some, None, refl, sym, ap, subst, ◌∙◌, arith, inl, inr, leb-true}
+use Rattle.std.proofs.Common.{◌≡◌, ℕ, zero, suc, ◌+◌, ◌<◌, ◌&&◌, ◌||◌, ◌==◌, cond, not, Bool, true, false, List, [], ◌∷◌, ◌++◌, append_assoc, reverse, length, map, slice_get, Option, Some, None, refl, sym, ap, subst, ◌∙◌, arith, inl, inr, leb-true}
 use Rattle.std.specs.Prelude.{ℤ, pos, int_lt, ◌≤ℤ◌, nat_lt, if◌then◌else◌}
 use Rattle.std.specs.List.{flat_map}
-use Rattle.std.proofs.lemmas.Bool.{and_parts}
-use Rattle.std.proofs.lemmas.List.{append-nil}
+use Rattle.std.proofs.lemmas.Grind.{flat_map-append}
+use Rattle.eds_bits.specs.Lists.{Has}
+use Rattle.std.proofs.lemmas.Bool.{and_parts, eqb-true, eq-eqb}
 use Rattle.eds_base.specs.declared.ids.TypeId.{TypeId}
 use Rattle.eds_base.specs.declared.spans.Span.{Span}
 use Rattle.eds_base.specs.Spans.{IsWithin}
 use Rattle.eds_types.specs.declared.row.TypeRow.{TypeRow}
 use Rattle.eds_types.specs.declared.row.Kind.{Kind}
 use Rattle.eds_types.specs.declared.row.Kind.TheVariants as kind
-use Rattle.eds_types.specs.declared.row.Container.{Container}
 use Rattle.eds_types.specs.declared.row.Part.{Part}
 use Rattle.eds_types.specs.declared.row.Part.TheVariants as part
-use Rattle.eds_types.specs.Rows.{Table, base_of, container_of, entries_in, trailers_in, Placed, placed_from, sequence, chain, chain_before, chain_within}
+use Rattle.eds_types.specs.Rows.{Table, base_of, container_of, entries_in, trailers_in, own_parts, Placed, placed_from, placed_entries, placed_trailers, sequence, chain, list_has, chain_before, chain_within}
 use Rattle.eds_types.specs.Rules.{IsIntBy, IsInt, HasKind, IsBefore, IsCounted}
-use Rattle.eds_read_types.specs.ListField.{has_negative, counts_by, counts_in, is_count, is_told}
+use Rattle.eds_read_types.specs.ListField.{has_negative, counts_by, counts_in, is_count, stands_before, is_told}
+use Rattle.eds_read_types.specs.Parts.{parts_in}
+use Rattle.eds_read_types.proofs.PlainRules.{own_placed}
+use Rattle.eds_read_types.proofs.SequenceFacts.{has-first, has-later, has-front, has-back, sequence_step}
 
 -- ---- sequences
 
-chain-root : (t : Table) (id : ℕ) → base_of t id ≡ None → chain t id ≡ id ∷ []
-unfolding chain_within
-chain-root t id root = ap (λ o. chain_before (chain_within 15 t) o ++ id ∷ []) root
+there-left : {A : Type 0} (xs ys : List A) (k : ℕ) (x : A) → slice_get xs k ≡ Some x → slice_get (xs ++ ys) k ≡ Some x
+there-left [] ys k x e = absurd cc
+there-left (y ∷ xs) ys zero x e = e
+there-left (y ∷ xs) ys (suc k) x e = there-left xs ys k x e
 
--- a container without base and trailers has its own entries alone
-pub own_sequence : (t : Table) (id : ℕ) (c : Container) → base_of t id ≡ None → container_of t id ≡ Some c → c.trailers ≡ [] → sequence t id ≡ placed_from id 0 c.entries
-own_sequence t id c root e none =
-    let alone : chain t id ≡ id ∷ [] = chain-root t id root in
-    let last : trailers_in (container_of t id) ≡ [] = ap trailers_in e ∙ none in
-    rw (alone, last) (append-nil _ ∙ append-nil _ ∙ ap (λ o. placed_from id 0 (entries_in o)) e)
+before-within : {A : Type 0} (front xs back : List A) (a b : A) → IsBefore xs a b → IsBefore (front ++ (xs ++ back)) a b
+before-within front xs back a b h = record {
+  before = front ++ h.before;
+  between = h.between;
+  after = h.after ++ back;
+  is = ap (λ ys. front ++ (ys ++ back)) h.is ∙ ap (λ ys. front ++ ys) (append_assoc h.before (a ∷ (h.between ++ b ∷ h.after)) back ∙ ap (λ ys. h.before ++ a ∷ ys) (append_assoc h.between (b ∷ h.after) back)) ∙ sym (append_assoc front h.before (a ∷ (h.between ++ b ∷ (h.after ++ back))));
+}
+
+before-across : {A : Type 0} (front xs back : List A) (a b : A) → Has front a → Has xs b → IsBefore (front ++ (xs ++ back)) a b
+before-across front xs back a b h k = record {
+  before = h.before;
+  between = h.after ++ k.before;
+  after = k.after ++ back;
+  is = ap (λ ys. ys ++ (xs ++ back)) h.is ∙ append_assoc h.before (a ∷ h.after) (xs ++ back) ∙ ap (λ ys. h.before ++ a ∷ ys) (ap (λ ys. h.after ++ (ys ++ back)) k.is ∙ ap (λ ys. h.after ++ ys) (append_assoc k.before (b ∷ k.after) back) ∙ sym (append_assoc h.after k.before (b ∷ (k.after ++ back))));
+}
+
+-- what stands in order among a container's own parts does so in its sequence
+own_before : (t : Table) (id : ℕ) (a b : Placed) → IsBefore (own_parts t id) a b → IsBefore (sequence t id) a b
+unfolding chain_within
+own_before t id a b h =
+    let bases = chain_before (chain_within 15 t) (base_of t id) in
+    subst (λ ps. IsBefore ps a b) (sym (sequence_step t bases id)) (before-within (flat_map (placed_entries t) bases) (own_parts t id) (flat_map (placed_trailers t) (reverse bases)) a b h)
+
+has-held : (f : ℕ → List Placed) (ys : List ℕ) (y : ℕ) (a : Placed) → Has ys y → Has (f y) a → Has (flat_map f ys) a
+has-held f ys y a h k = subst (λ zs. Has (flat_map f zs) a) (sym h.is) (subst (λ ps. Has ps a) (sym (flat_map-append f h.before (y ∷ h.after))) (has-back (flat_map f h.before) (f y ++ flat_map f h.after) a (has-front (f y) (flat_map f h.after) a k)))
+
+listed_in : (xs : List ℕ) (y id : ℕ) → (y == id) ≡ false → list_has (xs ++ id ∷ []) y ≡ true → Has xs y
+listed_in [] y id other h = go (id == y) refl h
+  where
+    go : (b : Bool) → (id == y) ≡ b → cond b true false ≡ true → Has [] y
+    go true e k = let no : true ≡ false = sym (eq-eqb y id (sym (eqb-true id y e))) ∙ other in absurd cc
+    go false e k = absurd cc
+listed_in (x ∷ xs) y id other h = go (x == y) refl h (λ k. listed_in xs y id other k)
+  where
+    go : (b : Bool) → (x == y) ≡ b → cond b true (list_has (xs ++ id ∷ []) y) ≡ true → (list_has (xs ++ id ∷ []) y ≡ true → Has xs y) → Has (x ∷ xs) y
+    go true e k later = let same : x ≡ y = eqb-true x y e in subst (λ z. Has (x ∷ xs) z) same (has-first x xs)
+    go false e k later = has-later x y xs (later k)
+
+-- an entry of a base stands before all parts of a container
+base_before : (t : Table) (id y : ℕ) (a b : Placed) → (y == id) ≡ false → list_has (chain t id) y ≡ true → Has (placed_entries t y) a → Has (own_parts t id) b → IsBefore (sequence t id) a b
+unfolding chain_within
+base_before t id y a b other above h k =
+    let bases = chain_before (chain_within 15 t) (base_of t id) in
+    subst (λ ps. IsBefore ps a b) (sym (sequence_step t bases id)) (before-across (flat_map (placed_entries t) bases) (own_parts t id) (flat_map (placed_trailers t) (reverse bases)) a b (has-held (placed_entries t) bases y a (listed_in bases y id other above) h) k)
 
 -- ---- positions
 
@@ -112,16 +154,34 @@ count_part t (Some (part.Length name id c0 c1)) h = absurd cc
 count_part t (Some (part.Check name id check)) h = absurd cc
 
 -- a list whose field is told has its number from an entry before it
-pub counted : (t : Table) (id : ℕ) (c : Container) → base_of t id ≡ None → container_of t id ≡ Some c → c.trailers ≡ [] → (i k : ℕ) (p : Part) → slice_get c.entries k ≡ Some p → is_told t id i k ≡ true
-    → IsCounted t (record { container = id; place = k; part = p }) id i
-counted t id c root e none i k p there told =
-    let both = and_parts (nat_lt i k) (is_count t (slice_get (entries_in (container_of t id)) i)) told in
-    let field = count_part t (slice_get (entries_in (container_of t id)) i) both.1 in
-    let first : slice_get c.entries i ≡ Some (part.Plain field.name field.id) = sym (ap (λ o. slice_get (entries_in o) i) e) ∙ field.is in
-    record {
-      name = field.name;
-      id = field.id;
-      before = subst (λ ps. IsBefore ps (record { container = id; place = i; part = part.Plain field.name field.id }) (record { container = id; place = k; part = p })) (sym (own_sequence t id c root e none))
-          (placed-before id 0 c.entries i k (part.Plain field.name field.id) p first there (leb-true (suc i) k both.0) i k (omega arith) (omega arith));
-      counts = field.counts;
-    }
+pub counted : (t : Table) (id y i k : ℕ) (p : Part) → slice_get (parts_in (container_of t id)) k ≡ Some p → is_told t y i id k ≡ true → IsCounted t (record { container = id; place = k; part = p }) y i
+counted t id y i k p there told =
+    let both = and_parts (stands_before t y i id k) (is_count t (slice_get (entries_in (container_of t y)) i)) told in
+    let field = count_part t (slice_get (entries_in (container_of t y)) i) both.1 in
+    record { name = field.name; id = field.id; before = place_of field both.0; counts = field.counts }
+  where
+    list : Placed
+    list = record { container = id; place = k; part = p }
+
+    entry : IsCount t (slice_get (entries_in (container_of t y)) i) → Placed
+    entry field = record { container = y; place = i; part = part.Plain field.name field.id }
+
+    place_of : (field : IsCount t (slice_get (entries_in (container_of t y)) i)) → stands_before t y i id k ≡ true → IsBefore (sequence t id) (entry field) list
+    place_of field before = go (y == id) refl before
+      where
+        own : y ≡ id → nat_lt i k ≡ true → IsBefore (sequence t id) (entry field) list
+        own same less =
+            let first = there-left (entries_in (container_of t y)) (trailers_in (container_of t y)) i (part.Plain field.name field.id) field.is in
+            let first_here : slice_get (parts_in (container_of t id)) i ≡ Some (part.Plain field.name field.id) = subst (λ z. slice_get (parts_in (container_of t z)) i ≡ Some (part.Plain field.name field.id)) same first in
+            let here = placed-before id 0 (parts_in (container_of t id)) i k (part.Plain field.name field.id) p first_here there (leb-true (suc i) k less) i k (omega arith) (omega arith) in
+            own_before t id (entry field) list (subst (λ qs. IsBefore qs (entry field) list) (sym (own_placed t id)) (subst (λ z. IsBefore (placed_from id 0 (parts_in (container_of t id))) (record { container = z; place = i; part = part.Plain field.name field.id }) list) (sym same) here))
+
+        above : (y == id) ≡ false → list_has (chain t id) y ≡ true → IsBefore (sequence t id) (entry field) list
+        above other h =
+            let first = placed-there y 0 (entries_in (container_of t y)) i (part.Plain field.name field.id) field.is i (omega arith) in
+            let last = placed-there id 0 (parts_in (container_of t id)) k p there k (omega arith) in
+            base_before t id y (entry field) list other h (record { before = first.0; after = first.1; is = first.2 }) (record { before = last.0; after = last.1; is = own_placed t id ∙ last.2 })
+
+        go : (b : Bool) → (y == id) ≡ b → (if b then nat_lt i k else list_has (chain t id) y) ≡ true → IsBefore (sequence t id) (entry field) list
+        go true e h = own (eqb-true y id e) h
+        go false e h = above e h

@@ -1,12 +1,19 @@
 -- Positions of parts by their names.
-use Rattle.std.proofs.Common.{◌≡◌, ℕ, ◌+◌, ◌<◌, Bool, true, false, List, [], ◌∷◌, length, drop, get_or, Option, Some, None, refl, sym, ap, ◌∙◌, is_some, drop-cons, add-one}
+use Rattle.std.proofs.Common.{◌≡◌, ℕ, ◌+◌, ◌<◌, Bool, true, false, ◌||◌, List, [], ◌∷◌, length, map, drop, get_or, Option, Some, None, refl, sym, ap, ◌∙◌, is_some, ◌⊎◌, inl, inr, drop-cons, add-one}
+use Rattle.std.specs.List.{list_any}
 use Rattle.std.specs.Map.{update}
 use Rattle.std.specs.Str.{bytes_eq}
 use Rattle.std.proofs.lemmas.Slice.Eq.{bytes_eq-Decides}
-use Rattle.eds_base.specs.declared.ids.Place.{Place}
 use Rattle.eds_tree.specs.declared.tree.Node.{Node}
 use Rattle.eds_names.proofs.LookUpLemmas.{bytes_eq-sym}
-use Rattle.eds_read_types.specs.ListFields.{or_else, place_if, place_named, place_from}
+use Rattle.eds_read_types.specs.declared.seat.Seat.{Seat}
+use Rattle.eds_base.specs.declared.ids.Place.{Place}
+use Rattle.eds_names.specs.LookUp.{Names}
+use Rattle.eds_read_types.specs.declared.part_sort.PartSort.{PartSort}
+use Rattle.eds_read_types.specs.declared.part_sort.PartSort.TheVariants as sort
+use Rattle.eds_read_types.specs.Entries.{sort_at, is_list_sort, is_list}
+use Rattle.eds_read_types.specs.PartRows.{part_by, part_at}
+use Rattle.eds_read_types.specs.ListFields.{or_else, place_if, place_named, place_from, AreEnough}
 
 pub or_else-none : (o : Option ℕ) → or_else o None ≡ o
 or_else-none None = refl
@@ -49,8 +56,30 @@ or_else-assoc None b c = refl
 or_else-assoc (Some n) b c = refl
 
 -- one part more
-pub next-place : (trees : List (List Node)) (ats : List Place) (i : ℕ) (d : Place) (old new whole : Option ℕ) (q : List ℕ) → i < length ats → new ≡ or_else old (place_named trees i (get_or ats i d) q)
+pub next-place : (trees : List (List Node)) (ats : List Seat) (i : ℕ) (d : Seat) (old new whole : Option ℕ) (q : List ℕ) → i < length ats → new ≡ or_else old (place_named trees i (get_or ats i d).at q)
     → or_else old (place_from trees i (drop i ats) q) ≡ whole → or_else new (place_from trees (i + 1) (drop (i + 1) ats) q) ≡ whole
 next-place trees ats i d old new whole q lt e all =
     let opened : drop i ats ≡ get_or ats i d ∷ drop (i + 1) ats = drop-cons ats i d lt ∙ rw add-one refl in
-    rw e (or_else-assoc old (place_named trees i (get_or ats i d) q) (place_from trees (i + 1) (drop (i + 1) ats) q) ∙ (rw opened at all))
+    rw e (or_else-assoc old (place_named trees i (get_or ats i d).at q) (place_from trees (i + 1) (drop (i + 1) ats) q) ∙ (rw opened at all))
+
+-- parts that are no lists need no seats
+pub enough : (trees : List (List Node)) (names : Names) (container : ℕ) (all seats : List Seat) (ats : List Place) → AreEnough trees all seats ats → map (part_at trees names container seats) ats ≡ map (part_at trees names container all) ats
+enough trees names container all seats ats (inl same) = ap (λ ss. map (part_at trees names container ss) ats) same
+enough trees names container all seats ats (inr none) = go ats none
+  where
+    either : (a b : Bool) → (a || b) ≡ false → (a ≡ false) × (b ≡ false)
+    either true b h = absurd cc
+    either false b h = (refl, h)
+
+    by_sort : (at : Place) (s : Option PartSort) → is_list_sort s ≡ false → part_by s trees names container seats at ≡ part_by s trees names container all at
+    by_sort at None h = refl
+    by_sort at (Some sort.Entry) h = refl
+    by_sort at (Some sort.FixedValue) h = refl
+    by_sort at (Some sort.Padding) h = refl
+    by_sort at (Some sort.List) h = absurd cc
+    by_sort at (Some sort.Length) h = refl
+    by_sort at (Some sort.ErrorControl) h = refl
+
+    go : (ats : List Place) → list_any (is_list trees) ats ≡ false → map (part_at trees names container seats) ats ≡ map (part_at trees names container all) ats
+    go [] h = refl
+    go (at ∷ ats) h = let both = either (is_list trees at) (list_any (is_list trees) ats) h in rw (by_sort at (sort_at trees at) both.0, go ats both.1) refl

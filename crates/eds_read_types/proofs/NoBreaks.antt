@@ -1,5 +1,5 @@
 -- What a sheet that breaks no rule on types has.
-use Rattle.std.proofs.Common.{◌≡◌, ℕ, ◌<◌, Bool, true, false, ◌||◌, List, [], ◌∷◌, ◌++◌, length, map, filter, Option, Some, None, refl, sym, ◌∙◌, subst, slice_get, is_some, option_map}
+use Rattle.std.proofs.Common.{◌≡◌, ℕ, ◌<◌, Bool, true, false, ◌||◌, List, [], ◌∷◌, ◌++◌, length, map, filter, Option, Some, None, refl, sym, ap, ◌∙◌, subst, slice_get, is_some, option_map}
 use Rattle.std.specs.Prelude.{IfSome}
 use Rattle.std.proofs.lemmas.Option.{slice_get_within}
 use Rattle.std.proofs.lemmas.List.{length-map}
@@ -15,6 +15,7 @@ use Rattle.eds_names.specs.declared.declared.Item.TheVariants as item
 use Rattle.eds_names.specs.declared.declared.Declared.{Declared}
 use Rattle.eds_names.specs.Repeats.{is_among}
 use Rattle.eds_names.specs.LookUp.{Names, AreApart, NamesDiffer, look_up}
+use Rattle.std.proofs.lemmas.Slice.Eq.{bytes_eq-Decides}
 use Rattle.eds_names.proofs.LookUpLemmas.{bytes_eq-sym}
 use Rattle.eds_read_types.specs.Places.{own_name, is_type, types, type_places}
 use Rattle.eds_read_types.specs.declared.reference_row.Wanted.TheVariants.{AnyType}
@@ -115,6 +116,15 @@ no_repeats trees before (at ∷ ats) h =
     let parts = append-none (repeat_of before at name) (repeats trees (name ∷ before) ats) h in
     let rest = no_repeats trees (name ∷ before) ats parts.1 in
     ((repeat_of-none before at name parts.0, fewer name before (map (own_name trees) ats) rest.0), (not_among name before (map (own_name trees) ats) rest.0, rest.1))
+
+-- a name of these is none of the others
+pub none_at : (before names : List (List ℕ)) (x : List ℕ) → NoneAmong before names → is_among names x ≡ true → is_among before x ≡ false
+none_at before [] x k h = absurd cc
+none_at before (name ∷ names) x k h = go (λ later. none_at before names x k.1 later) (same x name) refl h
+  where
+    go : (is_among names x ≡ true → is_among before x ≡ false) → (b : Bool) → same x name ≡ b → (b || is_among names x) ≡ true → is_among before x ≡ false
+    go rest true e g = let is : x ≡ name = (bytes_eq-Decides x name).0 e in ap (is_among before) is ∙ k.0
+    go rest false e g = rest g
 
 -- ---- what an answer has
 

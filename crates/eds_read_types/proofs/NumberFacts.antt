@@ -12,7 +12,7 @@ use Rattle.eds_tree.specs.declared.tree.Node.{Node}
 use Rattle.eds_names.specs.LookUp.{Names}
 use Rattle.eds_types.specs.Rules.{IsDomain, IsSubRange}
 use Rattle.eds_read_types.specs.declared.numbers.FormAndDomain.{FormAndDomain}
-use Rattle.eds_read_types.specs.Places.{type_places, is_sub_range}
+use Rattle.eds_read_types.specs.Places.{type_places, is_sub_range, is_container}
 use Rattle.eds_read_types.specs.Forms.{int_form_of}
 use Rattle.eds_read_types.specs.Ranges.{no_range, range_of}
 use Rattle.eds_read_types.specs.Domains.{has_none}
@@ -78,15 +78,19 @@ module _ (trees : List (List Node)) (names : Names) where
   pub base_there : (id : ℕ) (at : Place) → slice_get (type_places names) id ≡ Some at → base_at (bases_of trees names) id ≡ base_found trees names at
   base_there id at e = rw (slice_get-map (base_found trees names) (type_places names) id, e) refl
 
-  -- only a sub-range has a base
-  pub base_is_sub : (at : Place) (base : TypeId) → base_found trees names at ≡ Some base → is_sub_range trees at ≡ true
-  base_is_sub at base e = go (is_sub_range trees at) refl
+  -- whatever has a base is a sub-range, or else a container
+  pub base_is_sub : (at : Place) (base : TypeId) → base_found trees names at ≡ Some base → is_container trees at ≡ false → is_sub_range trees at ≡ true
+  base_is_sub at base e other = go (is_sub_range trees at) refl
     where
       go : (b : Bool) → is_sub_range trees at ≡ b → is_sub_range trees at ≡ true
       go true q = q
-      go false q = let no : None ≡ Some base = rw q at e in absurd cc
+      go false q = let no : None ≡ Some base = rw (q, other) at e in absurd cc
 
-  module _ (cycles : breaks_cycle trees names ≡ []) (chains : breaks_chain trees names ≡ []) (encodings : breaks_each encoding_breaks trees names ≡ []) (ranges : breaks_each range_breaks trees names ≡ []) (subs : breaks_sub_range trees names ≡ []) where
+  -- the type of a number is no container
+  abbrev pub IsNoContainer : ℕ → Type 0
+  IsNoContainer id = (at : Place) → slice_get (type_places names) id ≡ Some at → is_container trees at ≡ false
+
+  module _ (cycles : breaks_cycle trees names ≡ []) (chains : breaks_chain trees names ≡ []) (encodings : breaks_each encoding_breaks trees names ≡ []) (ranges : breaks_each range_breaks trees names ≡ []) (subs : breaks_sub_range trees names ≡ []) (on_numbers : (id : ℕ) (base : TypeId) → base_at (bases_of trees names) id ≡ Some base → IsNoContainer id → IsNoContainer base.0) where
     pub few_levels : (id : ℕ) → level (bases_of trees names) id < 16
     few_levels id = few_bases (bases_of trees names) (type_places names) known_bases cycles chains id
 
@@ -125,28 +129,29 @@ module _ (trees : List (List Node)) (names : Names) where
     abbrev faulty : ℕ → Bool
     faulty id = is_faulty trees (type_places names) (bases_of trees names) id
 
-    -- the types up to a level have domains
+    -- the types up to a level that are no containers have domains
     abbrev HaveNumbers : ℕ → Type 0
-    HaveNumbers n = (id : ℕ) → level (bases_of trees names) id < n → HasNumbers (numbers_at id)
+    HaveNumbers n = (id : ℕ) → IsNoContainer id → level (bases_of trees names) id < n → HasNumbers (numbers_at id)
 
-    sound_bases : (n : ℕ) → HaveNumbers n → (m id : ℕ) → level (bases_of trees names) id ≤ n → list_any faulty (bases_within m (bases_of trees names) id) ≡ false
-    sound_bases n have zero id h = ap (list_any faulty) (bases_none (bases_of trees names) id)
-    sound_bases n have (suc m) id h = go (sound_bases n have m) (base_at (bases_of trees names) id) refl
+    sound_bases : (n : ℕ) → HaveNumbers n → (m id : ℕ) → IsNoContainer id → level (bases_of trees names) id ≤ n → list_any faulty (bases_within m (bases_of trees names) id) ≡ false
+    sound_bases n have zero id c h = ap (list_any faulty) (bases_none (bases_of trees names) id)
+    sound_bases n have (suc m) id c h = go (sound_bases n have m) (base_at (bases_of trees names) id) refl
       where
-        go : ((id : ℕ) → level (bases_of trees names) id ≤ n → list_any faulty (bases_within m (bases_of trees names) id) ≡ false) → (o : Option TypeId) → base_at (bases_of trees names) id ≡ o → list_any faulty (bases_within (suc m) (bases_of trees names) id) ≡ false
+        go : ((id : ℕ) → IsNoContainer id → level (bases_of trees names) id ≤ n → list_any faulty (bases_within m (bases_of trees names) id) ≡ false) → (o : Option TypeId) → base_at (bases_of trees names) id ≡ o → list_any faulty (bases_within (suc m) (bases_of trees names) id) ≡ false
         go up None e = ap (list_any faulty) (no_bases (bases_of trees names) (suc m) id e)
         go up (Some base) e =
             let less = less_levels id base e in
-            let numbers = have base.0 (omega (arith, less, h)) in
-            ap (list_any faulty) (bases_step (bases_of trees names) m id base e) ∙ rw (has_form base.0, some_numbers (numbers_at base.0).form (numbers_at base.0).spans numbers) (up base.0 (omega (arith, less, h)))
+            let other = on_numbers id base e c in
+            let numbers = have base.0 other (omega (arith, less, h)) in
+            ap (list_any faulty) (bases_step (bases_of trees names) m id base e) ∙ rw (has_form base.0, some_numbers (numbers_at base.0).form (numbers_at base.0).spans numbers) (up base.0 other (omega (arith, less, h)))
 
     -- a sub-range whose bases have domains has one
-    sub_domain : (n id : ℕ) (at : Place) (base : TypeId) → HaveNumbers n → level (bases_of trees names) id ≤ n → slice_get (type_places names) id ≡ Some at → base_at (bases_of trees names) id ≡ Some base → HasNumbers (numbers_at id)
-    sub_domain n id at base have h there e =
+    sub_domain : (n id : ℕ) (at : Place) (base : TypeId) → HaveNumbers n → IsNoContainer id → level (bases_of trees names) id ≤ n → slice_get (type_places names) id ≡ Some at → base_at (bases_of trees names) id ≡ Some base → HasNumbers (numbers_at id)
+    sub_domain n id at base have c h there e =
         let less = less_levels id base e in
-        let numbers = have base.0 (omega (arith, less, h)) in
-        let sub = base_is_sub at base (sym (base_there id at there) ∙ e) in
-        let kept : is_empty_type trees (type_places names) (bases_of trees names) id ≡ false = own_fault (is_sub_range trees at) (is_empty_type trees (type_places names) (bases_of trees names) id) _ sub (sound_bases n have 16 id h) (unmet (is_sub_range trees at && is_empty_by_itself trees (type_places names) (bases_of trees names) id) _ (over-none (sub_range_at trees (type_places names) (bases_of trees names)) 0 (type_places names) subs id at there id (omega arith))) in
+        let numbers = have base.0 (on_numbers id base e c) (omega (arith, less, h)) in
+        let sub = base_is_sub at base (sym (base_there id at there) ∙ e) (c at there) in
+        let kept : is_empty_type trees (type_places names) (bases_of trees names) id ≡ false = own_fault (is_sub_range trees at) (is_empty_type trees (type_places names) (bases_of trees names) id) _ sub (sound_bases n have 16 id c h) (unmet (is_sub_range trees at && is_empty_by_itself trees (type_places names) (bases_of trees names) id) _ (over-none (sub_range_at trees (type_places names) (bases_of trees names)) 0 (type_places names) subs id at there id (omega arith))) in
         let step = numbers_step trees (type_places names) (bases_of trees names) id base e (few_levels id) in
         subst HasNumbers (sym step) (narrowed_kept (numbers_at base.0).form (numbers_at base.0).spans (range_at trees (slice_get (type_places names) id)) numbers (ap (λ (m : FormAndDomain). has_none m.spans) (sym step) ∙ kept))
       where
@@ -157,19 +162,19 @@ module _ (trees : List (List Node)) (names : Names) where
         own_fault false empty any p q r = cc
 
     domains_to : (n : ℕ) → HaveNumbers n
-    domains_to zero id h = absurd (omega arith)
-    domains_to (suc n) id h = go (domains_to n) (base_at (bases_of trees names) id) refl
+    domains_to zero id c h = absurd (omega arith)
+    domains_to (suc n) id c h = go (domains_to n) (base_at (bases_of trees names) id) refl
       where
         there : (base : TypeId) → HaveNumbers n → base_at (bases_of trees names) id ≡ Some base → (o : Option Place) → slice_get (type_places names) id ≡ o → HasNumbers (numbers_at id)
         there base have e None q = let no : None ≡ Some base = sym (known_bases id q) ∙ e in absurd cc
-        there base have e (Some at) q = sub_domain n id at base have (omega arith) q e
+        there base have e (Some at) q = sub_domain n id at base have c (omega arith) q e
 
         go : HaveNumbers n → (o : Option TypeId) → base_at (bases_of trees names) id ≡ o → HasNumbers (numbers_at id)
         go have None e = subst HasNumbers (sym (own_within trees (type_places names) (bases_of trees names) 16 id e)) (own_domain id)
         go have (Some base) e = there base have e (slice_get (type_places names) id) refl
 
-    pub domains : (id : ℕ) → HasNumbers (numbers_of trees (type_places names) (bases_of trees names) id)
-    domains id = domains_to 16 id (few_levels id)
+    pub domains : (id : ℕ) → IsNoContainer id → HasNumbers (numbers_of trees (type_places names) (bases_of trees names) id)
+    domains id c = domains_to 16 id c (few_levels id)
 
     -- a sub-range derives from its base
     pub derives_from : (id : ℕ) (base : TypeId) → base_at (bases_of trees names) id ≡ Some base → IsSubRange (numbers_at id).form (numbers_at id).spans (numbers_at base.0).form (numbers_at base.0).spans

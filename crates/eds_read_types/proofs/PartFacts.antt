@@ -8,11 +8,11 @@ use Rattle.eds_tree.specs.declared.tree.Node.{Node}
 use Rattle.eds_names.specs.LookUp.{Names}
 use Rattle.eds_types.specs.declared.row.Container.{Container}
 use Rattle.eds_types.specs.declared.row.Part.{Part}
-use Rattle.eds_types.specs.Rows.{container_of, entries_in, Placed, placed_from}
+use Rattle.eds_types.specs.Rows.{container_of, Placed, placed_from}
 use Rattle.eds_read_types.specs.Places.{type_places}
-use Rattle.eds_read_types.specs.Entries.{entries_at}
+use Rattle.eds_read_types.specs.Entries.{own_parts_at}
 use Rattle.eds_read_types.specs.TableRows.{table_rows}
-use Rattle.eds_read_types.specs.Parts.{PartJudgement, judged_part, judged_part_by, judged_parts, at_parts}
+use Rattle.eds_read_types.specs.Parts.{PartJudgement, parts_in, judged_part, judged_part_by, judged_parts, at_parts}
 use Rattle.eds_read_types.proofs.ChainFacts.{over-none}
 
 -- an item that a list is made of
@@ -39,9 +39,9 @@ no_item (x ∷ xs) (suc k) lt e = no_item xs k (omega (arith, lt)) e
 
 -- a rule on parts that is broken nowhere, at one part
 pub part_none : (judge : PartJudgement) (trees : List (List Node)) (names : Names) → at_parts judge trees names ≡ [] → (id : ℕ) (at : Place) → slice_get (type_places names) id ≡ Some at
-    → (k : ℕ) (p : Part) → slice_get (entries_in (container_of (table_rows trees names) id)) k ≡ Some p → (q : Place) → slice_get (entries_at trees at) k ≡ Some q
+    → (k : ℕ) (p : Part) → slice_get (parts_in (container_of (table_rows trees names) id)) k ≡ Some p → (q : Place) → slice_get (own_parts_at trees at) k ≡ Some q
     → judge (table_rows trees names) (record { container = id; place = k; part = p }) q ≡ []
 part_none judge trees names h id at there k p e q f =
     let here = over-none (judged_parts judge trees (table_rows trees names)) 0 (type_places names) h id at there id (omega arith) in
-    let one = over-none (judged_part judge (table_rows trees names) id) 0 (entries_at trees at) here k q f k (omega arith) in
+    let one = over-none (judged_part judge (table_rows trees names) id) 0 (own_parts_at trees at) here k q f k (omega arith) in
     sym (ap (judged_part_by judge (table_rows trees names) id k q) e) ∙ one

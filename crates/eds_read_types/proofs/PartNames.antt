@@ -15,6 +15,7 @@ use Rattle.eds_names.specs.Repeats.{is_among}
 use Rattle.eds_types.specs.Rules.{AreDistinct, name_of}
 use Rattle.eds_read_types.specs.declared.part_sort.PartSort.{PartSort}
 use Rattle.eds_read_types.specs.declared.part_sort.PartSort.TheVariants as sort
+use Rattle.eds_read_types.specs.declared.seat.Seat.{Seat}
 use Rattle.eds_read_types.specs.Places.{attribute, own_name}
 use Rattle.eds_read_types.specs.TextForms.{natural, is_binary_size}
 use Rattle.eds_read_types.specs.Entries.{sort_at, has_name_by, has_name, named_among}
@@ -36,15 +37,15 @@ among_has xs x h = ap (λ ys. is_among ys x) h.is ∙ stands h.before h.after
 
 -- ---- names
 
-module _ (trees : List (List Node)) (names : Names) (container : ℕ) (parts : List Place) where
+module _ (trees : List (List Node)) (names : Names) (container : ℕ) (seats : List Seat) where
   -- the name of a part's row is that of its element, which has one
   abbrev IsNamed : Place → Option (List ℕ) → Type 0
   IsNamed at name = IfSome name (λ n. (n ≡ own_name trees at) × (has_name trees at ≡ true))
 
-  name_is : (at : Place) → IsNamed at (name_of (part_at trees names container parts at))
+  name_is : (at : Place) → IsNamed at (name_of (part_at trees names container seats at))
   name_is at = go (sort_at trees at) refl
     where
-      go : (s : Option PartSort) → sort_at trees at ≡ s → IsNamed at (name_of (part_by s trees names container parts at))
+      go : (s : Option PartSort) → sort_at trees at ≡ s → IsNamed at (name_of (part_by s trees names container seats at))
       go None e = tt
       go (Some sort.Entry) e = (refl, ap (has_name_by (is_some (attribute trees (codes "name") at))) e)
       go (Some sort.FixedValue) e = tt
@@ -53,11 +54,11 @@ module _ (trees : List (List Node)) (names : Names) (container : ℕ) (parts : L
       go (Some sort.Length) e = tt
       go (Some sort.ErrorControl) e = tt
 
-  abbrev element_names : List Place → List (List ℕ)
+  abbrev pub element_names : List Place → List (List ℕ)
   element_names ats = map (own_name trees) (named_among trees ats)
 
-  abbrev row_names : List Place → List (List ℕ)
-  row_names ats = filter_map name_of (map (part_at trees names container parts) ats)
+  abbrev pub row_names : List Place → List (List ℕ)
+  row_names ats = filter_map name_of (map (part_at trees names container seats) ats)
 
   among_more : (at : Place) (ats : List Place) (x : List ℕ) → is_among (element_names ats) x ≡ true → is_among (element_names (at ∷ ats)) x ≡ true
   among_more at ats x h = go (has_name trees at) refl
@@ -66,15 +67,15 @@ module _ (trees : List (List Node)) (names : Names) (container : ℕ) (parts : L
       go true e = rw e (rw h (true_or (same x (own_name trees at))))
       go false e = rw e h
 
-  among_parts : (ats : List Place) (x : List ℕ) → is_among (row_names ats) x ≡ true → is_among (element_names ats) x ≡ true
+  pub among_parts : (ats : List Place) (x : List ℕ) → is_among (row_names ats) x ≡ true → is_among (element_names ats) x ≡ true
   among_parts [] x h = absurd cc
-  among_parts (at ∷ ats) x h = go (λ k. among_parts ats x k) (name_of (part_at trees names container parts at)) refl (name_is at) h
+  among_parts (at ∷ ats) x h = go (λ k. among_parts ats x k) (name_of (part_at trees names container seats at)) refl (name_is at) h
     where
       here : (is_among (row_names ats) x ≡ true → is_among (element_names ats) x ≡ true) → (b : Bool) → same x (own_name trees at) ≡ b → (b || is_among (row_names ats) x) ≡ true → has_name trees at ≡ true → is_among (element_names (at ∷ ats)) x ≡ true
       here rest true e k named = rw named (rw e refl)
       here rest false e k named = among_more at ats x (rest k)
 
-      go : (is_among (row_names ats) x ≡ true → is_among (element_names ats) x ≡ true) → (o : Option (List ℕ)) → name_of (part_at trees names container parts at) ≡ o → IsNamed at o → is_among (row_names (at ∷ ats)) x ≡ true → is_among (element_names (at ∷ ats)) x ≡ true
+      go : (is_among (row_names ats) x ≡ true → is_among (element_names ats) x ≡ true) → (o : Option (List ℕ)) → name_of (part_at trees names container seats at) ≡ o → IsNamed at o → is_among (row_names (at ∷ ats)) x ≡ true → is_among (element_names (at ∷ ats)) x ≡ true
       go rest None e is k = among_more at ats x (rest (rw e at k))
       go rest (Some n) e is k =
           let one : is_among (n ∷ row_names ats) x ≡ true = rw e at k in
@@ -90,9 +91,9 @@ module _ (trees : List (List Node)) (names : Names) (container : ℕ) (parts : L
   -- where the names of elements differ, those of their rows do
   pub names_distinct : (ats : List Place) → AreApart (element_names ats) → AreDistinct (row_names ats)
   names_distinct [] h = tt
-  names_distinct (at ∷ ats) h = go (names_distinct ats (apart_after at ats h)) (name_of (part_at trees names container parts at)) refl (name_is at)
+  names_distinct (at ∷ ats) h = go (names_distinct ats (apart_after at ats h)) (name_of (part_at trees names container seats at)) refl (name_is at)
     where
-      go : AreDistinct (row_names ats) → (o : Option (List ℕ)) → name_of (part_at trees names container parts at) ≡ o → IsNamed at o → AreDistinct (row_names (at ∷ ats))
+      go : AreDistinct (row_names ats) → (o : Option (List ℕ)) → name_of (part_at trees names container seats at) ≡ o → IsNamed at o → AreDistinct (row_names (at ∷ ats))
       go rest None e is = rw e rest
       go rest (Some n) e is =
           let named : has_name trees at ≡ true = is.1 in

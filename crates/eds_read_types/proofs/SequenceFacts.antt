@@ -97,6 +97,17 @@ module _ {A : Type 0} where
     | inr r ↦ elim (has-parts ms back x r) [ inl m ↦ inr m | inr b ↦ inl (has-back front back x b) ]
   ]
 
+-- ---- sequences
+
+module _ (t : Table) where
+  -- the entries of some containers, and then their trailers from the last up
+  abbrev pub sequence_over : List ℕ → List Placed
+  sequence_over ks = flat_map (placed_entries t) ks ++ flat_map (placed_trailers t) (reverse ks)
+
+  -- of one container more: its own parts stand between the entries and the trailers of the others
+  pub sequence_step : (ks : List ℕ) (k : ℕ) → sequence_over (ks ++ k ∷ []) ≡ flat_map (placed_entries t) ks ++ (own_parts t k ++ flat_map (placed_trailers t) (reverse ks))
+  sequence_step ks k = rw (flat_map-append (placed_entries t) ks (k ∷ []), reverse-append ks (k ∷ []), append-nil (placed_entries t k)) (append_assoc (flat_map (placed_entries t) ks) (placed_entries t k) (placed_trailers t k ++ flat_map (placed_trailers t) (reverse ks)) ∙ ap (λ ps. flat_map (placed_entries t) ks ++ ps) (sym (append_assoc (placed_entries t k) (placed_trailers t k) (flat_map (placed_trailers t) (reverse ks)))))
+
 -- ---- chains
 
 -- a level for each type, which counts its bases
@@ -125,12 +136,6 @@ module _ (t : Table) (level : ℕ → ℕ) (low : (id : ℕ) → level id < 16) 
   abbrev pub parts_above : ℕ → List Placed
   parts_above k = flat_map (own_parts t) (chain_before (chain t) (base_of t k))
 
-  abbrev sequence_over : List ℕ → List Placed
-  sequence_over ks = flat_map (placed_entries t) ks ++ flat_map (placed_trailers t) (reverse ks)
-
-  sequence_step : (ks : List ℕ) (k : ℕ) → sequence_over (ks ++ k ∷ []) ≡ flat_map (placed_entries t) ks ++ (own_parts t k ++ flat_map (placed_trailers t) (reverse ks))
-  sequence_step ks k = rw (flat_map-append (placed_entries t) ks (k ∷ []), reverse-append ks (k ∷ []), append-nil (placed_entries t k)) (append_assoc (flat_map (placed_entries t) ks) (placed_entries t k) (placed_trailers t k ++ flat_map (placed_trailers t) (reverse ks)) ∙ ap (λ ps. flat_map (placed_entries t) ks ++ ps) (sym (append_assoc (placed_entries t k) (placed_trailers t k) (flat_map (placed_trailers t) (reverse ks)))))
-
   module _ {A : Type 0} (mark : Placed → Option A) where
     abbrev marks : List Placed → List A
     marks ps = filter_map mark ps
@@ -149,8 +154,8 @@ module _ (t : Table) (level : ℕ → ℕ) (low : (id : ℕ) → level id < 16) 
       pub apart : AreDisjoint (marks (own_parts t k)) (marks (parts_above k))
 
     record SoFar (ks : List ℕ) : Type 0 where
-      differ : AreDistinct (marks (sequence_over ks))
-      among : (x : A) → Has (marks (sequence_over ks)) x → Has (marks (flat_map (own_parts t) ks)) x
+      differ : AreDistinct (marks (sequence_over t ks))
+      among : (x : A) → Has (marks (sequence_over t ks)) x → Has (marks (flat_map (own_parts t) ks)) x
 
     no_so_far : SoFar []
     no_so_far = record { differ = tt; among = λ x h. h }
@@ -173,14 +178,14 @@ module _ (t : Table) (level : ℕ → ℕ) (low : (id : ℕ) → level id < 16) 
         back : List A
         back = marks (flat_map (placed_trailers t) (reverse ks))
 
-        ends : marks (sequence_over ks) ≡ front ++ back
+        ends : marks (sequence_over t ks) ≡ front ++ back
         ends = marks-append (flat_map (placed_entries t) ks) (flat_map (placed_trailers t) (reverse ks))
 
         whole : AreDistinct (front ++ back)
         whole = subst AreDistinct ends above.differ
 
-        split : marks (sequence_over (ks ++ k ∷ [])) ≡ front ++ (marks (own_parts t k) ++ back)
-        split = ap marks (sequence_step ks k) ∙ marks-append (flat_map (placed_entries t) ks) (own_parts t k ++ flat_map (placed_trailers t) (reverse ks)) ∙ ap (λ zs. front ++ zs) (marks-append (own_parts t k) (flat_map (placed_trailers t) (reverse ks)))
+        split : marks (sequence_over t (ks ++ k ∷ [])) ≡ front ++ (marks (own_parts t k) ++ back)
+        split = ap marks (sequence_step t ks k) ∙ marks-append (flat_map (placed_entries t) ks) (own_parts t k ++ flat_map (placed_trailers t) (reverse ks)) ∙ ap (λ zs. front ++ zs) (marks-append (own_parts t k) (flat_map (placed_trailers t) (reverse ks)))
 
         all : marks (flat_map (own_parts t) (ks ++ k ∷ [])) ≡ marks (parts_above k) ++ marks (own_parts t k)
         all = ap marks (flat_map-append (own_parts t) ks (k ∷ []) ∙ ap (λ ps. parts_above k ++ ps) (append-nil (own_parts t k))) ∙ marks-append (parts_above k) (own_parts t k)

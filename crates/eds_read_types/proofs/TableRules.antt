@@ -1,10 +1,13 @@
 -- The rows of a sheet that breaks no rule on types keep the rules of a table.
-use Rattle.std.proofs.Common.{◌≡◌, ℕ, zero, suc, ◌+◌, ◌<◌, ◌≤◌, Bool, true, false, ◌||◌, ◌&&◌, List, [], ◌∷◌, ◌++◌, length, map, slice_get, option_map, Option, Some, None, refl, sym, ap, subst, ◌∙◌, arith, lit≤}
-use Rattle.std.specs.Prelude.{nat_le, codes, not, is_some, Ok, if◌then◌else◌}
+use Rattle.std.proofs.Common.{◌≡◌, ℕ, zero, suc, ◌+◌, ◌<◌, ◌≤◌, Bool, true, false, ◌||◌, ◌&&◌, List, [], ◌∷◌, ◌++◌, length, map, slice_get, option_map, Option, Some, None, refl, sym, ap, subst, ◌∙◌, ◌⊎◌, inl, inr, arith, lit≤}
+use Rattle.std.specs.Prelude.{nat_le, nat_lt, is_some, IsSome, unwrap_or, option_to_list, codes, not, Ok, if◌then◌else◌}
 use Rattle.std.specs.List.{AllByRecursion, filter_map, flat_map, list_all}
 use Rattle.std.proofs.Common.{leb-true}
-use Rattle.std.proofs.lemmas.Bool.{and_parts, le-leb}
-use Rattle.std.proofs.lemmas.List.{length-map}
+use Rattle.std.proofs.lemmas.Bool.{and_parts, leb-false, ltb-false}
+use Rattle.std.proofs.lemmas.Grind.{flat_map-append}
+use Rattle.std.proofs.lemmas.List.Elements.{filter_map-append}
+use Rattle.std.proofs.lemmas.List.Folds.{list_any-append}
+use Rattle.std.proofs.lemmas.List.{length-map, map-append, append-nil}
 use Rattle.std.proofs.lemmas.Option.{slice_get-map, slice_get_within}
 use Rattle.std.proofs.lemmas.Slice.Eq.{bytes_eq-Decides}
 use Rattle.eds_base.specs.Reading.{◌>>=◌, same}
@@ -27,30 +30,30 @@ use Rattle.eds_types.specs.declared.row.Kind.TheVariants as kind
 use Rattle.eds_types.specs.declared.row.Container.{Container}
 use Rattle.eds_types.specs.declared.row.Part.{Part}
 use Rattle.eds_types.specs.declared.row.Part.TheVariants as part
-use Rattle.eds_types.specs.Rows.{base_in, base_of, container_by, container_in, container_of, number_of_id, entries_in}
+use Rattle.eds_types.specs.Rows.{Table, base_in, base_of, own_parts, placed_from, chain_before, chain_within, container_by, container_in, container_of, number_of_id, entries_in}
 use Rattle.eds_types.specs.Sizes.{open_of}
 use Rattle.eds_types.specs.Fields.{type_by}
-use Rattle.eds_graph.specs.Ways.{is_circular}
+use Rattle.eds_graph.specs.Ways.{is_circular, is_endless}
 use Rattle.eds_graph.specs.Search.{Has as is_one_of}
-use Rattle.eds_graph.proofs.Tests.{has-left}
-use Rattle.eds_nesting.specs.Families.{types_of, types_in}
-use Rattle.eds_types.specs.Rules.{AreDistinct, IsListing, KindKeeps, HasKind, DerivesFrom, IsNested, IsCounted, name_of, KeepsRules}
+use Rattle.eds_types.specs.Rules.{AreDistinct, IsContainer, IsListing, KindKeeps, HasKind, DerivesFrom, IsNested, IsCounted, name_of, KeepsRules}
 use Rattle.eds_read_types.specs.declared.numbers.FormAndDomain.{FormAndDomain}
-use Rattle.eds_read_types.specs.Places.{element, is_element, is_container, is_sub_range, is_number, attribute, own_name, elements, types, type_places}
+use Rattle.eds_read_types.specs.Places.{element, is_element, is_container, is_array, is_sub_range, is_number, attribute, own_name, elements, types, type_places}
 use Rattle.eds_read_types.specs.References.{references, row_for, judged_text, judged_by, judged_at, broken_with}
 use Rattle.eds_read_types.specs.ReadTypes.{id_of, id_found}
 use Rattle.eds_read_types.specs.declared.part_sort.PartSort.{PartSort}
 use Rattle.eds_read_types.specs.declared.part_sort.PartSort.TheVariants as sorts
-use Rattle.eds_read_types.specs.Entries.{sort_at, entries_at, named_among}
-use Rattle.eds_read_types.specs.ListFields.{field_place}
-use Rattle.eds_read_types.specs.PartRows.{entry_id, padding_bits, unread, plain_part, type_number, list_part, part_by, part_at}
+use Rattle.eds_read_types.specs.Entries.{sort_at, entries_at, trailers_at, own_parts_at, parts_at, named_among}
+use Rattle.eds_read_types.specs.Parts.{parts_in}
+use Rattle.eds_read_types.specs.Seats.{seats_of}
+use Rattle.eds_read_types.specs.ListFields.{field_seat, field_container, field_place}
+use Rattle.eds_read_types.specs.PartRows.{entry_id, id_or_first, padding_bits, unread, plain_part, list_part, part_by}
 use Rattle.eds_read_types.specs.Forms.{int_form_of, bool_form_of}
 use Rattle.eds_read_types.specs.Listings.{listing_of}
-use Rattle.eds_read_types.specs.Bases.{base_named, base_found, bases_of}
+use Rattle.eds_read_types.specs.Bases.{may_derive, base_named, base_found, bases_of, base_at}
 use Rattle.eds_read_types.specs.Numbers.{form_or_wide, numbers_of}
-use Rattle.eds_read_types.specs.TableRows.{container_at, scalar_kind_by, scalar_kind_in, kind_of, table_row, rows_from, table_rows, has_few_entries, are_few}
+use Rattle.eds_read_types.specs.TableRows.{part_in, is_abstract, container_at, scalar_kind_by, scalar_kind_in, array_kind, kind_of, table_row, rows_from, table_rows, has_few_entries, are_few}
 use Rattle.eds_read_types.specs.TableBreaks.{table_breaks}
-use Rattle.eds_read_types.specs.DuplicateEntry.{repeats, duplicates_at}
+use Rattle.eds_read_types.specs.DuplicateEntry.{repeats, names_above, duplicates_at}
 use Rattle.eds_read_types.specs.declared.sort.Sort.{Sort}
 use Rattle.eds_read_types.specs.declared.sort.Sort.TheVariants as sort
 use Rattle.eds_read_types.specs.Sorts.{sort_of}
@@ -61,26 +64,35 @@ use Rattle.eds_read_types.specs.WrongKind.{kind_by, wrong_kind_by, wrong_kind_at
 use Rattle.eds_read_types.specs.Nesting.{course_of, meets_base_cycle}
 use Rattle.eds_read_types.specs.TypeCycle.{type_cycle_at}
 use Rattle.eds_read_types.specs.LimitNesting.{is_too_deep, nesting_at}
-use Rattle.eds_read_types.specs.EmptyType.{may_be_empty, is_empty_entry, empty_part_at}
+use Rattle.eds_read_types.specs.EmptyType.{may_be_empty, is_empty_entry, empty_part_at, item_in, empty_item_by, empty_item_at}
+use Rattle.eds_read_types.specs.Items.{items_at, row_items}
+use Rattle.eds_read_types.specs.LimitItems.{is_too_large, items_limit_at}
+use Rattle.eds_read_types.proofs.ItemFacts.{row_some}
 use Rattle.eds_read_types.specs.ListField.{is_told, list_field_at}
 use Rattle.eds_read_types.specs.LengthField.{untold_by, length_field_at}
-use Rattle.eds_read_types.specs.declared.reference_row.Wanted.TheVariants.{NumberType}
-use Rattle.eds_read_types.proofs.NoBreaks.{least-none, append-none, types-apart, no_repeats}
+use Rattle.eds_read_types.specs.declared.reference_row.Wanted.TheVariants.{NumberType, ContainerType}
+use Rattle.eds_read_types.proofs.NoBreaks.{none_at, least-none, append-none, types-apart, no_repeats}
 use Rattle.eds_read_types.proofs.Unbroken.{IsUnbroken, unbroken}
 use Rattle.eds_read_types.proofs.SheetPlaces.{at_one, each-none as nowhere, of_types}
-use Rattle.eds_read_types.proofs.Limits.{few_types, length-rows}
+use Rattle.eds_read_types.proofs.Limits.{few_types, length-rows, no_container}
 use Rattle.eds_read_types.proofs.LawFacts.{name_apart, enumerated_unbroken}
-use Rattle.eds_read_types.proofs.PlainRules.{IsSolid, EntryKeeps, IsPlainKind, KeepsRow, ArePlainRows, keeps_by_rows}
-use Rattle.eds_read_types.proofs.PartFacts.{mapped_there, placed_all, no_item, part_none}
-use Rattle.eds_read_types.proofs.PartNames.{among_has, names_distinct, padding_keeps}
+use Rattle.eds_read_types.proofs.PlainRules.{IsSolid, EntryKeeps, IsPlainArray, IsPlainKind, KeepsRow, ArePlainRows, solid_own, own_placed, keeps_by_rows}
+use Rattle.eds_read_types.proofs.PartOrder.{by_lists}
+use Rattle.eds_read_types.proofs.RowRules.{AreLeveled, alike_kinds}
+use Rattle.eds_read_types.proofs.SequenceFacts.{OwnDiffer, AreDisjoint, name_mark, parts_above, has-parts, disjoint-by}
+use Rattle.eds_read_types.proofs.FamilyFacts.{size_is}
+use Rattle.eds_nesting.specs.Families.{families, family, containers, types_of, types_in}
+use Rattle.eds_read_types.specs.LimitFamily.{family_size, family_at}
 use Rattle.eds_read_types.proofs.LevelFacts.{HasLevels}
-use Rattle.eds_read_types.proofs.NestingFacts.{no_base_cycle, rank as rank_in, few_ranks, nested, base_ranks, part_named}
-use Rattle.eds_read_types.proofs.EmptyFacts.{has_bits, solid}
+use Rattle.eds_read_types.proofs.NestingFacts.{no_base_cycle, course-ends, rank as rank_in, few_ranks, nested, base_ranks, part_named}
+use Rattle.eds_read_types.proofs.EmptyFacts.{has_bits, solid, closed}
 use Rattle.eds_read_types.proofs.ListFieldFacts.{counted}
-use Rattle.eds_read_types.proofs.Found.{id_there, number_there}
+use Rattle.eds_read_types.proofs.PartFacts.{mapped_there, placed_all, no_item, part_none}
+use Rattle.eds_read_types.proofs.PartNames.{among_has, among_parts, element_names, row_names as parts_named, names_distinct, padding_keeps}
+use Rattle.eds_read_types.proofs.Found.{id_there, found_there, number_there}
 use Rattle.eds_read_types.proofs.SortFacts.{sort_named, binary_keeps}
-use Rattle.eds_read_types.proofs.ChainFacts.{over-none, each-none, unmet, level}
-use Rattle.eds_read_types.proofs.NumberFacts.{HasNumbers, base_there, base_is_sub, few_levels, less_levels, domains, derives_from}
+use Rattle.eds_read_types.proofs.ChainFacts.{each-none, over-none, unmet, level}
+use Rattle.eds_read_types.proofs.NumberFacts.{HasNumbers, IsNoContainer, known_bases, base_there, base_is_sub, few_levels, less_levels, domains, derives_from}
 
 all_there : (p : TypeRow → Bool) (rows : List TypeRow) → list_all p rows ≡ true → (k : ℕ) (row : TypeRow) → slice_get rows k ≡ Some row → p row ≡ true
 all_there p [] h k row e = absurd cc
@@ -159,23 +171,8 @@ sub_is_number trees at h = rw h (true_or (is_element trees (codes "IntegerDataTy
 number_kind : (trees : List (List Node)) (names : Names) (id : ℕ) (at : Place) → is_number trees at ≡ true → kind_of trees names id at ≡ kind.Int (numbers_of trees (type_places names) (bases_of trees names) id).form (numbers_of trees (type_places names) (bases_of trees names) id).spans
 number_kind trees names id at h =
     let container : is_container trees at ≡ false = number_apart (node_name (element trees at)) (codes "ContainerDataType") refl refl h in
-    rw container (in_tree_number (slice_get trees at.file) at.node (numbers_of trees (type_places names) (bases_of trees names) id) h)
-
--- whatever is no container has no parts
-pub scalar_by : (o : Option (List Node)) (n : ℕ) (numbers : FormAndDomain) → container_by (scalar_kind_in o n numbers) ≡ None
-scalar_by None n numbers = refl
-scalar_by (Some t) n numbers = go (sort_of (name_at t n))
-  where
-    go : (s : Option Sort) → container_by (scalar_kind_by s t n numbers) ≡ None
-    go None = refl
-    go (Some sort.Integer) = refl
-    go (Some sort.Enumerated) = refl
-    go (Some sort.Boolean) = refl
-    go (Some sort.Text) = refl
-    go (Some sort.Binary) = refl
-    go (Some sort.Array) = refl
-    go (Some sort.SubRange) = refl
-    go (Some sort.Container) = refl
+    let array : is_array trees at ≡ false = number_apart (node_name (element trees at)) (codes "ArrayDataType") refl refl h in
+    rw container (rw array (in_tree_number (slice_get trees at.file) at.node (numbers_of trees (type_places names) (bases_of trees names) id) h))
 
 -- ---- bases
 
@@ -185,12 +182,9 @@ record IsBaseOf (trees : List (List Node)) (names : Names) (base : TypeId) : Typ
   there : slice_get (type_places names) base.0 ≡ Some place
   number : is_number trees place ≡ true
 
-base_of_sub : (trees : List (List Node)) (names : Names) (at : Place) (base : TypeId) → judged_at (wrong_kind_at trees names) trees at ≡ [] → base_found trees names at ≡ Some base → IsBaseOf trees names base
-base_of_sub trees names at base h e = text_of (attribute trees (codes "baseType") at) (sym by_row ∙ h) (sym by_attribute ∙ e)
+base_of_sub : (trees : List (List Node)) (names : Names) (at : Place) (base : TypeId) → is_sub_range trees at ≡ true → judged_at (wrong_kind_at trees names) trees at ≡ [] → base_found trees names at ≡ Some base → IsBaseOf trees names base
+base_of_sub trees names at base sub h e = text_of (attribute trees (codes "baseType") at) (sym by_row ∙ h) (sym by_attribute ∙ e)
   where
-    sub : is_sub_range trees at ≡ true
-    sub = base_is_sub trees names at base e
-
     by_row : judged_at (wrong_kind_at trees names) trees at ≡ judged_text (wrong_kind_at trees names) at NumberType (attribute trees (codes "baseType") at)
     by_row = ap (λ name. judged_by (wrong_kind_at trees names) trees at (row_for references name)) ((bytes_eq-Decides (node_name (element trees at)) (codes "SubRangeDataType")).0 sub)
 
@@ -215,57 +209,155 @@ base_of_sub trees names at base h e = text_of (attribute trees (codes "baseType"
     text_of None k f = absurd cc
     text_of (Some text) k f = found text (look_up names at text) k f
 
--- a container has no base
-no_base : (trees : List (List Node)) (names : Names) (at : Place) → is_container trees at ≡ true → base_found trees names at ≡ None
-no_base trees names at is = go (base_found trees names at) refl
+-- the base of a container
+record IsBaseContainer (trees : List (List Node)) (names : Names) (base : TypeId) : Type 0 where
+  place : Place
+  there : slice_get (type_places names) base.0 ≡ Some place
+  container : is_container trees place ≡ true
+
+base_of_container : (trees : List (List Node)) (names : Names) (at : Place) (base : TypeId) → is_container trees at ≡ true → judged_at (wrong_kind_at trees names) trees at ≡ [] → base_found trees names at ≡ Some base → IsBaseContainer trees names base
+base_of_container trees names at base is h e = text_of (attribute trees (codes "baseType") at) (sym by_row ∙ h) (sym by_attribute ∙ e)
   where
-    go : (o : Option TypeId) → base_found trees names at ≡ o → base_found trees names at ≡ None
-    go None e = e
-    go (Some base) e =
-        let number = sub_is_number trees at (base_is_sub trees names at base e) in
-        let other : is_container trees at ≡ false = number_apart (node_name (element trees at)) (codes "ContainerDataType") refl refl number in
-        absurd (clash (is_container trees at) other is)
+    by_row : judged_at (wrong_kind_at trees names) trees at ≡ judged_text (wrong_kind_at trees names) at ContainerType (attribute trees (codes "baseType") at)
+    by_row = ap (λ name. judged_by (wrong_kind_at trees names) trees at (row_for references name)) ((bytes_eq-Decides (node_name (element trees at)) (codes "ContainerDataType")).0 is)
+
+    by_attribute : base_found trees names at ≡ id_found names at (attribute trees (codes "baseType") at)
+    by_attribute = rw (is, true_or (is_sub_range trees at)) refl
+
+    is_one : (b : Bool) (r : Refusal) → (if b then [] else r ∷ []) ≡ [] → b ≡ true
+    is_one true r k = refl
+    is_one false r k = absurd cc
+
+    placed : (text : List ℕ) (o : Option Place) → slice_get (type_places names) base.0 ≡ o → kind_by trees at text ContainerType o ≡ [] → IsBaseContainer trees names base
+    placed text None q k = absurd cc
+    placed text (Some place) q k = record { place = place; there = q; container = is_one (is_container trees place) _ k }
+
+    found : (text : List ℕ) (o : Option Item) → wrong_kind_by trees names at text ContainerType o ≡ [] → (o >>= id_of) ≡ Some base → IsBaseContainer trees names base
+    found text None k f = absurd cc
+    found text (Some (item.Sort id)) k f = let same : id ≡ base = cc in placed text (slice_get (type_places names) base.0) refl (subst (λ (i : TypeId). kind_by trees at text ContainerType (slice_get (type_places names) i.0) ≡ []) same k)
+    found text (Some (item.Face id)) k f = absurd cc
+    found text (Some (item.Comp id)) k f = absurd cc
+
+    text_of : (o : Option (List ℕ)) → judged_text (wrong_kind_at trees names) at ContainerType o ≡ [] → id_found names at o ≡ Some base → IsBaseContainer trees names base
+    text_of None k f = absurd cc
+    text_of (Some text) k f = found text (look_up names at text) k f
 
 -- ---- the rows of a sheet
 
-module _ (trees : List (List Node)) (names : Names) (word : Option (List ℕ)) (named : names_in trees ≡ Ok names) (small : length (types names) ≤ 4096) (u : IsUnbroken trees names word) where
+module _ (trees : List (List Node)) (names : Names) (word : Option (List ℕ)) (named : names_in trees ≡ Ok names) (u : IsUnbroken trees names word) where
   -- what the reference of a type finds is of the wanted kind
   fitting : AllByRecursion (λ at. judged_at (wrong_kind_at trees names) trees at ≡ []) (type_places names)
   fitting = of_types (λ at. judged_at (wrong_kind_at trees names) trees at ≡ []) trees names named (nowhere (judged_at (wrong_kind_at trees names) trees) (elements trees) u.kinds)
+
+  fits_at : (id : ℕ) (at : Place) → slice_get (type_places names) id ≡ Some at → judged_at (wrong_kind_at trees names) trees at ≡ []
+  fits_at id at there = at_one (λ at. judged_at (wrong_kind_at trees names) trees at ≡ []) (type_places names) fitting id at there
+
+  -- ---- bases
+
+  -- a number has a number as its base
+  on_numbers : (id : ℕ) (base : TypeId) → base_at (bases_of trees names) id ≡ Some base → IsNoContainer trees names id → IsNoContainer trees names base.0
+  on_numbers id base e other at there = go (slice_get (type_places names) id) refl
+    where
+      go : (o : Option Place) → slice_get (type_places names) id ≡ o → is_container trees at ≡ false
+      go None q = let no : None ≡ Some base = sym (known_bases trees names id q) ∙ e in absurd cc
+      go (Some own) q =
+          let found = sym (base_there trees names id own q) ∙ e in
+          let b = base_of_sub trees names own base (base_is_sub trees names own base found (other own q)) (fits_at id own q) found in
+          let same : b.place ≡ at = (let both : Some b.place ≡ Some at = sym b.there ∙ there in cc) in
+          number_apart (node_name (element trees at)) (codes "ContainerDataType") refl refl (subst (λ p. is_number trees p ≡ true) same b.number)
 
   -- ---- containers
 
   row_of : (id : ℕ) (d : Declared) → slice_get (types names) id ≡ Some d → slice_get (table_rows trees names) id ≡ Some (table_row trees names id d)
   row_of id d there = row_there trees names 0 (types names) id d there id (omega arith)
 
-  -- ---- levels and ranks
+  -- a type that has a base derives from it
+  derives : (id : ℕ) (d : Declared) → slice_get (types names) id ≡ Some d → (base : TypeId) → base_found trees names d.place ≡ Some base → HasKind (table_rows trees names) base.0 (DerivesFrom (kind_of trees names id d.place))
+  derives id d there base e = go (is_container trees d.place) refl
+    where
+      place : slice_get (type_places names) id ≡ Some d.place
+      place = place_there (types names) id d there
+
+      from_number : is_container trees d.place ≡ false → HasKind (table_rows trees names) base.0 (DerivesFrom (kind_of trees names id d.place))
+      from_number is =
+          let sub = base_is_sub trees names d.place base e is in
+          let b = base_of_sub trees names d.place base sub (fits_at id d.place place) e in
+          let other = declared_there (types names) base.0 b.place b.there in
+          let base_number : is_number trees (other.0).place ≡ true = ap (is_number trees) other.2 ∙ b.number in
+          let number = sub_is_number trees d.place sub in (
+            table_row trees names base.0 other.0,
+            row_there trees names 0 (types names) base.0 other.0 other.1 base.0 (omega arith),
+            subst (λ k. DerivesFrom k (kind_of trees names base.0 (other.0).place)) (sym (number_kind trees names id d.place number))
+                (subst (DerivesFrom (kind.Int (numbers_of trees (type_places names) (bases_of trees names) id).form (numbers_of trees (type_places names) (bases_of trees names) id).spans)) (sym (number_kind trees names base.0 (other.0).place base_number))
+                (derives_from trees names u.cycles u.chains u.encodings u.ranges u.subs on_numbers id base (base_there trees names id d.place place ∙ e))),
+          )
+
+      from_container : is_container trees d.place ≡ true → HasKind (table_rows trees names) base.0 (DerivesFrom (kind_of trees names id d.place))
+      from_container is =
+          let b = base_of_container trees names d.place base is (fits_at id d.place place) e in
+          let other = declared_there (types names) base.0 b.place b.there in
+          let base_is : is_container trees (other.0).place ≡ true = ap (is_container trees) other.2 ∙ b.container in (
+            table_row trees names base.0 other.0,
+            row_there trees names 0 (types names) base.0 other.0 other.1 base.0 (omega arith),
+            rw (is, base_is) tt,
+          )
+
+      go : (b : Bool) → is_container trees d.place ≡ b → HasKind (table_rows trees names) base.0 (DerivesFrom (kind_of trees names id d.place))
+      go true is = from_container is
+      go false is = from_number is
 
   number_some : (o : Option TypeId) (n : ℕ) → number_of_id o ≡ Some n → (id : TypeId) × (o ≡ Some id) × (id.0 ≡ n)
   number_some None n e = absurd cc
   number_some (Some id) n e = (id, refl, cc)
 
-  base_row : (id base : ℕ) → base_of (table_rows trees names) id ≡ Some base → level (bases_of trees names) id ≡ suc (level (bases_of trees names) base)
-  base_row id base e = go (slice_get (table_rows trees names) id) refl e
+  -- the declaration of a row with a base
+  record HasBase (id base : ℕ) : Type 0 where
+    declared : Declared
+    there : slice_get (types names) id ≡ Some declared
+    found : TypeId
+    by_name : base_found trees names declared.place ≡ Some found
+    number : found.0 ≡ base
+
+  has_base : (id base : ℕ) → base_of (table_rows trees names) id ≡ Some base → HasBase id base
+  has_base id base e = go (slice_get (table_rows trees names) id) refl e
     where
-      go : (o : Option TypeRow) → slice_get (table_rows trees names) id ≡ o → base_in o ≡ Some base → level (bases_of trees names) id ≡ suc (level (bases_of trees names) base)
+      go : (o : Option TypeRow) → slice_get (table_rows trees names) id ≡ o → base_in o ≡ Some base → HasBase id base
       go None q h = absurd cc
       go (Some row) q h =
           let r = row_at trees names 0 (types names) id row q id (omega arith) in
           let some = number_some (base_found trees names r.declared.place) base (sym (ap (λ (w : TypeRow). number_of_id w.base) r.is) ∙ h) in
-          let place = place_there (types names) id r.declared r.there in
-          subst (λ n. level (bases_of trees names) id ≡ suc (level (bases_of trees names) n)) some.2
-          (less_levels trees names u.cycles u.chains u.encodings u.ranges u.subs id some.0 (base_there trees names id r.declared.place place ∙ some.1))
+          record { declared = r.declared; there = r.there; found = some.0; by_name = some.1; number = some.2 }
+
+  -- a container derives from a container, and nothing else does
+  base_alike : (id base : ℕ) → base_of (table_rows trees names) id ≡ Some base → is_some (container_of (table_rows trees names) base) ≡ is_some (container_of (table_rows trees names) id)
+  base_alike id base e =
+      let h = has_base id base e in
+      let k = derives id h.declared h.there h.found h.by_name in
+      subst (λ n. is_some (container_of (table_rows trees names) n) ≡ is_some (container_of (table_rows trees names) id)) h.number
+      (ap (λ o. is_some (container_in o)) k.1 ∙ alike_kinds (kind_of trees names id h.declared.place) (k.0).kind k.2 ∙ sym (ap (λ o. is_some (container_in o)) (row_of id h.declared h.there)))
+
+  derives_number : (id : ℕ) (d : Declared) → slice_get (types names) id ≡ Some d → (base : ℕ) → number_of_id (base_found trees names d.place) ≡ Some base → HasKind (table_rows trees names) base (DerivesFrom (kind_of trees names id d.place))
+  derives_number id d there base e = let some = number_some (base_found trees names d.place) base e in subst (λ n. HasKind (table_rows trees names) n (DerivesFrom (kind_of trees names id d.place))) some.2 (derives id d there some.0 some.1)
+
+  -- ---- levels and ranks
+
+  base_row : (id base : ℕ) → base_of (table_rows trees names) id ≡ Some base → level (bases_of trees names) id ≡ suc (level (bases_of trees names) base)
+  base_row id base e =
+      let h = has_base id base e in
+      subst (λ n. level (bases_of trees names) id ≡ suc (level (bases_of trees names) n)) h.number
+      (less_levels trees names u.cycles u.chains u.encodings u.ranges u.subs on_numbers id h.found (base_there trees names id h.declared.place (place_there (types names) id h.declared h.there) ∙ h.by_name))
+
+  base_within : (id base : ℕ) → base_of (table_rows trees names) id ≡ Some base → base < length (table_rows trees names)
+  base_within id base e =
+      let h = has_base id base e in
+      let within = number_there trees names named h.declared.place (base_named trees h.declared.place) h.found h.by_name in
+      subst (λ n. n < length (table_rows trees names)) h.number (subst (λ n. (h.found).0 < n) (sym (length-rows trees names 0 (types names))) within)
 
   levels : HasLevels (table_rows trees names)
-  levels = record { level = level (bases_of trees names); base_level = base_row; base_within = λ id base e. base_there_row id base (slice_get (table_rows trees names) id) refl e }
-    where
-      base_there_row : (id base : ℕ) (o : Option TypeRow) → slice_get (table_rows trees names) id ≡ o → base_in o ≡ Some base → base < length (table_rows trees names)
-      base_there_row id base None q h = absurd cc
-      base_there_row id base (Some row) q h =
-          let r = row_at trees names 0 (types names) id row q id (omega arith) in
-          let some = number_some (base_found trees names r.declared.place) base (sym (ap (λ (w : TypeRow). number_of_id w.base) r.is) ∙ h) in
-          let within = number_there trees names named r.declared.place (base_named trees r.declared.place) some.0 some.1 in
-          subst (λ n. n < length (table_rows trees names)) some.2 (subst (λ n. (some.0).0 < n) (sym (length-rows trees names 0 (types names))) within)
+  levels = record { level = level (bases_of trees names); base_level = base_row; base_within = base_within }
+
+  leveled : AreLeveled (table_rows trees names)
+  leveled = record { level = level (bases_of trees names); low = few_levels trees names u.cycles u.chains u.encodings u.ranges u.subs on_numbers; base_level = base_row }
 
   -- the element of a type that is there
   place_of : (id : ℕ) → id < length (table_rows trees names) → (at : Place) × (slice_get (type_places names) id ≡ Some at)
@@ -300,28 +392,32 @@ module _ (trees : List (List Node)) (names : Names) (word : Option (List ℕ)) (
   entry_there : (q : Place) (id : ℕ) (d : Declared) → slice_get (types names) id ≡ Some d → (entry_id trees names q).0 < length (table_rows trees names)
   entry_there q id d there = subst (λ n. (entry_id trees names q).0 < n) (sym (length-rows trees names 0 (types names))) (id_there trees names q (slice_get_within (types names) id d there) named)
 
+  -- the parts of a container's row are those that its elements are
+  parts_from : (id : ℕ) (d : Declared) → container_of (table_rows trees names) id ≡ Some (container_at trees names id d.place) → parts_in (container_of (table_rows trees names) id) ≡ map (part_in trees names id) (own_parts_at trees d.place)
+  parts_from id d is = ap parts_in is ∙ sym (map-append (part_in trees names id) (entries_at trees d.place) (trailers_at trees d.place))
+
   -- a part of a container's row, and the element that it was read from
-  part_there : (id : ℕ) (d : Declared) → container_of (table_rows trees names) id ≡ Some (container_at trees names id d.place) → (k : ℕ) (q : Place) → slice_get (entries_at trees d.place) k ≡ Some q
-      → slice_get (entries_in (container_of (table_rows trees names) id)) k ≡ Some (part_at trees names id (entries_at trees d.place) q)
-  part_there id d is k q e = ap (λ c. slice_get (entries_in c) k) is ∙ (slice_get-map (part_at trees names id (entries_at trees d.place)) (entries_at trees d.place) k ∙ ap (option_map (part_at trees names id (entries_at trees d.place))) e)
+  part_there : (id : ℕ) (d : Declared) → container_of (table_rows trees names) id ≡ Some (container_at trees names id d.place) → (k : ℕ) (q : Place) → slice_get (own_parts_at trees d.place) k ≡ Some q
+      → slice_get (parts_in (container_of (table_rows trees names) id)) k ≡ Some (part_in trees names id q)
+  part_there id d is k q e = ap (λ ps. slice_get ps k) (parts_from id d is) ∙ (slice_get-map (part_in trees names id) (own_parts_at trees d.place) k ∙ ap (option_map (part_in trees names id)) e)
 
   container_is : (id : ℕ) (d : Declared) → slice_get (types names) id ≡ Some d → is_container trees d.place ≡ true → container_of (table_rows trees names) id ≡ Some (container_at trees names id d.place)
   container_is id d there con = ap container_in (row_of id d there) ∙ rw con refl
 
   -- where a part's type is no open binary and has bits
   solid_type : (id : ℕ) → open_of (table_rows trees names) id ≡ None → may_be_empty (table_rows trees names) id ≡ false → IsSolid (table_rows trees names) id × (open_of (table_rows trees names) id ≡ None)
-  solid_type id closed_type bits = (solid (table_rows trees names) id (has_bits (table_rows trees names) id bits).0, closed_type)
+  solid_type id closed_type bits = (solid_own (table_rows trees names) base_alike id (solid (table_rows trees names) id (has_bits (table_rows trees names) id bits).0), closed_type)
 
   no_open : (o : Option ℕ) (at : Place) → untold_by at o ≡ [] → o ≡ None
   no_open None at h = refl
   no_open (Some n) at h = absurd cc
 
   -- the type of an entry has bits, and is no open binary
-  entry_solid : (id : ℕ) (d : Declared) → slice_get (types names) id ≡ Some d → is_container trees d.place ≡ true → (k : ℕ) (q : Place) → slice_get (entries_at trees d.place) k ≡ Some q → sort_at trees q ≡ Some sorts.Entry
+  entry_solid : (id : ℕ) (d : Declared) → slice_get (types names) id ≡ Some d → is_container trees d.place ≡ true → (k : ℕ) (q : Place) → slice_get (own_parts_at trees d.place) k ≡ Some q → sort_at trees q ≡ Some sorts.Entry
       → IsSolid (table_rows trees names) (entry_id trees names q).0 × (open_of (table_rows trees names) (entry_id trees names q).0 ≡ None)
   entry_solid id d there con k q e s =
       let place = place_there (types names) id d there in
-      let part = part_there id d (container_is id d there con) k q e ∙ ap (λ s. Some (part_by s trees names id (entries_at trees d.place) q)) s in
+      let part = part_there id d (container_is id d there con) k q e ∙ ap (λ s. Some (part_by s trees names id (seats_of trees names id) q)) s in
       let open_none = no_open (open_of (table_rows trees names) (entry_id trees names q).0) q (part_none length_field_at trees names u.lengths id d.place place k (plain_part trees names q) part q e) in
       let bits = full (open_of (table_rows trees names) (entry_id trees names q).0) (may_be_empty (table_rows trees names) (entry_id trees names q).0) open_none
       (unmet (is_empty_entry (table_rows trees names) (entry_id trees names q).0) _ (part_none empty_part_at trees names u.empty_parts id d.place place k (plain_part trees names q) part q e)) in
@@ -332,13 +428,13 @@ module _ (trees : List (List Node)) (names : Names) (word : Option (List ℕ)) (
       full (Some n) empty e h = cc
 
   -- and the type of a list's items
-  list_solid : (id : ℕ) (d : Declared) → slice_get (types names) id ≡ Some d → is_container trees d.place ≡ true → (k : ℕ) (q : Place) → slice_get (entries_at trees d.place) k ≡ Some q → sort_at trees q ≡ Some sorts.List
+  list_solid : (id : ℕ) (d : Declared) → slice_get (types names) id ≡ Some d → is_container trees d.place ≡ true → (k : ℕ) (q : Place) → slice_get (own_parts_at trees d.place) k ≡ Some q → sort_at trees q ≡ Some sorts.List
       → IsSolid (table_rows trees names) (entry_id trees names q).0 × (open_of (table_rows trees names) (entry_id trees names q).0 ≡ None)
   list_solid id d there con k q e s =
       let place = place_there (types names) id d there in
-      let part = part_there id d (container_is id d there con) k q e ∙ ap (λ s. Some (part_by s trees names id (entries_at trees d.place) q)) s in
-      let open_none = no_open (open_of (table_rows trees names) (entry_id trees names q).0) q (part_none length_field_at trees names u.lengths id d.place place k (list_part trees names id (entries_at trees d.place) q) part q e) in
-      let bits = unmet (may_be_empty (table_rows trees names) (entry_id trees names q).0) _ (part_none empty_part_at trees names u.empty_parts id d.place place k (list_part trees names id (entries_at trees d.place) q) part q e) in
+      let part = part_there id d (container_is id d there con) k q e ∙ ap (λ s. Some (part_by s trees names id (seats_of trees names id) q)) s in
+      let open_none = no_open (open_of (table_rows trees names) (entry_id trees names q).0) q (part_none length_field_at trees names u.lengths id d.place place k (list_part trees names id (seats_of trees names id) q) part q e) in
+      let bits = unmet (may_be_empty (table_rows trees names) (entry_id trees names q).0) _ (part_none empty_part_at trees names u.empty_parts id d.place place k (list_part trees names id (seats_of trees names id) q) part q e) in
       solid_type (entry_id trees names q).0 open_none bits
 
   -- padding keeps its size, and has no type
@@ -349,12 +445,13 @@ module _ (trees : List (List Node)) (names : Names) (word : Option (List ℕ)) (
   unread_keeps id k = pad_keeps id k 8 (lit≤ tt) (lit≤ tt)
 
   -- what a part names, its container names
-  holds_part : (id : ℕ) (d : Declared) → is_container trees d.place ≡ true → (k : ℕ) (q : Place) → slice_get (entries_at trees d.place) k ≡ Some q → (x : ℕ) → type_by (Some (part_at trees names id (entries_at trees d.place) q)) ≡ Some x → is_one_of (types_in (table_row trees names id d).kind) x
+  holds_part : (id : ℕ) (d : Declared) → is_container trees d.place ≡ true → (k : ℕ) (q : Place) → slice_get (own_parts_at trees d.place) k ≡ Some q → (x : ℕ) → type_by (Some (part_in trees names id q)) ≡ Some x → is_one_of (types_in (table_row trees names id d).kind) x
   holds_part id d con k q e x h =
-      let there = slice_get-map (part_at trees names id (entries_at trees d.place)) (entries_at trees d.place) k ∙ ap (option_map (part_at trees names id (entries_at trees d.place))) e in
-      rw con (has-left (types_of (map (part_at trees names id (entries_at trees d.place)) (entries_at trees d.place))) (types_of []) x (part_named (map (part_at trees names id (entries_at trees d.place)) (entries_at trees d.place)) k (part_at trees names id (entries_at trees d.place) q) there x h))
+      let there = slice_get-map (part_in trees names id) (own_parts_at trees d.place) k ∙ ap (option_map (part_in trees names id)) e in
+      let all : types_of (map (part_in trees names id) (own_parts_at trees d.place)) ≡ types_of (map (part_in trees names id) (entries_at trees d.place)) ++ types_of (map (part_in trees names id) (trailers_at trees d.place)) = ap types_of (map-append (part_in trees names id) (entries_at trees d.place) (trailers_at trees d.place)) ∙ flat_map-append (λ (p : Part). option_to_list (type_by (Some p))) (map (part_in trees names id) (entries_at trees d.place)) (map (part_in trees names id) (trailers_at trees d.place)) in
+      rw con (subst (λ xs. is_one_of xs x) all (part_named (map (part_in trees names id) (own_parts_at trees d.place)) k (part_in trees names id q) there x h))
 
-  plain_keeps : (id : ℕ) (d : Declared) → slice_get (types names) id ≡ Some d → is_container trees d.place ≡ true → (k : ℕ) (q : Place) → slice_get (entries_at trees d.place) k ≡ Some q → sort_at trees q ≡ Some sorts.Entry
+  plain_keeps : (id : ℕ) (d : Declared) → slice_get (types names) id ≡ Some d → is_container trees d.place ≡ true → (k : ℕ) (q : Place) → slice_get (own_parts_at trees d.place) k ≡ Some q → sort_at trees q ≡ Some sorts.Entry
       → EntryKeeps (table_rows trees names) rank (record { container = id; place = k; part = plain_part trees names q })
   plain_keeps id d there con k q e s =
       record {
@@ -362,8 +459,8 @@ module _ (trees : List (List Node)) (names : Names) (word : Option (List ℕ)) (
         nests = λ inner same_type. nests inner same_type;
       }
     where
-      here : part_at trees names id (entries_at trees d.place) q ≡ plain_part trees names q
-      here = ap (λ s. part_by s trees names id (entries_at trees d.place) q) s
+      here : part_in trees names id q ≡ plain_part trees names q
+      here = ap (λ s. part_by s trees names id (seats_of trees names id) q) s
 
       nests : (inner : ℕ) → type_by (Some (plain_part trees names q)) ≡ Some inner → IsNested (table_rows trees names) rank id inner
       nests inner same_type =
@@ -372,27 +469,21 @@ module _ (trees : List (List Node)) (names : Names) (word : Option (List ℕ)) (
           nested (table_rows trees names) levels circleless id (table_row trees names id d) (row_of id d there) inner lt (holds_part id d con k q e inner (ap (λ p. type_by (Some p)) here ∙ same_type))
 
   -- the number of items is told by an entry before the list
-  list_counted : (id : ℕ) (d : Declared) → slice_get (types names) id ≡ Some d → is_container trees d.place ≡ true → (k : ℕ) (q : Place) → slice_get (entries_at trees d.place) k ≡ Some q → sort_at trees q ≡ Some sorts.List
-      → IsCounted (table_rows trees names) (record { container = id; place = k; part = list_part trees names id (entries_at trees d.place) q }) (type_number id).0 (field_place trees (entries_at trees d.place) q)
+  list_counted : (id : ℕ) (d : Declared) → slice_get (types names) id ≡ Some d → is_container trees d.place ≡ true → (k : ℕ) (q : Place) → slice_get (own_parts_at trees d.place) k ≡ Some q → sort_at trees q ≡ Some sorts.List
+      → IsCounted (table_rows trees names) (record { container = id; place = k; part = list_part trees names id (seats_of trees names id) q }) (field_container id (field_seat trees (seats_of trees names id) q)).0 (field_place (field_seat trees (seats_of trees names id) q))
   list_counted id d there con k q e s =
       let place = place_there (types names) id d there in
-      let container = container_is id d there con in
-      let part = part_there id d container k q e ∙ ap (λ s. Some (part_by s trees names id (entries_at trees d.place) q)) s in
-      let own = slice_get-map (part_at trees names id (entries_at trees d.place)) (entries_at trees d.place) k ∙ (ap (option_map (part_at trees names id (entries_at trees d.place))) e ∙ ap (λ s. Some (part_by s trees names id (entries_at trees d.place) q)) s) in
-      let told = met (is_told (table_rows trees names) id (field_place trees (entries_at trees d.place) q) k) _ (part_none list_field_at trees names u.list_fields id d.place place k (list_part trees names id (entries_at trees d.place) q) part q e) in
-      let root = ap base_in (row_of id d there) ∙ ap number_of_id (no_base trees names d.place con) in
-      subst (λ y. IsCounted (table_rows trees names) (record { container = id; place = k; part = list_part trees names id (entries_at trees d.place) q }) y (field_place trees (entries_at trees d.place) q)) (sym (number_is (slice_get_within (types names) id d there)))
-      (counted (table_rows trees names) id (container_at trees names id d.place) root container refl (field_place trees (entries_at trees d.place) q) k (list_part trees names id (entries_at trees d.place) q) own told)
+      let part = part_there id d (container_is id d there con) k q e ∙ ap (λ s. Some (part_by s trees names id (seats_of trees names id) q)) s in
+      let field = field_seat trees (seats_of trees names id) q in
+      let told = met (is_told (table_rows trees names) (field_container id field).0 (field_place field) id k) _ (part_none list_field_at trees names u.list_fields id d.place place k (list_part trees names id (seats_of trees names id) q) part q e) in
+      counted (table_rows trees names) id (field_container id field).0 (field_place field) k (list_part trees names id (seats_of trees names id) q) part told
     where
       met : (b : Bool) (r : Refusal) → (if b then [] else r ∷ []) ≡ [] → b ≡ true
       met true r h = refl
       met false r h = absurd cc
 
-      number_is : id < length (types names) → (type_number id).0 ≡ id
-      number_is lt = let low : nat_le id 4294967295 ≡ true = le-leb id 4294967295 (omega (arith, lt, small)) in rw low refl
-
-  list_keeps : (id : ℕ) (d : Declared) → slice_get (types names) id ≡ Some d → is_container trees d.place ≡ true → (k : ℕ) (q : Place) → slice_get (entries_at trees d.place) k ≡ Some q → sort_at trees q ≡ Some sorts.List
-      → EntryKeeps (table_rows trees names) rank (record { container = id; place = k; part = list_part trees names id (entries_at trees d.place) q })
+  list_keeps : (id : ℕ) (d : Declared) → slice_get (types names) id ≡ Some d → is_container trees d.place ≡ true → (k : ℕ) (q : Place) → slice_get (own_parts_at trees d.place) k ≡ Some q → sort_at trees q ≡ Some sorts.List
+      → EntryKeeps (table_rows trees names) rank (record { container = id; place = k; part = list_part trees names id (seats_of trees names id) q })
   list_keeps id d there con k q e s =
       let full = list_solid id d there con k q e s in
       record {
@@ -400,20 +491,20 @@ module _ (trees : List (List Node)) (names : Names) (word : Option (List ℕ)) (
         nests = λ inner same_type. nests inner same_type;
       }
     where
-      here : part_at trees names id (entries_at trees d.place) q ≡ list_part trees names id (entries_at trees d.place) q
-      here = ap (λ s. part_by s trees names id (entries_at trees d.place) q) s
+      here : part_in trees names id q ≡ list_part trees names id (seats_of trees names id) q
+      here = ap (λ s. part_by s trees names id (seats_of trees names id) q) s
 
-      nests : (inner : ℕ) → type_by (Some (list_part trees names id (entries_at trees d.place) q)) ≡ Some inner → IsNested (table_rows trees names) rank id inner
+      nests : (inner : ℕ) → type_by (Some (list_part trees names id (seats_of trees names id) q)) ≡ Some inner → IsNested (table_rows trees names) rank id inner
       nests inner same_type =
           let is : (entry_id trees names q).0 ≡ inner = cc in
           let lt = subst (λ n. n < length (table_rows trees names)) is (entry_there q id d there) in
           nested (table_rows trees names) levels circleless id (table_row trees names id d) (row_of id d there) inner lt (holds_part id d con k q e inner (ap (λ p. type_by (Some p)) here ∙ same_type))
 
-  part_keeps : (id : ℕ) (d : Declared) → slice_get (types names) id ≡ Some d → is_container trees d.place ≡ true → (k : ℕ) (q : Place) → slice_get (entries_at trees d.place) k ≡ Some q
-      → EntryKeeps (table_rows trees names) rank (record { container = id; place = k; part = part_at trees names id (entries_at trees d.place) q })
+  part_keeps : (id : ℕ) (d : Declared) → slice_get (types names) id ≡ Some d → is_container trees d.place ≡ true → (k : ℕ) (q : Place) → slice_get (own_parts_at trees d.place) k ≡ Some q
+      → EntryKeeps (table_rows trees names) rank (record { container = id; place = k; part = part_in trees names id q })
   part_keeps id d there con k q e = go (sort_at trees q) refl
     where
-      go : (s : Option PartSort) → sort_at trees q ≡ s → EntryKeeps (table_rows trees names) rank (record { container = id; place = k; part = part_by s trees names id (entries_at trees d.place) q })
+      go : (s : Option PartSort) → sort_at trees q ≡ s → EntryKeeps (table_rows trees names) rank (record { container = id; place = k; part = part_by s trees names id (seats_of trees names id) q })
       go None s = unread_keeps id k
       go (Some sorts.Entry) s = plain_keeps id d there con k q e s
       go (Some sorts.FixedValue) s = unread_keeps id k
@@ -422,46 +513,37 @@ module _ (trees : List (List Node)) (names : Names) (word : Option (List ℕ)) (
       go (Some sorts.Length) s = unread_keeps id k
       go (Some sorts.ErrorControl) s = unread_keeps id k
 
-  entry_keeps : (id : ℕ) (d : Declared) → slice_get (types names) id ≡ Some d → is_container trees d.place ≡ true → (k : ℕ) (p : Part) → slice_get (map (part_at trees names id (entries_at trees d.place)) (entries_at trees d.place)) k ≡ Some p → EntryKeeps (table_rows trees names) rank (record { container = id; place = k; part = p })
+  entry_keeps : (id : ℕ) (d : Declared) → slice_get (types names) id ≡ Some d → is_container trees d.place ≡ true → (k : ℕ) (p : Part) → slice_get (map (part_in trees names id) (own_parts_at trees d.place)) k ≡ Some p → EntryKeeps (table_rows trees names) rank (record { container = id; place = k; part = p })
   entry_keeps id d there con k p e =
-      let q = mapped_there (part_at trees names id (entries_at trees d.place)) (entries_at trees d.place) k p e in
+      let q = mapped_there (part_in trees names id) (own_parts_at trees d.place) k p e in
       subst (λ part. EntryKeeps (table_rows trees names) rank (record { container = id; place = k; part = part })) q.2 (part_keeps id d there con k q.0 q.1)
 
-  container_row : (id : ℕ) (d : Declared) → slice_get (types names) id ≡ Some d → is_container trees d.place ≡ true → length (entries_at trees d.place) ≤ 32767
+  container_row : (id : ℕ) (d : Declared) → slice_get (types names) id ≡ Some d → is_container trees d.place ≡ true → (length (entries_at trees d.place) ≤ 32767) × (length (trailers_at trees d.place) ≤ 32767)
       → KeepsRow (table_rows trees names) rank id (record { name = d.name; base = base_found trees names d.place; kind = kind.Con (container_at trees names id d.place) })
   container_row id d there is few =
-      let place = place_there (types names) id d there in
-      let rootless = no_base trees names d.place is in
-      let differ : repeats trees [] (named_among trees (entries_at trees d.place)) ≡ [] = rw is at (each-none (duplicates_at trees names) (type_places names) u.duplicates id d.place place) in
       record {
-        kind_keeps = (subst (λ n. n ≤ 32767) (sym (length-map (entries_at trees d.place) (part_at trees names id (entries_at trees d.place)))) few, lit≤ tt);
-        derives = λ base e. absurd (no_other base e rootless);
+        kind_keeps = (subst (λ n. n ≤ 32767) (sym (length-map (entries_at trees d.place) (part_in trees names id))) few.0, subst (λ n. n ≤ 32767) (sym (length-map (trailers_at trees d.place) (part_in trees names id))) few.1);
+        derives = λ base e. rw is at (derives_number id d there base e);
         plain = record {
-          concrete = refl;
-          root = ap number_of_id rootless;
           bare = refl;
-          trailers = refl;
-          entries = placed_all (EntryKeeps (table_rows trees names) rank) id 0 (map (part_at trees names id (entries_at trees d.place)) (entries_at trees d.place)) (λ k p e i same_place. subst (λ n. EntryKeeps (table_rows trees names) rank (record { container = id; place = n; part = p })) (to_sum k i same_place) (entry_keeps id d there is k p e));
-          names = names_distinct trees names id (entries_at trees d.place) (entries_at trees d.place) (no_repeats trees [] (named_among trees (entries_at trees d.place)) differ).1;
+          parts = subst (λ ps. AllByRecursion (EntryKeeps (table_rows trees names) rank) (placed_from id 0 ps)) (map-append (part_in trees names id) (entries_at trees d.place) (trailers_at trees d.place))
+              (placed_all (EntryKeeps (table_rows trees names) rank) id 0 (map (part_in trees names id) (own_parts_at trees d.place)) (λ k p e i same_place. subst (λ n. EntryKeeps (table_rows trees names) rank (record { container = id; place = n; part = p })) (to_sum k i same_place) (entry_keeps id d there is k p e)));
         };
       }
     where
       to_sum : (k i : ℕ) → k + 0 ≡ i → k ≡ i
       to_sum k i e = omega (arith, e)
 
-      no_other : (base : ℕ) → number_of_id (base_found trees names d.place) ≡ Some base → base_found trees names d.place ≡ None → ⊥
-      no_other base e f = let no : None ≡ Some base = sym (ap number_of_id f) ∙ e in cc
-
   -- ---- scalar types
 
-  scalar_keeps : (id : ℕ) (d : Declared) → slice_get (types names) id ≡ Some d → KindKeeps (scalar_kind_in (slice_get trees d.place.file) d.place.node (numbers_of trees (type_places names) (bases_of trees names) id))
-  scalar_keeps id d there = in_tree (slice_get trees d.place.file) (each-none (breaks_at encoding_breaks trees names) (type_places names) u.encodings id d.place place) (each-none (breaks_at enumeration_breaks trees names) (type_places names) u.enumerations id d.place place)
+  scalar_keeps : (id : ℕ) (d : Declared) → slice_get (types names) id ≡ Some d → is_container trees d.place ≡ false → KindKeeps (scalar_kind_in (slice_get trees d.place.file) d.place.node (numbers_of trees (type_places names) (bases_of trees names) id))
+  scalar_keeps id d there other = in_tree (slice_get trees d.place.file) (each-none (breaks_at encoding_breaks trees names) (type_places names) u.encodings id d.place place) (each-none (breaks_at enumeration_breaks trees names) (type_places names) u.enumerations id d.place place)
     where
       place : slice_get (type_places names) id ≡ Some d.place
       place = place_there (types names) id d there
 
       numbers : HasNumbers (numbers_of trees (type_places names) (bases_of trees names) id)
-      numbers = domains trees names u.cycles u.chains u.encodings u.ranges u.subs id
+      numbers = domains trees names u.cycles u.chains u.encodings u.ranges u.subs on_numbers id (λ at q. (let both : Some d.place ≡ Some at = sym place ∙ q in let same : d.place ≡ at = cc in subst (λ p. is_container trees p ≡ false) same other))
 
       of_type : (t : List Node) (s : Option Sort) → sort_of (name_at t d.place.node) ≡ s → encoding_breaks t d.place ≡ [] → enumeration_breaks t d.place ≡ []
           → KindKeeps (scalar_kind_by s t d.place.node (numbers_of trees (type_places names) (bases_of trees names) id))
@@ -479,26 +561,11 @@ module _ (trees : List (List Node)) (names : Names) (word : Option (List ℕ)) (
       in_tree None enc enu = numbers
       in_tree (Some t) enc enu = of_type t (sort_of (name_at t d.place.node)) refl enc enu
 
-  -- a type that has a base derives from it
-  derives : (id : ℕ) (d : Declared) → slice_get (types names) id ≡ Some d → (base : TypeId) → base_found trees names d.place ≡ Some base → HasKind (table_rows trees names) base.0 (DerivesFrom (kind_of trees names id d.place))
-  derives id d there base e =
-      let place = place_there (types names) id d there in
-      let b = base_of_sub trees names d.place base (at_one (λ at. judged_at (wrong_kind_at trees names) trees at ≡ []) (type_places names) fitting id d.place place) e in
-      let other = declared_there (types names) base.0 b.place b.there in
-      let base_number : is_number trees (other.0).place ≡ true = ap (is_number trees) other.2 ∙ b.number in
-      let number = sub_is_number trees d.place (base_is_sub trees names d.place base e) in (
-        table_row trees names base.0 other.0,
-        row_there trees names 0 (types names) base.0 other.0 other.1 base.0 (omega arith),
-        subst (λ k. DerivesFrom k (kind_of trees names base.0 (other.0).place)) (sym (number_kind trees names id d.place number))
-            (subst (DerivesFrom (kind.Int (numbers_of trees (type_places names) (bases_of trees names) id).form (numbers_of trees (type_places names) (bases_of trees names) id).spans)) (sym (number_kind trees names base.0 (other.0).place base_number))
-            (derives_from trees names u.cycles u.chains u.encodings u.ranges u.subs id base (base_there trees names id d.place place ∙ e))),
-      )
-
-  plain_scalar : (id : ℕ) (base : Option ℕ) (o : Option (List Node)) (n : ℕ) (numbers : FormAndDomain) → IsPlainKind (table_rows trees names) rank id base (scalar_kind_in o n numbers)
-  plain_scalar id base None n numbers = tt
-  plain_scalar id base (Some t) n numbers = go (sort_of (name_at t n))
+  plain_scalar : (id : ℕ) (o : Option (List Node)) (n : ℕ) (numbers : FormAndDomain) → IsPlainKind (table_rows trees names) rank id (scalar_kind_in o n numbers)
+  plain_scalar id None n numbers = tt
+  plain_scalar id (Some t) n numbers = go (sort_of (name_at t n))
     where
-      go : (s : Option Sort) → IsPlainKind (table_rows trees names) rank id base (scalar_kind_by s t n numbers)
+      go : (s : Option Sort) → IsPlainKind (table_rows trees names) rank id (scalar_kind_by s t n numbers)
       go None = tt
       go (Some sort.Integer) = tt
       go (Some sort.Enumerated) = tt
@@ -509,12 +576,57 @@ module _ (trees : List (List Node)) (names : Names) (word : Option (List ℕ)) (
       go (Some sort.SubRange) = tt
       go (Some sort.Container) = tt
 
-  scalar_row : (id : ℕ) (d : Declared) → slice_get (types names) id ≡ Some d → is_container trees d.place ≡ false → KeepsRow (table_rows trees names) rank id (table_row trees names id d)
-  scalar_row id d there is =
+  scalar_row : (id : ℕ) (d : Declared) → slice_get (types names) id ≡ Some d → is_container trees d.place ≡ false → is_array trees d.place ≡ false → KeepsRow (table_rows trees names) rank id (table_row trees names id d)
+  scalar_row id d there is other =
       record {
-        kind_keeps = rw is (scalar_keeps id d there);
-        derives = λ base e. (let some = number_some (base_found trees names d.place) base e in subst (λ n. HasKind (table_rows trees names) n (DerivesFrom (kind_of trees names id d.place))) some.2 (derives id d there some.0 some.1));
-        plain = rw is (plain_scalar id (number_of_id (base_found trees names d.place)) (slice_get trees d.place.file) d.place.node (numbers_of trees (type_places names) (bases_of trees names) id));
+        kind_keeps = rw is (rw other (scalar_keeps id d there is));
+        derives = λ base e. derives_number id d there base e;
+        plain = rw is (rw other (plain_scalar id (slice_get trees d.place.file) d.place.node (numbers_of trees (type_places names) (bases_of trees names) id)));
+      }
+
+  -- ---- arrays
+
+  -- the type of an array's items
+  abbrev item_id : Declared → TypeId
+  item_id d = id_or_first (id_found names d.place (attribute trees (codes "dataTypeRef") d.place))
+
+  item_there : (id : ℕ) (d : Declared) → slice_get (types names) id ≡ Some d → (item_id d).0 < length (table_rows trees names)
+  item_there id d there = subst (λ n. (item_id d).0 < n) (sym (length-rows trees names 0 (types names))) (found_there trees names d.place (attribute trees (codes "dataTypeRef") d.place) (slice_get_within (types names) id d there) named)
+
+  array_is : (id : ℕ) (d : Declared) → slice_get (types names) id ≡ Some d → is_container trees d.place ≡ false → is_array trees d.place ≡ true → slice_get (table_rows trees names) id ≡ Some (record { name = d.name; base = base_found trees names d.place; kind = array_kind trees names d.place })
+  array_is id d there is arr = row_of id d there ∙ rw is (rw arr refl)
+
+  array_plain : (id : ℕ) (d : Declared) → slice_get (types names) id ≡ Some d → is_container trees d.place ≡ false → is_array trees d.place ≡ true → IsPlainArray (table_rows trees names) rank id (item_id d).0
+  array_plain id d there is arr =
+      let place = place_there (types names) id d there in
+      let row = array_is id d there is arr in
+      let broken = over-none (empty_item_at trees (table_rows trees names)) 0 (type_places names) u.empty_items id d.place place id (omega arith) in
+      let bits = unmet (may_be_empty (table_rows trees names) (item_id d).0) _ (sym (ap (λ o. empty_item_by (table_rows trees names) d.place (item_in o)) row) ∙ broken) in
+      let is_closed = closed (open_of (table_rows trees names) (item_id d).0) (has_bits (table_rows trees names) (item_id d).0 bits).1 in
+      record {
+        nests = nested (table_rows trees names) levels circleless id (record { name = d.name; base = base_found trees names d.place; kind = array_kind trees names d.place }) row (item_id d).0 (item_there id d there) (inl refl);
+        solid = (solid_type (item_id d).0 is_closed bits).0;
+        closed = is_closed;
+      }
+
+  array_keeps : (id : ℕ) (d : Declared) → slice_get (types names) id ≡ Some d → is_container trees d.place ≡ false → is_array trees d.place ≡ true → KindKeeps (array_kind trees names d.place)
+  array_keeps id d there is arr =
+      let place = place_there (types names) id d there in
+      let row = array_is id d there is arr in
+      let broken = over-none (items_limit_at trees (table_rows trees names)) 0 (type_places names) u.items id d.place place id (omega arith) in
+      let few = unmet (is_too_large (slice_get (table_rows trees names) id)) _ broken in
+      let low : nat_lt 65536 (row_items (items_at trees names d.place)) ≡ false = sym (ap is_too_large row) ∙ few in
+      (row_some (items_at trees names d.place), at_most (row_items (items_at trees names d.place)) low)
+    where
+      at_most : (n : ℕ) → nat_lt 65536 n ≡ false → n ≤ 65536
+      at_most n h = let past = leb-false 65537 n h in omega (arith, past)
+
+  array_row : (id : ℕ) (d : Declared) → slice_get (types names) id ≡ Some d → is_container trees d.place ≡ false → is_array trees d.place ≡ true → KeepsRow (table_rows trees names) rank id (table_row trees names id d)
+  array_row id d there is arr =
+      record {
+        kind_keeps = rw is (rw arr (array_keeps id d there is arr));
+        derives = λ base e. derives_number id d there base e;
+        plain = rw is (rw arr (array_plain id d there is arr));
       }
 
   -- ---- all rows
@@ -522,11 +634,119 @@ module _ (trees : List (List Node)) (names : Names) (word : Option (List ℕ)) (
   keeps_row : (id : ℕ) (d : Declared) → slice_get (types names) id ≡ Some d → has_few_entries (table_row trees names id d) ≡ true → KeepsRow (table_rows trees names) rank id (table_row trees names id d)
   keeps_row id d there few = go (is_container trees d.place) refl
     where
+      by_array : is_container trees d.place ≡ false → (b : Bool) → is_array trees d.place ≡ b → KeepsRow (table_rows trees names) rank id (table_row trees names id d)
+      by_array is true arr = array_row id d there is arr
+      by_array is false arr = scalar_row id d there is arr
+
       go : (b : Bool) → is_container trees d.place ≡ b → KeepsRow (table_rows trees names) rank id (table_row trees names id d)
       go true is =
-          let short : nat_le (length (map (part_at trees names id (entries_at trees d.place)) (entries_at trees d.place))) 32767 ≡ true = rw is at few in
-          rw is (container_row id d there is (subst (λ n. n ≤ 32767) (length-map (entries_at trees d.place) (part_at trees names id (entries_at trees d.place))) (leb-true _ 32767 short)))
-      go false is = scalar_row id d there is
+          let both : (nat_le (length (map (part_in trees names id) (entries_at trees d.place))) 32767 && nat_le (length (map (part_in trees names id) (trailers_at trees d.place))) 32767) ≡ true = rw is at few in
+          let short = and_parts (nat_le (length (map (part_in trees names id) (entries_at trees d.place))) 32767) (nat_le (length (map (part_in trees names id) (trailers_at trees d.place))) 32767) both in
+          let kind_is : kind_of trees names id d.place ≡ kind.Con (container_at trees names id d.place) = rw is refl in
+          subst (λ k. KeepsRow (table_rows trees names) rank id (record { name = d.name; base = base_found trees names d.place; kind = k })) (sym kind_is) (container_row id d there is (subst (λ n. n ≤ 32767) (length-map (entries_at trees d.place) (part_in trees names id)) (leb-true _ 32767 short.0), subst (λ n. n ≤ 32767) (length-map (trailers_at trees d.place) (part_in trees names id)) (leb-true _ 32767 short.1)))
+      go false is = by_array is (is_array trees d.place) refl
+
+  -- ---- names along chains
+
+  record IsContainerRow (k : ℕ) : Type 0 where
+    declared : Declared
+    there : slice_get (types names) k ≡ Some declared
+    is : is_container trees declared.place ≡ true
+    container : container_of (table_rows trees names) k ≡ Some (container_at trees names k declared.place)
+
+  container_cases : (k : ℕ) → (container_of (table_rows trees names) k ≡ None) ⊎ IsContainerRow k
+  container_cases k = go (slice_get (table_rows trees names) k) refl
+    where
+      by_kind : (d : Declared) → slice_get (types names) k ≡ Some d → (b : Bool) → is_container trees d.place ≡ b → (container_of (table_rows trees names) k ≡ None) ⊎ IsContainerRow k
+      by_kind d there true is = inr (record { declared = d; there = there; is = is; container = ap container_in (row_of k d there) ∙ rw is refl })
+      by_kind d there false is = inl (ap container_in (row_of k d there) ∙ no_container trees names k d.place is)
+
+      go : (o : Option TypeRow) → slice_get (table_rows trees names) k ≡ o → (container_of (table_rows trees names) k ≡ None) ⊎ IsContainerRow k
+      go None q = inl (ap container_in q)
+      go (Some row) q = let r = row_at trees names 0 (types names) k row q k (omega arith) in by_kind r.declared r.there (is_container trees r.declared.place) refl
+
+  names_of : (y i : ℕ) (ps : List Part) → filter_map name_mark (placed_from y i ps) ≡ filter_map name_of ps
+  names_of y i [] = refl
+  names_of y i (p ∷ ps) = rw (names_of y (i + 1) ps) refl
+
+  own_names : (k : ℕ) → filter_map name_mark (own_parts (table_rows trees names) k) ≡ filter_map name_of (parts_in (container_of (table_rows trees names) k))
+  own_names k = ap (filter_map name_mark) (own_placed (table_rows trees names) k) ∙ names_of k 0 (parts_in (container_of (table_rows trees names) k))
+
+  no_names : (k : ℕ) → container_of (table_rows trees names) k ≡ None → filter_map name_mark (own_parts (table_rows trees names) k) ≡ []
+  no_names k none = own_names k ∙ ap (λ o. filter_map name_of (parts_in o)) none
+
+  nothing : (x : List ℕ) → Has [] x → ⊥
+  nothing x h = go h.before h.is
+    where
+      go : (before : List (List ℕ)) → [] ≡ before ++ x ∷ h.after → ⊥
+      go [] e = cc
+      go (b ∷ before) e = cc
+
+  -- the names of the parts of bases
+  above_among : (n : ℕ) (x : List ℕ) (o : Option ℕ) → Has (filter_map name_mark (flat_map (own_parts (table_rows trees names)) (chain_before (chain_within n (table_rows trees names)) o))) x → is_among (names_above n (table_rows trees names) o) x ≡ true
+  unfolding chain_within
+  above_among zero x None h = absurd (nothing x h)
+  above_among zero x (Some base) h = absurd (nothing x h)
+  above_among (suc n) x None h = absurd (nothing x h)
+  above_among (suc n) x (Some base) h =
+      let rows = table_rows trees names in
+      let above = flat_map (own_parts rows) (chain_before (chain_within n rows) (base_of rows base)) in
+      let split : filter_map name_mark (flat_map (own_parts rows) (chain_before (chain_within n rows) (base_of rows base) ++ base ∷ [])) ≡ filter_map name_mark above ++ filter_map name_of (parts_in (container_of rows base)) = ap (filter_map name_mark) (flat_map-append (own_parts rows) (chain_before (chain_within n rows) (base_of rows base)) (base ∷ []) ∙ ap (λ ps. above ++ ps) (append-nil (own_parts rows base))) ∙ filter_map-append name_mark above (own_parts rows base) ∙ ap (λ xs. filter_map name_mark above ++ xs) (own_names base) in
+      joined (is_among (filter_map name_of (parts_in (container_of rows base))) x) (is_among (names_above n rows (base_of rows base)) x)
+      (list_any-append (same x) (filter_map name_of (parts_in (container_of rows base))) (names_above n rows (base_of rows base)))
+      (elim (has-parts (filter_map name_mark above) (filter_map name_of (parts_in (container_of rows base))) x (subst (λ xs. Has xs x) split h)) [
+        | inl l ↦ inr (above_among n x (base_of rows base) l)
+        | inr r ↦ inl (among_has (filter_map name_of (parts_in (container_of rows base))) x r)
+      ])
+    where
+      joined : {w : Bool} (a b : Bool) → w ≡ (a || b) → (a ≡ true) ⊎ (b ≡ true) → w ≡ true
+      joined a b e (inl h) = e ∙ rw h refl
+      joined a b e (inr h) = e ∙ rw h (true_or a)
+
+  -- a part's name is that of no other of its container and its bases
+  own_differ : (k : ℕ) → OwnDiffer (table_rows trees names) leveled.level leveled.low leveled.base_level name_mark k
+  own_differ k = elim (container_cases k) [
+    | inl none ↦ record { own = subst AreDistinct (sym (no_names k none)) tt; apart = subst (λ xs. AreDisjoint xs (filter_map name_mark (parts_above (table_rows trees names) leveled.level leveled.low leveled.base_level k))) (sym (no_names k none)) tt }
+    | inr c ↦ (let there = place_there (types names) k c.declared c.there in
+        let above = names_above 16 (table_rows trees names) (base_of (table_rows trees names) k) in
+        let ordered = parts_at trees c.declared.place in
+        let parts = own_parts_at trees c.declared.place in
+        let others = filter_map name_mark (parts_above (table_rows trees names) leveled.level leveled.low leveled.base_level k) in
+        let differ : repeats trees above (named_among trees ordered) ≡ [] = rw c.is at (over-none (duplicates_at trees (table_rows trees names)) 0 (type_places names) u.duplicates k c.declared.place there k (omega arith)) in
+        let apart = no_repeats trees above (named_among trees ordered) differ in
+        let by = by_lists trees names k (seats_of trees names k) c.declared.place (names_distinct trees names k (seats_of trees names k) ordered apart.1) in
+        let own : filter_map name_mark (own_parts (table_rows trees names) k) ≡ parts_named trees names k (seats_of trees names k) parts = own_names k ∙ ap (filter_map name_of) (parts_from k c.declared c.container) in
+        record {
+          own = subst AreDistinct (sym own) by.0;
+          apart = subst (λ xs. AreDisjoint xs others) (sym own) (disjoint-by (parts_named trees names k (seats_of trees names k) parts) others (λ x h g.
+              clash (is_among above x)
+              (none_at above (element_names trees names k (seats_of trees names k) ordered) x apart.0 (among_parts trees names k (seats_of trees names k) ordered x (among_has (parts_named trees names k (seats_of trees names k) ordered) x (by.1 x h))))
+              (above_among 16 x (base_of (table_rows trees names) k) g)));
+        })
+  ]
+
+  -- ---- families
+
+  few_in_family : (id : ℕ) → IsContainer (table_rows trees names) id → containers (table_rows trees names) (families (table_rows trees names)) (family (families (table_rows trees names)) id) ≤ 512
+  few_in_family id is = go (slice_get (table_rows trees names) id) refl is
+    where
+      small : (s : ℕ) (endless : Bool) → endless ≡ false → (nat_lt 512 s && not endless) ≡ false → s ≤ 512
+      small s true e h = absurd cc
+      small s false e h = ltb-false 512 s (no_more (nat_lt 512 s) h)
+        where
+          no_more : (b : Bool) → (b && true) ≡ false → b ≡ false
+          no_more true h = cc
+          no_more false h = refl
+
+      go : (o : Option TypeRow) → slice_get (table_rows trees names) id ≡ o → IsSome (container_in o) → containers (table_rows trees names) (families (table_rows trees names)) (family (families (table_rows trees names)) id) ≤ 512
+      go None q h = absurd cc
+      go (Some row) q h =
+          let r = row_at trees names 0 (types names) id row q id (omega arith) in
+          let there = place_there (types names) id r.declared r.there in
+          let within = slice_get_within (table_rows trees names) id row q in
+          let size = small (family_size (table_rows trees names) id) (is_endless (course_of (table_rows trees names) id)) (ap is_endless (course-ends (table_rows trees names) levels circleless id within))
+          (unmet (nat_lt 512 (family_size (table_rows trees names) id) && not (is_endless (course_of (table_rows trees names) id))) _ (over-none (family_at trees (table_rows trees names)) 0 (type_places names) u.families id r.declared.place there id (omega arith))) in
+          subst (λ n. n ≤ 512) (size_is (table_rows trees names) id (slice_get_within (table_rows trees names) id row q)) size
 
   plain_rows : NamesDiffer names.declared → are_few (table_rows trees names) ≡ true → ArePlainRows (table_rows trees names)
   plain_rows apart few =
@@ -534,12 +754,12 @@ module _ (trees : List (List Node)) (names : Names) (word : Option (List ℕ)) (
       record {
         few = leb-true _ 4096 parts.0;
         names = subst AreDistinct (sym (row_names trees names 0 (types names))) (apart-distinct (map (λ d. d.name) (types names)) (types-apart names.declared apart));
-        level = level (bases_of trees names);
-        chains = few_levels trees names u.cycles u.chains u.encodings u.ranges u.subs;
-        base_level = base_row;
+        levels = leveled;
+        family_few = few_in_family;
         rank = rank;
         nesting = few_ranks (table_rows trees names) levels circleless few_nested;
         base_rank = λ id base e. base_ranks (table_rows trees names) levels circleless id base (within id base (slice_get (table_rows trees names) id) refl e) e;
+        named = own_differ;
         rows = λ id row e. row_keeps id row e (all_there has_few_entries (table_rows trees names) parts.1 id row e);
       }
     where
@@ -557,9 +777,7 @@ module _ (trees : List (List Node)) (names : Names) (word : Option (List ℕ)) (
 -- the rows of a sheet that is not refused are plain
 pub table_plain : (trees : List (List Node)) (names : Names) (word : Option (List ℕ)) → shape_verdict trees ≡ Ok tt → names_in trees ≡ Ok names → least (table_breaks trees names word) ≡ None → ArePlainRows (table_rows trees names)
 table_plain trees names word shaped named none =
-    let few = few_types trees names shaped named in
-    let small = leb-true _ 4096 (and_parts (nat_le (length (table_rows trees names)) 4096) (list_all has_few_entries (table_rows trees names)) few).0 in
-    plain_rows trees names word named (subst (λ n. n ≤ 4096) (length-rows trees names 0 (types names)) small) (unbroken trees names word (least-none (table_breaks trees names word) none)) (differ trees names named) few
+    plain_rows trees names word named (unbroken trees names word (least-none (table_breaks trees names word) none)) (differ trees names named) (few_types trees names shaped named)
 
 -- they keep the rules
 pub table_keeps : (trees : List (List Node)) (names : Names) (word : Option (List ℕ)) → shape_verdict trees ≡ Ok tt → names_in trees ≡ Ok names → least (table_breaks trees names word) ≡ None → KeepsRules (table_rows trees names)

@@ -1,5 +1,5 @@
--- The types that sub-ranges derive from (CCSDS 876.0-B, sub-range data types).
-use Rattle.std.specs.Prelude.{ℕ, zero, suc, ◌+◌, List, [], ◌∷◌, ◌++◌, length, map, codes, Bool, ◌==◌, if◌then◌else◌, Option, Some, None, slice_get}
+-- The types that sub-ranges and containers derive from (CCSDS 876.0-B, sub-range and container data types).
+use Rattle.std.specs.Prelude.{ℕ, zero, suc, ◌+◌, List, [], ◌∷◌, ◌++◌, length, map, codes, Bool, ◌||◌, ◌==◌, if◌then◌else◌, Option, Some, None, slice_get}
 use Rattle.std.specs.List.{list_any}
 use Rattle.eds_base.specs.Reading.{◌>>=◌}
 use Rattle.eds_base.specs.declared.ids.Place.{Place}
@@ -7,20 +7,24 @@ use Rattle.eds_base.specs.declared.ids.TypeId.{TypeId}
 use Rattle.eds_base.specs.declared.refusal.Refusal.{Refusal}
 use Rattle.eds_tree.specs.declared.tree.Node.{Node}
 use Rattle.eds_names.specs.LookUp.{Names}
-use Rattle.eds_read_types.specs.Places.{attribute, is_sub_range, type_places}
+use Rattle.eds_read_types.specs.Places.{attribute, is_sub_range, is_container, type_places}
 use Rattle.eds_read_types.specs.ReadTypes.{id_found}
 
--- ---- what a sub-range derives from
+-- ---- what a type derives from
 
--- the reference to its base that a sub-range has
+-- a type of this kind may derive from another
+abbrev pub may_derive : List (List Node) → Place → Bool
+may_derive trees at = is_sub_range trees at || is_container trees at
+
+-- the reference to its base that a sub-range or a container has
 abbrev pub base_named : List (List Node) → Place → Option (List ℕ)
-base_named trees at = if is_sub_range trees at then attribute trees (codes "baseType") at else None
+base_named trees at = if may_derive trees at then attribute trees (codes "baseType") at else None
 
--- the type that the base of a sub-range finds
+-- the type that it finds
 abbrev pub base_found : List (List Node) → Names → Place → Option TypeId
 base_found trees names at = id_found names at (base_named trees at)
 
--- for each type the one that it derives from; only a sub-range has one
+-- for each type the one that it derives from, if it does
 abbrev pub bases_of : List (List Node) → Names → List (Option TypeId)
 bases_of trees names = map (base_found trees names) (type_places names)
 

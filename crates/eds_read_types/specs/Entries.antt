@@ -1,5 +1,5 @@
 -- The parts of containers as elements, in document order (CCSDS 876.0-B, container entries).
-use Rattle.std.specs.Prelude.{ℕ, List, codes, filter, Bool, true, false, is_some, Option, Some, None}
+use Rattle.std.specs.Prelude.{ℕ, List, ◌++◌, ◌||◌, codes, filter, Bool, true, false, is_some, Option, Some, None}
 use Rattle.std.specs.List.{flat_map}
 use Rattle.eds_base.specs.declared.ids.Place.{Place}
 use Rattle.eds_tree.specs.declared.tree.Node.{Node}
@@ -7,7 +7,7 @@ use Rattle.eds_tree.specs.Trees.{node_name}
 use Rattle.eds_read_types.specs.declared.part_sort.PartSort.{PartSort}
 use Rattle.eds_read_types.specs.declared.part_sort.PartSort.TheVariants as sort
 use Rattle.eds_read_types.specs.PartSorts.{part_sort_of}
-use Rattle.eds_read_types.specs.Places.{element, attribute, children, held}
+use Rattle.eds_read_types.specs.Places.{element, is_element, attribute, children, held}
 
 -- the sort of part that the element at a place is
 abbrev pub sort_at : List (List Node) → Place → Option PartSort
@@ -16,6 +16,20 @@ sort_at trees at = part_sort_of (node_name (element trees at))
 -- it is a part
 abbrev pub is_part : List (List Node) → Place → Bool
 is_part trees at = is_some (sort_at trees at)
+
+-- the sort of a part is that of lists
+abbrev pub is_list_sort : Option PartSort → Bool
+is_list_sort None = false
+is_list_sort (Some sort.Entry) = false
+is_list_sort (Some sort.FixedValue) = false
+is_list_sort (Some sort.Padding) = false
+is_list_sort (Some sort.List) = true
+is_list_sort (Some sort.Length) = false
+is_list_sort (Some sort.ErrorControl) = false
+
+-- it is a list
+abbrev pub is_list : List (List Node) → Place → Bool
+is_list trees at = is_list_sort (sort_at trees at)
 
 -- the parts that a list of entries holds
 abbrev pub parts_held : List (List Node) → Place → List Place
@@ -28,6 +42,18 @@ entries_at trees at = flat_map (parts_held trees) (held trees (codes "EntryList"
 -- its trailers
 abbrev pub trailers_at : List (List Node) → Place → List Place
 trailers_at trees at = flat_map (parts_held trees) (held trees (codes "TrailerEntryList") at)
+
+-- all its parts: the entries, and then the trailers
+abbrev pub own_parts_at : List (List Node) → Place → List Place
+own_parts_at trees at = entries_at trees at ++ trailers_at trees at
+
+-- a list of entries or of trailers
+abbrev pub is_part_list : List (List Node) → Place → Bool
+is_part_list trees at = is_element trees (codes "EntryList") at || is_element trees (codes "TrailerEntryList") at
+
+-- the parts of a container in document order
+abbrev pub parts_at : List (List Node) → Place → List Place
+parts_at trees at = flat_map (parts_held trees) (filter (is_part_list trees) (children trees at))
 
 -- the reference to its type that a part has
 abbrev pub type_named : List (List Node) → Place → Option (List ℕ)

@@ -18,6 +18,7 @@ pub mod Unresolved
 pub mod WrongKind
 pub mod BaseCycle
 pub mod LimitChain
+pub mod LimitFamily
 pub mod BadEncoding
 pub mod EmptyRange
 pub mod BadEnumeration
@@ -25,6 +26,8 @@ pub mod DuplicateEntry
 pub mod Calibrators
 pub mod Unbroken
 pub mod Numbers
+pub mod Items
+pub mod Seats
 pub mod ListFields
 pub mod PartRows
 pub mod TableRows
@@ -33,6 +36,7 @@ pub mod Parts
 pub mod Nesting
 pub mod TypeCycle
 pub mod LimitNesting
+pub mod LimitItems
 pub mod EmptyType
 pub mod ListField
 pub mod LengthField

@@ -1,6 +1,6 @@
--- The number of a list's items is told by an entry of its container that stands before it, whose type is an integer type or a
--- sub-range without negative numbers. Nothing is kept.
-use Rattle.std.specs.Prelude.{ℕ, ℤ, pos, int_lt, List, [], ◌∷◌, Bool, true, false, not, ◌&&◌, ◌||◌, nat_lt, if◌then◌else◌, Option, Some, None, slice_get}
+-- The number of a list's items is told by an entry of its container or of a base that stands before it, whose type is an integer
+-- type or a sub-range without negative numbers. Nothing is kept.
+use Rattle.std.specs.Prelude.{ℕ, ℤ, pos, int_lt, List, [], ◌∷◌, Bool, true, false, not, ◌&&◌, ◌||◌, ◌==◌, nat_lt, if◌then◌else◌, Option, Some, None, slice_get}
 use Rattle.eds_base.specs.declared.ids.Place.{Place}
 use Rattle.eds_base.specs.declared.spans.Span.{Span}
 use Rattle.eds_base.specs.declared.refusal.Refusal.{Refusal}
@@ -12,7 +12,7 @@ use Rattle.eds_types.specs.declared.row.Kind.{Kind}
 use Rattle.eds_types.specs.declared.row.Kind.TheVariants as kind
 use Rattle.eds_types.specs.declared.row.Part.{Part}
 use Rattle.eds_types.specs.declared.row.Part.TheVariants as part
-use Rattle.eds_types.specs.Rows.{Table, Placed, container_of, entries_in}
+use Rattle.eds_types.specs.Rows.{Table, Placed, container_of, entries_in, chain, list_has}
 use Rattle.eds_read_types.specs.References.{broken}
 use Rattle.eds_read_types.specs.Parts.{PartJudgement, at_parts}
 
@@ -45,15 +45,20 @@ is_count t (Some (part.List name id y i)) = false
 is_count t (Some (part.Length name id c0 c1)) = false
 is_count t (Some (part.Check name id check)) = false
 
--- the part of a position is one, and stands before another
-abbrev pub is_told : Table → (container i place : ℕ) → Bool
-is_told t container i place = nat_lt i place && is_count t (slice_get (entries_in (container_of t container)) i)
+-- The entry of a position in a container y stands before a part: that is a later one of y, or one of a container that derives
+-- from y.
+abbrev pub stands_before : Table → (y i : ℕ) → (container place : ℕ) → Bool
+stands_before t y i container place = if y == container then nat_lt i place else list_has (chain t container) y
+
+-- the entry of a position in a container counts, and stands before a part
+abbrev pub is_told : Table → (y i : ℕ) → (container place : ℕ) → Bool
+is_told t y i container place = stands_before t y i container place && is_count t (slice_get (entries_in (container_of t y)) i)
 
 abbrev pub list_field_by : Table → (container place : ℕ) → Place → Part → List Refusal
 list_field_by t container place at (part.Plain name id) = []
 list_field_by t container place at (part.Fixed name id v) = []
 list_field_by t container place at (part.Pad n) = []
-list_field_by t container place at (part.List name id y i) = if is_told t container i place then [] else broken ListField at ∷ []
+list_field_by t container place at (part.List name id y i) = if is_told t y.0 i container place then [] else broken ListField at ∷ []
 list_field_by t container place at (part.Length name id c0 c1) = []
 list_field_by t container place at (part.Check name id check) = []
 

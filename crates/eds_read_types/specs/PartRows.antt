@@ -1,5 +1,5 @@
 -- The parts of containers as rows hold them (CCSDS 876.0-B, container entries).
-use Rattle.std.specs.Prelude.{ℕ, nat_le, List, codes, false, if◌then◌else◌, Option, Some, None}
+use Rattle.std.specs.Prelude.{ℕ, List, codes, false, Option, Some, None}
 use Rattle.std.specs.Option.{unwrap_or}
 use Rattle.eds_base.specs.Reading.{◌>>=◌, only}
 use Rattle.eds_base.specs.Numbers.{whole_number}
@@ -11,9 +11,10 @@ use Rattle.eds_types.specs.declared.row.Part.{Part}
 use Rattle.eds_types.specs.declared.row.Part.TheVariants as part
 use Rattle.eds_read_types.specs.declared.part_sort.PartSort.{PartSort}
 use Rattle.eds_read_types.specs.declared.part_sort.PartSort.TheVariants as sort
+use Rattle.eds_read_types.specs.declared.seat.Seat.{Seat}
 use Rattle.eds_read_types.specs.Places.{attribute, own_name}
 use Rattle.eds_read_types.specs.Entries.{sort_at, type_named}
-use Rattle.eds_read_types.specs.ListFields.{field_place}
+use Rattle.eds_read_types.specs.ListFields.{field_seat, field_container, field_place}
 use Rattle.eds_read_types.specs.ReadTypes.{id_found}
 use Rattle.eds_read_types.specs.TextForms.{natural, is_binary_size}
 
@@ -50,24 +51,20 @@ unread = part.Pad 8
 abbrev pub plain_part : List (List Node) → Names → Place → Part
 plain_part trees names at = part.Plain (own_name trees at) (entry_id trees names at)
 
--- the type of a number; no sheet has so many types that one has no such number
-abbrev pub type_number : ℕ → TypeId
-type_number id = record { 0 = if nat_le id 4294967295 then id else 4294967295 }
+-- a list by its name, the type of its items, and the part that tells their number, of the container of a number in whose sequence the seats are
+abbrev pub list_part : List (List Node) → Names → (container : ℕ) → List Seat → Place → Part
+list_part trees names container seats at = part.List (own_name trees at) (entry_id trees names at) (field_container container (field_seat trees seats at)) (field_place (field_seat trees seats at))
 
--- a list by its name, the type of its items, and the position of the part that tells their number among the container's parts
-abbrev pub list_part : List (List Node) → Names → (container : ℕ) → List Place → Place → Part
-list_part trees names container ats at = part.List (own_name trees at) (entry_id trees names at) (type_number container) (field_place trees ats at)
-
--- a part of the container of a number, of all whose parts the elements are given
-abbrev pub part_by : Option PartSort → List (List Node) → Names → (container : ℕ) → List Place → Place → Part
-part_by None trees names container ats at = unread
-part_by (Some sort.Entry) trees names container ats at = plain_part trees names at
-part_by (Some sort.FixedValue) trees names container ats at = unread
-part_by (Some sort.Padding) trees names container ats at = part.Pad (padding_bits trees at)
-part_by (Some sort.List) trees names container ats at = list_part trees names container ats at
-part_by (Some sort.Length) trees names container ats at = unread
-part_by (Some sort.ErrorControl) trees names container ats at = unread
+-- a part of the container of a number, in whose sequence the seats are
+abbrev pub part_by : Option PartSort → List (List Node) → Names → (container : ℕ) → List Seat → Place → Part
+part_by None trees names container seats at = unread
+part_by (Some sort.Entry) trees names container seats at = plain_part trees names at
+part_by (Some sort.FixedValue) trees names container seats at = unread
+part_by (Some sort.Padding) trees names container seats at = part.Pad (padding_bits trees at)
+part_by (Some sort.List) trees names container seats at = list_part trees names container seats at
+part_by (Some sort.Length) trees names container seats at = unread
+part_by (Some sort.ErrorControl) trees names container seats at = unread
 
 -- the part that the element at a place is
-abbrev pub part_at : List (List Node) → Names → (container : ℕ) → List Place → Place → Part
-part_at trees names container ats at = part_by (sort_at trees at) trees names container ats at
+abbrev pub part_at : List (List Node) → Names → (container : ℕ) → List Seat → Place → Part
+part_at trees names container seats at = part_by (sort_at trees at) trees names container seats at

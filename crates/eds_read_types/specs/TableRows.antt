@@ -1,21 +1,26 @@
 -- The rows of the table of types.
-use Rattle.std.specs.Prelude.{ℕ, ◌+◌, nat_le, List, [], ◌∷◌, length, map, Bool, false, ◌&&◌, if◌then◌else◌, Option, Some, None, slice_get}
+use Rattle.std.specs.Prelude.{ℕ, ◌+◌, nat_le, List, [], ◌∷◌, length, map, codes, Bool, true, ◌&&◌, if◌then◌else◌, Option, Some, None, slice_get}
 use Rattle.std.specs.Option.{unwrap_or}
 use Rattle.std.specs.List.{list_all}
 use Rattle.eds_base.specs.declared.ids.Place.{Place}
 use Rattle.eds_tree.specs.declared.tree.Node.{Node}
 use Rattle.eds_tree.specs.Trees.{name_at}
+use Rattle.eds_tree.specs.Unsupported.{spells_flag}
 use Rattle.eds_names.specs.declared.declared.Declared.{Declared}
 use Rattle.eds_names.specs.LookUp.{Names}
 use Rattle.eds_types.specs.declared.row.TypeRow.{TypeRow}
 use Rattle.eds_types.specs.declared.row.Kind.{Kind}
 use Rattle.eds_types.specs.declared.row.Kind.TheVariants as kind
 use Rattle.eds_types.specs.declared.row.Container.{Container}
-use Rattle.eds_types.specs.Rows.{container_by, entries_in}
+use Rattle.eds_types.specs.declared.row.Part.{Part}
+use Rattle.eds_types.specs.Rows.{container_by, entries_in, trailers_in}
 use Rattle.eds_read_types.specs.declared.numbers.FormAndDomain.{FormAndDomain}
-use Rattle.eds_read_types.specs.Places.{is_container, types, type_places}
-use Rattle.eds_read_types.specs.Entries.{entries_at}
-use Rattle.eds_read_types.specs.PartRows.{part_at}
+use Rattle.eds_read_types.specs.Places.{attribute, is_container, is_array, types, type_places}
+use Rattle.eds_read_types.specs.Entries.{entries_at, trailers_at}
+use Rattle.eds_read_types.specs.Seats.{seats_of}
+use Rattle.eds_read_types.specs.PartRows.{id_or_first, part_at}
+use Rattle.eds_read_types.specs.ReadTypes.{id_found}
+use Rattle.eds_read_types.specs.Items.{items_at, row_items}
 use Rattle.eds_read_types.specs.Forms.{int_form_of, bool_form_of}
 use Rattle.eds_read_types.specs.Listings.{listing_of}
 use Rattle.eds_read_types.specs.declared.sort.Sort.{Sort}
@@ -27,9 +32,17 @@ use Rattle.eds_read_types.specs.Numbers.{form_or_wide, truth_or_octet, text_or_o
 
 -- ---- containers
 
--- the container at a place, of which the number among all types is given; it has entries alone
+-- the container at a place is abstract, as it isn't unless it says so
+abbrev pub is_abstract : List (List Node) → Place → Bool
+is_abstract trees at = spells_flag true (attribute trees (codes "abstract") at)
+
+-- the part that the element at a place is, of the container of a number
+abbrev pub part_in : List (List Node) → Names → (container : ℕ) → Place → Part
+part_in trees names id at = part_at trees names id (seats_of trees names id) at
+
+-- the container at a place, of which the number among all types is given, without its constraints
 abbrev pub container_at : List (List Node) → Names → ℕ → Place → Container
-container_at trees names id at = record { hidden = false; constraints = []; entries = map (part_at trees names id (entries_at trees at)) (entries_at trees at); trailers = [] }
+container_at trees names id at = record { hidden = is_abstract trees at; constraints = []; entries = map (part_in trees names id) (entries_at trees at); trailers = map (part_in trees names id) (trailers_at trees at) }
 
 -- ---- types
 
@@ -56,10 +69,15 @@ abbrev pub scalar_kind_in : Option (List Node) → ℕ → FormAndDomain → Kin
 scalar_kind_in None n numbers = kind.Int numbers.form numbers.spans
 scalar_kind_in (Some t) n numbers = scalar_kind t n numbers
 
+-- an array, by the type of its items and their number
+abbrev pub array_kind : List (List Node) → Names → Place → Kind
+array_kind trees names at = kind.Arr (id_or_first (id_found names at (attribute trees (codes "dataTypeRef") at))) (row_items (items_at trees names at))
+
 -- what the type at a place is, of which the number among all types is given
 abbrev pub kind_of : List (List Node) → Names → ℕ → Place → Kind
 kind_of trees names id at =
     if is_container trees at then kind.Con (container_at trees names id at) else
+    if is_array trees at then array_kind trees names at else
     scalar_kind_in (slice_get trees at.file) at.node (numbers_of trees (type_places names) (bases_of trees names) id)
 
 -- a declared type as a row
@@ -77,9 +95,9 @@ table_rows trees names = rows_from trees names 0 (types names)
 
 -- ---- limits
 
--- a container has at most 32,767 entries
+-- a container has at most 32,767 entries, and so many trailers
 abbrev pub has_few_entries : TypeRow → Bool
-has_few_entries row = nat_le (length (entries_in (container_by row.kind))) 32767
+has_few_entries row = nat_le (length (entries_in (container_by row.kind))) 32767 && nat_le (length (trailers_in (container_by row.kind))) 32767
 
 -- there are at most 4,096 types, and so many entries
 abbrev pub are_few : List TypeRow → Bool

@@ -2,9 +2,9 @@
 
 ghost use Rattle.std.specs.Prelude.{◌≡◌, map, option_map, IfOk, length, slice_get};
 ghost use Rattle.std.specs.List.{range_with_len};
-ghost use Rattle.eds_read_types.specs.Bases.{base_named as base_named_in, base_found as base_found_by, bases_of as bases_in, base_at as base_in, is_in_cycle as is_in_cycle_of};
+ghost use Rattle.eds_read_types.specs.Bases.{may_derive as may_derive_at, base_named as base_named_in, base_found as base_found_by, bases_of as bases_in, base_at as base_in, is_in_cycle as is_in_cycle_of};
 
-use crate::element::{attribute, is_sub_range};
+use crate::element::{attribute, is_container, is_sub_range};
 use crate::named_trees::NamedTrees;
 use crate::reference::id_found;
 use eds_base::{Memory, Place, TypeId};
@@ -23,18 +23,25 @@ pub(crate) struct BaseGraph<'a> {
     ghost judged: { cycles.now ≡ map (is_in_cycle_of bases.now) (range_with_len 0 (length bases.now)) },
 }
 
-/// The reference of a sub-range to its base.
+/// Whether a type of this kind may derive from another.
+fn may_derive(trees: &[Tree], at: Place) -> bool
+    ensures { result ≡ may_derive_at trees.now at }
+{
+    is_sub_range(trees, at) || is_container(trees, at)
+}
+
+/// The reference of a sub-range or a container to its base.
 pub(crate) fn base_named(trees: &[Tree], at: Place) -> Option<&str>
     ensures { option_map (λ t. t.now) result ≡ base_named_in trees.now at }
 {
-    if is_sub_range(trees, at) {
+    if may_derive(trees, at) {
         attribute(trees, "baseType", at)
     } else {
         None
     }
 }
 
-/// The type that the base of a sub-range finds.
+/// The type that a sub-range or a container derives from.
 pub(crate) fn base_found(
     alloc: Global,
     sheet: &NamedTrees,

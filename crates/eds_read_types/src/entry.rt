@@ -1,10 +1,11 @@
 //! The parts of containers as elements.
 
-ghost use Rattle.std.specs.Prelude.{◌≡◌, ◌++◌, option_map, IfOk, OnOk, is_some};
-ghost use Rattle.std.specs.List.{flat_map};
-ghost use Rattle.eds_read_types.specs.Entries.{sort_at as sort_in, is_part as is_part_in, parts_held, entries_at as entries_in, trailers_at as trailers_in, type_named as type_named_in, has_name_by, has_name as has_name_in, named_among as named_in};
+ghost use Rattle.std.specs.Prelude.{◌≡◌, ◌++◌, filter, option_map, IfOk, OnOk, is_some};
+ghost use Rattle.std.specs.List.{flat_map, list_any};
+ghost use Rattle.eds_read_types.specs.Places.{children};
+ghost use Rattle.eds_read_types.specs.Entries.{sort_at as sort_in, is_part as is_part_in, is_list as is_list_in, parts_held, entries_at as entries_in, trailers_at as trailers_in, own_parts_at as own_parts_in, is_part_list as is_part_list_in, parts_at as parts_in_order, type_named as type_named_in, has_name_by, has_name as has_name_in, named_among as named_in};
 
-use crate::element::{attribute, children_at, name_at, push_held};
+use crate::element::{attribute, children_at, is_element, name_at, push_held};
 use crate::part_sort::{PartSort, part_sort_of};
 use eds_base::{Memory, Place};
 use eds_tree::Tree;
@@ -71,11 +72,75 @@ pub(crate) fn trailers_at(alloc: Global, trees: &[Tree], at: Place) -> Result<Ve
     parts_in(alloc, trees, &lists)
 }
 
+/// All parts of a container: its entries, and then its trailers.
+pub(crate) fn own_parts_at(alloc: Global, trees: &[Tree], at: Place) -> Result<Vec<Place>, Memory>
+    ensures { IfOk result (λ p. p.items ≡ own_parts_in trees.now at) }
+{
+    let mut parts = entries_at(alloc, trees, at)?;
+    let trailers = trailers_at(alloc, trees, at)?;
+    for trailer in &trailers {
+        parts.push(*trailer)?;
+    }
+    Ok(parts)
+}
+
+fn is_part_list(trees: &[Tree], at: Place) -> bool
+    ensures { result ≡ is_part_list_in trees.now at }
+{
+    is_element(trees, "EntryList", at) || is_element(trees, "TrailerEntryList", at)
+}
+
+/// The lists of entries and of trailers of a container, in document order.
+fn part_lists(alloc: Global, trees: &[Tree], at: Place) -> Result<Vec<Place>, Memory>
+    ensures { IfOk result (λ p. p.items ≡ filter (is_part_list_in trees.now) (children trees.now at)) }
+{
+    let mut lists = Vec::new(alloc);
+    for node in children_at(trees, at) {
+        let child = Place {
+            file: at.file,
+            node: *node,
+        };
+        if is_part_list(trees, child) {
+            lists.push(child)?;
+        }
+    }
+    Ok(lists)
+}
+
+/// All parts of a container, in document order.
+pub(crate) fn parts_at(alloc: Global, trees: &[Tree], at: Place) -> Result<Vec<Place>, Memory>
+    ensures { IfOk result (λ p. p.items ≡ parts_in_order trees.now at) }
+{
+    let lists = part_lists(alloc, trees, at)?;
+    parts_in(alloc, trees, &lists)
+}
+
 /// The reference to its type that a part has.
 pub(crate) fn type_named(trees: &[Tree], at: Place) -> Option<&str>
     ensures { option_map (λ t. t.now) result ≡ type_named_in trees.now at }
 {
     attribute(trees, "type", at)
+}
+
+fn is_list(trees: &[Tree], at: Place) -> bool
+    ensures { result ≡ is_list_in trees.now at }
+{
+    match sort_at(trees, at) {
+        None => false,
+        Some(PartSort::Entry) => false,
+        Some(PartSort::FixedValue) => false,
+        Some(PartSort::Padding) => false,
+        Some(PartSort::List) => true,
+        Some(PartSort::Length) => false,
+        Some(PartSort::ErrorControl) => false,
+    }
+}
+
+/// Whether one of some parts is a list.
+pub(crate) fn has_list(trees: &[Tree], parts: &[Place]) -> bool
+    ensures { result ≡ list_any (is_list_in trees.now) parts.now }
+{
+    parts.iter().any(|at| is_list(trees, *at))
 }
 
 // ---- names

@@ -1,11 +1,11 @@
 //! The parts of containers as rows hold them.
 
 ghost use Rattle.std.specs.Prelude.{◌≡◌, IfOk, option_map};
-ghost use Rattle.eds_read_types.specs.PartRows.{entry_type as entry_type_of, entry_id as entry_id_of, padding_size as padding_size_of, padding_size_in, padding_bits as padding_bits_of, unread as unread_part, plain_part as plain_part_of, type_number as type_number_of, list_part as list_part_of, part_at as part_of};
+ghost use Rattle.eds_read_types.specs.PartRows.{entry_type as entry_type_of, id_or_first as id_or_first_of, entry_id as entry_id_of, padding_size as padding_size_of, padding_size_in, padding_bits as padding_bits_of, unread as unread_part, plain_part as plain_part_of, list_part as list_part_of, part_at as part_of};
 
 use crate::element::{attribute, own_name};
 use crate::entry::{sort_at, type_named};
-use crate::list_field::Fields;
+use crate::list_field::{Fields, field_container, field_place};
 use crate::named_trees::NamedTrees;
 use crate::part_sort::PartSort;
 use crate::reference::id_found;
@@ -22,15 +22,22 @@ fn entry_type(alloc: Global, sheet: &NamedTrees, at: Place) -> Result<Option<Typ
     id_found(alloc, sheet, at, type_named(sheet.trees, at))
 }
 
-/// The same, the first type's where it names none.
+/// A number of a type, the first type's where there is none.
+pub(crate) fn id_or_first(id: Option<TypeId>) -> TypeId
+    ensures { result ≡ id_or_first_of id }
+{
+    match id {
+        None => TypeId(0),
+        Some(id) => id,
+    }
+}
+
+/// The number of the type that a part names, the first type's where it names none.
 fn entry_id(alloc: Global, sheet: &NamedTrees, at: Place) -> Result<TypeId, Memory>
     ensures { IfOk result (λ id. id ≡ entry_id_of sheet.now.trees.now sheet.now.space.now at) }
 {
     let found = entry_type(alloc, sheet, at)?;
-    match found {
-        None => Ok(TypeId(0)),
-        Some(id) => Ok(id),
-    }
+    Ok(id_or_first(found))
 }
 
 /// An entry by its name and its type.
@@ -76,18 +83,7 @@ fn unread() -> Part
     Part::Pad(8)
 }
 
-/// The type of a number.
-fn type_number(id: usize) -> TypeId
-    ensures { result ≡ type_number_of id }
-{
-    if id <= 4_294_967_295 {
-        TypeId(id as u32)
-    } else {
-        TypeId(4_294_967_295)
-    }
-}
-
-/// A list by its name, the type of its items, and the part of its container that tells their number.
+/// A list by its name, the type of its items, and the part that tells their number.
 fn list_part(
     alloc: Global,
     sheet: &NamedTrees,
@@ -96,14 +92,20 @@ fn list_part(
     at: Place,
 ) -> Result<Part, Memory>
     requires { fields.now.trees.now ≡ sheet.now.trees.now }
-    ensures { IfOk result (λ p. p ≡ list_part_of sheet.now.trees.now sheet.now.space.now container fields.now.parts.now at) }
+    ensures { IfOk result (λ p. p ≡ list_part_of sheet.now.trees.now sheet.now.space.now container fields.now.seats.now at) }
 {
     let item = entry_id(alloc, sheet, at)?;
     let name = Text::of(alloc, own_name(sheet.trees, at))?;
-    Ok(Part::List(name, item, type_number(container), fields.place_of(at)))
+    let field = fields.seat_of(at);
+    Ok(Part::List(
+        name,
+        item,
+        field_container(container, field),
+        field_place(field),
+    ))
 }
 
-/// The part that the element at a place is, of the container of a number with such parts.
+/// The part that the element at a place is, of the container of a number in whose sequence the fields are looked for.
 pub(crate) fn part_at(
     alloc: Global,
     sheet: &NamedTrees,
@@ -112,7 +114,7 @@ pub(crate) fn part_at(
     at: Place,
 ) -> Result<Part, Memory>
     requires { fields.now.trees.now ≡ sheet.now.trees.now }
-    ensures { IfOk result (λ p. p ≡ part_of sheet.now.trees.now sheet.now.space.now container fields.now.parts.now at) }
+    ensures { IfOk result (λ p. p ≡ part_of sheet.now.trees.now sheet.now.space.now container fields.now.seats.now at) }
 {
     match sort_at(sheet.trees, at) {
         None => Ok(unread()),

@@ -1,11 +1,12 @@
 //! The rule on the entry that tells the number of a list's items.
 
 ghost use Rattle.std.specs.Prelude.{◌≡◌, slice_get};
-ghost use Rattle.eds_read_types.specs.ListField.{has_negative as has_negative_in, counts_by as counts_by_kind, counts_in, is_count as is_count_of, is_told as is_told_at};
+ghost use Rattle.eds_read_types.specs.ListField.{has_negative as has_negative_in, counts_by as counts_by_kind, counts_in, is_count as is_count_of, stands_before as stands_before_at, is_told as is_told_at};
+ghost use Rattle.eds_types.specs.Rows.{chain, list_has};
 ghost use Rattle.std.specs.Option.{option_copied};
 
 use crate::breaks::broken;
-use crate::sheet_rows::{PartAt, PartRule, parts_of};
+use crate::sheet_rows::{PartAt, PartRule, base_of, entries_of};
 use eds_base::{Memory, Refusal, Rule, Span, TypeId};
 use eds_types::{Kind, Part, TypeRows};
 use std::alloc::Global;
@@ -66,12 +67,43 @@ fn is_count(rows: &TypeRows, part: Option<&Part>) -> bool
     }
 }
 
-/// Whether the part of a position is one, and stands before another.
-fn is_told(rows: &TypeRows, container: usize, field: u16, place: usize) -> bool
-    ensures { result ≡ is_told_at rows.now container field place }
+/// Whether a type is another one, or one of its bases.
+fn is_at_or_above(rows: &TypeRows, upper: usize, id: usize) -> bool
+    ensures { result ≡ list_has (chain rows.now id) upper }
 {
-    let field = field as usize;
-    field < place && is_count(rows, parts_of(rows, container).get(field))
+    let mut at = id;
+    let mut left: usize = 16;
+    while left > 0 {
+        if at == upper {
+            return true;
+        }
+        match base_of(rows, at) {
+            None => return false,
+            Some(base) => at = base.0 as usize,
+        }
+        left -= 1;
+    }
+    false
+}
+
+/// Whether the entry of a position in a container stands before a part.
+fn stands_before(rows: &TypeRows, y: TypeId, field: u16, container: usize, place: usize) -> bool
+    ensures { result ≡ stands_before_at rows.now y.0 field container place }
+{
+    let upper = y.0 as usize;
+    if upper == container {
+        (field as usize) < place
+    } else {
+        is_at_or_above(rows, upper, container)
+    }
+}
+
+/// Whether the entry of a position in a container counts, and stands before a part.
+fn is_told(rows: &TypeRows, y: TypeId, field: u16, container: usize, place: usize) -> bool
+    ensures { result ≡ is_told_at rows.now y.0 field container place }
+{
+    stands_before(rows, y, field, container, place)
+        && is_count(rows, entries_of(rows, y.0 as usize).get(field as usize))
 }
 
 /// The number of a list's items is told by an entry before it, whose type has no negative numbers.
@@ -87,8 +119,8 @@ impl PartRule for ListField {
             Part::Plain(_, _) => Ok(None),
             Part::Fixed(_, _, _) => Ok(None),
             Part::Pad(_) => Ok(None),
-            Part::List(_, _, _, field) => {
-                if is_told(at.rows, at.container, *field, at.index) {
+            Part::List(_, _, y, field) => {
+                if is_told(at.rows, *y, *field, at.container, at.index) {
                     Ok(None)
                 } else {
                     Ok(Some(broken(Rule::ListField, at.place)))

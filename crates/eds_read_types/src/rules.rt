@@ -17,6 +17,8 @@ use crate::empty_type::{EmptyItem, EmptyPart, EmptyWord};
 use crate::face_rules::{AtFaces, OpenInFace, UnresolvedInFace, WrongKindInFace};
 use crate::length_field::LengthField;
 use crate::limit_chain::LimitChain;
+use crate::limit_family::LimitFamily;
+use crate::limit_items::LimitItems;
 use crate::limit_nesting::LimitNesting;
 use crate::reference::{ReferenceRule, least_over_references};
 use crate::rule_list_field::ListField;
@@ -152,7 +154,13 @@ type References = And<
 
 type Bases = And<
     AtNumbers<BaseCycle>,
-    And<AtNumbers<LimitChain>, And<AtRows<TypeCycle>, And<AtRows<LimitNesting>, NoRule>>>,
+    And<
+        AtNumbers<LimitChain>,
+        And<
+            AtRows<TypeCycle>,
+            And<AtRows<LimitFamily>, And<AtRows<LimitNesting>, And<AtRows<LimitItems>, NoRule>>>,
+        >,
+    >,
 >;
 
 type Scalars = And<
@@ -165,7 +173,7 @@ type EmptyType = And<AtRows<AtParts<EmptyPart>>, And<AtRows<EmptyItem>, EmptyWor
 type Containers = And<
     EmptyType,
     And<
-        AtTypes<DuplicateEntry>,
+        AtRows<DuplicateEntry>,
         And<
             AtRows<AtParts<ListField>>,
             And<AtRows<AtParts<LengthField>>, And<AtFaces<OpenInFace>, NoRule>>,

@@ -7,15 +7,16 @@ ghost use Rattle.eds_base.specs.declared.refusal.Refusal.{Refusal as refusal};
 ghost use Rattle.eds_base.specs.Refusals.{least};
 ghost use Rattle.eds_tree.specs.declared.tree.Node.{Node as node};
 ghost use Rattle.eds_types.specs.Sizes.{open_of};
-ghost use Rattle.eds_types.specs.Rows.{Table, Placed, container_of, entries_in};
+ghost use Rattle.eds_types.specs.Rows.{Table, Placed, base_of as base_in, number_of_id, container_of, entries_in, trailers_in};
 ghost use Rattle.eds_read_types.specs.Bases.{breaks_over};
 ghost use Rattle.eds_read_types.specs.TableRows.{table_rows};
-ghost use Rattle.eds_nesting.specs.Families.{families as families_of, nesting as nesting_of, endless_met as endless_met_of};
-ghost use Rattle.eds_read_types.specs.Parts.{judged_part, judged_parts};
+ghost use Rattle.eds_nesting.specs.Families.{families as families_of, nesting as nesting_of, family_sizes as family_sizes_of, endless_met as endless_met_of};
+ghost use Rattle.eds_read_types.specs.Parts.{parts_in, judged_part, judged_parts};
+ghost use Rattle.eds_read_types.specs.LimitFamily.{family_size};
 ghost use Rattle.eds_read_types.specs.Nesting.{course_of, meets_base_cycle};
 
 use crate::base_graph::BaseGraph;
-use crate::entry::entries_at;
+use crate::entry::own_parts_at;
 use eds_base::{Memory, Place, Refusal, TypeId};
 use eds_graph::Course;
 use eds_types::{Kind, Part, TypeRows};
@@ -31,9 +32,12 @@ pub(crate) struct SheetRows<'a> {
     pub(crate) nesting: &'a [Course],
     /// For each type whether its family has bases that go in a circle, or reaches one that has.
     pub(crate) endless: &'a [bool],
+    /// For each type how many containers its family has.
+    pub(crate) sizes: &'a [usize],
     ghost read: { rows.now ≡ table_rows graph.now.sheet.now.trees.now graph.now.sheet.now.space.now },
     ghost nested: { nesting.now ≡ nesting_of rows.now (families_of rows.now) },
     ghost met: { endless.now ≡ endless_met_of rows.now (families_of rows.now) },
+    ghost sized: { sizes.now ≡ family_sizes_of rows.now (families_of rows.now) },
 }
 
 impl<'a> SheetRows<'a> {
@@ -44,6 +48,16 @@ impl<'a> SheetRows<'a> {
         match self.nesting.get(id) {
             None => Course::Ends(1),
             Some(course) => *course,
+        }
+    }
+
+    /// How many containers the family of a type has.
+    pub(crate) fn family_size(&self, id: usize) -> usize
+        ensures { result ≡ family_size self.now.rows.now id }
+    {
+        match self.sizes.get(id) {
+            None => 0,
+            Some(size) => *size,
         }
     }
 
@@ -126,8 +140,18 @@ pub(crate) trait PartRule {
         ensures { IfOk result (λ r. r ≡ least (breaks at.now.rows.now (record { container = at.now.container; place = at.now.index; part = at.now.part.now }) at.now.place)) };
 }
 
-/// The parts of a type, none where it is no container.
-pub(crate) fn parts_of(rows: &TypeRows, id: usize) -> &[Part]
+/// The type that a type derives from.
+pub(crate) fn base_of(rows: &TypeRows, id: usize) -> Option<TypeId>
+    ensures { number_of_id result ≡ base_in rows.now id }
+{
+    match rows.get(id) {
+        None => None,
+        Some(row) => row.base,
+    }
+}
+
+/// The entries of a type, none where it is no container.
+pub(crate) fn entries_of(rows: &TypeRows, id: usize) -> &[Part]
     ensures { result.now ≡ entries_in (container_of rows.now id) }
 {
     match rows.get(id) {
@@ -136,6 +160,31 @@ pub(crate) fn parts_of(rows: &TypeRows, id: usize) -> &[Part]
             Kind::Con(container) => container.entries.as_slice(),
             _ => &[],
         },
+    }
+}
+
+/// Its trailers.
+pub(crate) fn trailers_of(rows: &TypeRows, id: usize) -> &[Part]
+    ensures { result.now ≡ trailers_in (container_of rows.now id) }
+{
+    match rows.get(id) {
+        None => &[],
+        Some(row) => match &row.kind {
+            Kind::Con(container) => container.trailers.as_slice(),
+            _ => &[],
+        },
+    }
+}
+
+/// One of both, by its position among the entries and then the trailers.
+fn part_of(rows: &TypeRows, id: usize, index: usize) -> Option<&Part>
+    ensures { option_copied result ≡ slice_get (parts_in (container_of rows.now id)) index }
+{
+    let entries = entries_of(rows, id);
+    if index < entries.len() {
+        entries.get(index)
+    } else {
+        trailers_of(rows, id).get(index - entries.len())
     }
 }
 
@@ -148,7 +197,7 @@ fn least_part<R: PartRule>(
 ) -> Result<Option<Refusal>, Memory>
     ensures { IfOk result (λ r. r ≡ least (judged_part R.breaks rows.now container index place)) }
 {
-    match parts_of(rows, container).get(index) {
+    match part_of(rows, container, index) {
         None => Ok(None),
         Some(part) => R::least_at(
             alloc,
@@ -193,7 +242,7 @@ impl<R: PartRule> RowRule for AtParts<R> {
         id: usize,
         at: Place,
     ) -> Result<Option<Refusal>, Memory> {
-        let places = entries_at(alloc, sheet.graph.sheet.trees, at)?;
+        let places = own_parts_at(alloc, sheet.graph.sheet.trees, at)?;
         least_over_parts::<R>(alloc, sheet.rows, id, &places)
     }
 }

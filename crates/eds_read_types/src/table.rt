@@ -7,7 +7,7 @@ ghost use Rattle.eds_tree.specs.ShapeCheck.{shape_verdict};
 ghost use Rattle.eds_names.specs.LookUp.{names_in};
 ghost use Rattle.eds_read_types.specs.TableRows.{table_rows as table_rows_of};
 ghost use Rattle.eds_read_types.specs.TableBreaks.{table_breaks};
-ghost use Rattle.eds_nesting.specs.Families.{families as families_of, nesting as nesting_of, endless_met as endless_met_of};
+ghost use Rattle.eds_nesting.specs.Families.{families as families_of, nesting as nesting_of, family_sizes as family_sizes_of, endless_met as endless_met_of};
 ghost use Rattle.eds_read_types.specs.TableRead.{typed_of, table_read};
 
 use crate::base_graph::{BaseGraph, bases_of, cycles_of};
@@ -21,7 +21,7 @@ use crate::used::used_types;
 use eds_base::{Fail, Memory, Refusal, TypeId};
 use eds_graph::Course;
 use eds_names::Space;
-use eds_nesting::{endless_met, families, nesting};
+use eds_nesting::{endless_met, families, family_sizes, nesting};
 use eds_tree::Trees;
 use eds_types::{TypeRows, TypeTable, Used};
 use std::alloc::Global;
@@ -71,6 +71,14 @@ fn endless_of(alloc: Global, rows: &TypeRows) -> Result<Vec<bool>, Memory>
     endless_met(alloc, rows.as_slice(), &families)
 }
 
+/// For each type how many containers its family has.
+fn sizes_of(alloc: Global, rows: &TypeRows) -> Result<Vec<usize>, Memory>
+    ensures { IfOk result (λ s. s.items ≡ family_sizes_of rows.now (families_of rows.now)) }
+{
+    let families = families(alloc, rows.as_slice())?;
+    family_sizes(alloc, rows.as_slice(), &families)
+}
+
 /// The first break of all rules on the types of a sheet, of which the rows are given.
 fn least_of(alloc: Global, graph: &BaseGraph, rows: &TypeRows) -> Result<Option<Refusal>, Memory>
     requires read { rows.now ≡ table_rows_of graph.now.sheet.now.trees.now graph.now.sheet.now.space.now }
@@ -78,10 +86,12 @@ fn least_of(alloc: Global, graph: &BaseGraph, rows: &TypeRows) -> Result<Option<
 {
     let nesting = courses_of(alloc, rows)?;
     let endless = endless_of(alloc, rows)?;
+    let sizes = sizes_of(alloc, rows)?;
     let sheet = SheetRows {
         graph,
         rows,
         nesting: &nesting,
+        sizes: &sizes,
         endless: &endless,
     };
     least_break(alloc, &sheet)

@@ -17,9 +17,7 @@ fn is_pending(name: &str) -> bool
 {
     is_among(
         &[
-            "ArrayDataType",
             "FixedValueEntry",
-            "PaddingEntry",
             "LengthEntry",
             "ErrorControlEntry",
             "ConstraintSet",

@@ -4,4 +4,4 @@ use Rattle.eds_read_types.specs.ListFields.{or_else, place_from}
 use Rattle.eds_read_types.proofs.list_field.places_of.Given as goal
 
 abbrev pub invariant-loop-place : goal.invariant-loop-place
-invariant-loop-place l = (q : List ℕ) → or_else (get_by_text l.places q) (place_from l.trees l.place (drop l.place l.parts) q) ≡ place_from l.trees 0 l.parts q
+invariant-loop-place l = (q : List ℕ) → or_else (get_by_text l.places q) (place_from l.trees l.place (drop l.place l.seats) q) ≡ place_from l.trees 0 l.seats q

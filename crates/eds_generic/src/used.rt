@@ -1,0 +1,105 @@
+//! Interfaces that are used under maps: by the ends of components.
+
+ghost use Rattle.std.specs.Prelude.{◌≡◌, [], ℕ, true, IfOk};
+ghost use Rattle.std.specs.List.{flat_map};
+ghost use Rattle.eds_base.specs.Refusals.{least};
+ghost use Rattle.eds_generic.specs.Every.{own_cycles};
+ghost use Rattle.eds_generic.specs.Pairs.{ends_within, most};
+ghost use Rattle.eds_generic.specs.Uses.{use_breaks, use_instance, breaks_with_uses};
+
+use crate::cycle::least_own_cycle;
+use crate::every::least_alone;
+use crate::face::Face;
+use crate::members::{members, under};
+use crate::resolving::{copied_map, least_here};
+use crate::rules::Asked;
+use eds_base::{FaceId, Items, Memory, Place, Refusal, TypeId};
+use eds_plan::{Instance, TypeMap};
+use std::alloc::Global;
+
+/// An interface that is used under a map of its generic names, and the element that uses it.
+#[derive(Drop)]
+pub struct FaceUse {
+    pub place: Place,
+    pub face: FaceId,
+    pub map: TypeMap,
+}
+
+fn least_at(
+    alloc: Global,
+    faces: &[Face],
+    types: &[Option<TypeId>],
+    used: &FaceUse,
+) -> Result<Option<Refusal>, Memory>
+    requires { ends_within (most faces.now) faces.now used.now.face.0 ≡ true }
+    ensures { IfOk result (λ r. r ≡ least (use_breaks faces.now types.now used.now)) }
+{
+    let asked = Asked {
+        faces,
+        types,
+        at: used.place,
+        face: used.face,
+        given: used.map.as_slice(),
+    };
+    least_here(alloc, &asked)
+}
+
+/// The first break at an interface that is used.
+fn least_used(
+    alloc: Global,
+    faces: &[Face],
+    types: &[Option<TypeId>],
+    uses: &[FaceUse],
+) -> Result<Option<Refusal>, Memory>
+    requires { (f : ℕ) → ends_within (most faces.now) faces.now f ≡ true }
+    ensures { IfOk result (λ r. r ≡ least (flat_map (use_breaks faces.now types.now) uses.now)) }
+{
+    let mut found = None;
+    for used in uses {
+        let here = least_at(alloc, faces, types, used)?;
+        found = Refusal::first(found, here);
+    }
+    Ok(found)
+}
+
+/// The first rule that the interfaces of a sheet break: one of them is its own base; or, where none is, one without own generic
+/// names breaks a rule under the empty map, or one that is used breaks it under its map, and the refusal stands where it is used.
+pub fn judge_uses(
+    alloc: Global,
+    faces: &[Face],
+    types: &[Option<TypeId>],
+    uses: &[FaceUse],
+) -> Result<Option<Refusal>, Memory>
+    ensures { IfOk result (λ r. r ≡ least (breaks_with_uses faces.now types.now uses.now)) }
+{
+    if faces.len() > u32::MAX as usize {
+        return Err(Memory);
+    }
+    match least_own_cycle(alloc, faces)? {
+        Some(refusal) => Ok(Some(refusal)),
+        None => {
+            let alone = least_alone(alloc, faces, types)?;
+            let used = least_used(alloc, faces, types, uses)?;
+            Ok(Refusal::first(alone, used))
+        }
+    }
+}
+
+/// An interface as it is used, with all its members. No interface is its own base.
+pub fn instance(alloc: Global, faces: &[Face], used: &FaceUse) -> Result<Instance, Memory>
+    requires { own_cycles faces.now ≡ [] }
+    ensures { IfOk result (λ i. i ≡ use_instance faces.now used.now) }
+{
+    let given = used.map.as_slice();
+    let pair = under(alloc, faces, used.face, given)?;
+    let members = match members(alloc, faces, pair) {
+        Ok(members) => members,
+        Err(_) => return Err(Memory),
+    };
+    let map = copied_map(alloc, given)?;
+    Ok(Instance {
+        face: used.face,
+        map,
+        members: Items::from_vec(members),
+    })
+}

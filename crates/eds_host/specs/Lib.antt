@@ -1,0 +1,5 @@
+pub mod Systems
+pub mod Runs
+pub mod Laws
+pub mod Mirrors
+pub mod Frames

@@ -1,0 +1,48 @@
+-- The ends of components as plans have them.
+use Rattle.std.specs.Prelude.{ℕ, List, [], map, codes, if◌then◌else◌, Option, Some, None, slice_get, unwrap_or}
+use Rattle.eds_base.specs.Reading.{same}
+use Rattle.eds_base.specs.declared.ids.FaceId.{FaceId}
+use Rattle.eds_tree.specs.declared.tree.Node.{Node}
+use Rattle.eds_tree.specs.Trees.{attribute_at}
+use Rattle.eds_names.specs.LookUp.{Names}
+use Rattle.eds_plan.specs.declared.component.EndPlan.{EndPlan}
+use Rattle.eds_plan.specs.declared.component.Level.{Level}
+use Rattle.eds_plan.specs.declared.component.Level.TheVariants.{Application, Functional, Access, Subnetwork}
+use Rattle.eds_generic.specs.declared.face.Face.{Face}
+use Rattle.eds_generic.specs.Reading.{own_name}
+use Rattle.eds_generic.specs.Uses.{use_instance}
+use Rattle.eds_read_comp.specs.declared.end.EndElement.{EndElement}
+use Rattle.eds_read_comp.specs.Ends.{end_elements, use_at}
+
+-- ---- levels
+
+abbrev pub level_named : List ℕ → Level
+level_named text = if same text (codes "functional") then Functional else if same text (codes "access") then Access else if same text (codes "subnetwork") then Subnetwork else Application
+
+-- the level that the element of an interface says
+abbrev pub level_in : Option (List Node) → ℕ → Level
+level_in None n = Application
+level_in (Some t) n = level_named (unwrap_or (attribute_at t n (codes "level")) [])
+
+abbrev pub level_by : List (List Node) → Option Face → Level
+level_by trees None = Application
+level_by trees (Some f) = level_in (slice_get trees f.place.file) f.place.node
+
+-- that of the interface of a number
+abbrev pub level_of : List (List Node) → List Face → FaceId → Level
+level_of trees faces id = level_by trees (slice_get faces id.0)
+
+-- ---- ends
+
+module _ (trees : List (List Node)) (names : Names) (faces : List Face) (t : List Node) (file : ℕ) where
+  abbrev pub end_plan : EndElement → EndPlan
+  end_plan e = record {
+    name = own_name t e.node;
+    required = e.required;
+    level = level_of trees faces (use_at t names file e.node).face;
+    instance = use_instance faces (use_at t names file e.node);
+  }
+
+  -- those of a component, in document order
+  abbrev pub end_plans : ℕ → List EndPlan
+  end_plans n = map end_plan (end_elements t n)

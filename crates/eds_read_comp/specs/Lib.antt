@@ -1,0 +1,5 @@
+pub mod Ends
+pub mod Uses
+pub mod Variables
+pub mod EndPlans
+pub mod ParameterMaps
