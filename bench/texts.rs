@@ -1,11 +1,9 @@
-//! Reads or checks a text or a binary of 65,536 octets many times with nothing but std, from any bit of the first octet on.
+//! Reads a text or a binary of 65,536 octets many times with nothing but std, from any bit of the first octet on.
 //!
-//!   texts binary|text|sum|xor|crc8|crc16 BITS TURNS
+//!   texts binary|text BITS TURNS
 //!
 //! BITS, 0 to 7, is how many bits stand before the octets that are read, each of which is the letter A. The last line that
-//! is printed is `turns TURNS sum SUM`: each turn adds 256 times the number of octets read, and the last of them, or the check.
-//!
-//! A cyclic redundancy check goes octet by octet by a table of 256 remainders, which is made once a run.
+//! is printed is `turns TURNS sum SUM`: each turn adds 256 times the number of octets read, and the last of them.
 //!
 //! At bit 0 a binary is copied as a whole, which is a memcpy; elsewhere octets are shifted one by one, in a loop.
 
@@ -39,43 +37,12 @@ fn text(octets: &[u8], bits: u32) -> u64 {
     weight(black_box(&text).as_bytes())
 }
 
-fn table(width: u32, divisor: u16) -> [u16; 256] {
-    let top = 1u16 << (width - 1);
-    let mut table = [0; 256];
-    for (octet, place) in table.iter_mut().enumerate() {
-        let mut rest = (octet as u16) << (width - 8);
-        for _ in 0..8 {
-            rest = if rest & top != 0 { (rest << 1) ^ divisor } else { rest << 1 };
-        }
-        *place = if width == 8 { rest & 0xFF } else { rest };
-    }
-    table
-}
-
-fn over(octets: &[u8], bits: u32, fold: impl Fn(u16, u8) -> u16, start: u16) -> u64 {
-    let folded = if bits == 0 {
-        octets[..SIZE].iter().fold(start, |rest, octet| fold(rest, *octet))
-    } else {
-        octets.windows(2).fold(start, |rest, pair| fold(rest, pair[0] << bits | pair[1] >> (8 - bits)))
-    };
-    u64::from(folded)
-}
-
 fn main() {
     let words: Vec<String> = env::args().collect();
     let bits: u32 = words[2].parse().expect("bits");
     let turns: u32 = words[3].parse().expect("turns");
     let octets = vec![(0x4141u16 >> bits) as u8; SIZE + 1];
-    let crc8 = table(8, 0x07);
-    let crc16 = table(16, 0x1021);
-    let read = |octets: &[u8], bits: u32| match words[1].as_str() {
-        "text" => text(octets, bits),
-        "sum" => over(octets, bits, |sum, octet| (sum + u16::from(octet)) & 0xFF, 0),
-        "xor" => over(octets, bits, |all, octet| all ^ u16::from(octet), 0),
-        "crc8" => over(octets, bits, |rest, octet| crc8[usize::from(rest as u8 ^ octet)], 0),
-        "crc16" => over(octets, bits, |rest, octet| rest << 8 ^ crc16[usize::from((rest >> 8) as u8 ^ octet)], 0xFFFF),
-        _ => binary(octets, bits),
-    };
+    let read = if words[1] == "text" { text } else { binary };
     let mut sum = 0u64;
     for _ in 0..turns {
         sum = sum.wrapping_add(read(black_box(&octets), bits));

@@ -1,21 +1,20 @@
-//! A text and a binary of 64 KiB, which are read or checked again and again from any bit of their first octet on.
+//! A text and a binary of 64 KiB, which are read again and again from any bit of their first octet on.
 
 ghost use Rattle.std.specs.Prelude.{◌≡◌, ◌+◌, ◌≤◌, length, IfOk};
 
 use eds_base::{Fail, Memory};
-use eds_bits::{BitReader, BitView, CheckKind, TextForm};
-use eds_codec::{check_next, read_binary, read_text};
+use eds_bits::{BitReader, BitView, TextForm};
+use eds_codec::{read_binary, read_text};
 use std::alloc::Global;
 
 /// How many octets are read at a time.
 const SIZE: u32 = 65_536;
 
-/// As what the octets are read, or by what they are checked.
+/// As what the octets are read.
 #[derive(Clone, Copy)]
 pub(crate) enum Kind {
     Binary,
     Text,
-    Check(CheckKind),
 }
 
 /// What is read, how many bits stand before it, and how often.
@@ -33,10 +32,6 @@ impl Task {
         let kind = match kind {
             "binary" => Kind::Binary,
             "text" => Kind::Text,
-            "sum" => Kind::Check(CheckKind::Checksum),
-            "xor" => Kind::Check(CheckKind::Longitudinal),
-            "crc8" => Kind::Check(CheckKind::Crc8),
-            "crc16" => Kind::Check(CheckKind::Crc16Ccitt),
             _ => return None,
         };
         let bits = bits.parse::<u8>().ok()?;
@@ -92,15 +87,6 @@ fn text_weight(alloc: Global, reader: &mut BitReader) -> Result<u64, Memory> {
     }
 }
 
-// The check of the next octets, 0 where there are too few.
-fn check_weight(kind: CheckKind, reader: BitReader) -> u64 {
-    if u64::from(8 * SIZE) <= reader.left() {
-        check_next(kind, reader, 8 * SIZE)
-    } else {
-        0
-    }
-}
-
 // What is read once behind some bits of the octets, of which there is one more than is read.
 fn read_once(alloc: Global, kind: Kind, octets: &[u8], bits: u8) -> Result<u64, Memory>
     requires within_octet { bits ≤ 7 }
@@ -110,11 +96,10 @@ fn read_once(alloc: Global, kind: Kind, octets: &[u8], bits: u8) -> Result<u64, 
     match kind {
         Kind::Binary => binary_weight(alloc, &mut reader),
         Kind::Text => text_weight(alloc, &mut reader),
-        Kind::Check(kind) => Ok(check_weight(kind, reader)),
     }
 }
 
-/// What is read adds up to, modulo 2^64: each time the number of octets times 256, and the last octet; or the check.
+/// What is read adds up to, modulo 2^64: each time the number of octets times 256, and the last octet.
 pub(crate) fn sum_read(alloc: Global, task: Task) -> Result<u64, Memory> {
     let octets = letters_behind(alloc, task.bits)?;
     let mut sum = 0u64;

@@ -1,5 +1,5 @@
-//! Unpacks many packets by a sheet and writes them as JSON, or reads or checks a large text or binary many times, so that
-//! those of a second can be counted from outside.
+//! Unpacks many packets by a sheet and writes them as JSON, or reads a large text or binary many times, so that those of a
+//! second can be counted from outside.
 #![tactic(auto)]
 
 mod json;
@@ -107,7 +107,7 @@ fn main(rt: HostRuntime) -> ExitCode {
         Some(Task::Letters(task)) => print_letters(&rt, task),
         None => {
             let _ = println!(rt;
-                "usage: eds_bench COUNT, json COUNT, or binary, text, sum, xor, crc8 or crc16 BITS TURNS; counts from 1 to {MOST}"
+                "usage: eds_bench COUNT, json COUNT, or binary or text BITS TURNS; counts from 1 to {MOST}"
             );
             ExitCode::from(2)
         }
