@@ -7,3 +7,4 @@ pub mod Deliveries
 pub mod Times
 pub mod Mirrored
 pub mod Framing
+pub mod Tying

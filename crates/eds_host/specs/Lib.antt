@@ -3,3 +3,5 @@ pub mod Runs
 pub mod Laws
 pub mod Mirrors
 pub mod Frames
+pub mod Wires
+pub mod Links

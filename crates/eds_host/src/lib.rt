@@ -6,3 +6,6 @@ mod dues;
 mod frame;
 pub mod law;
 mod queue;
+mod wiring;
+
+pub use wiring::{HostFail, WireWhy};

@@ -6,3 +6,4 @@ pub mod Times
 pub mod StartLaws
 pub mod Keeping
 pub mod MachineLaws
+pub mod Behind

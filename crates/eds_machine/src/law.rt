@@ -1,6 +1,6 @@
 //! Laws of machines: each is the contract of a function without a body.
 
-ghost use Rattle.eds_machine.specs.Laws.{UntakenChangesNothing, MomentsAreLater, MomentsPass};
+ghost use Rattle.eds_machine.specs.Laws.{UntakenChangesNothing, MomentsAreLater, MomentsPass, SendsStandBehind};
 
 /// Where a machine takes no transition, nothing changes, but that a timer's moment has passed.
 pub fn untaken_changes_nothing()
@@ -12,4 +12,9 @@ pub fn untaken_changes_nothing()
 pub fn timers_fire_once()
     ensures later { MomentsAreLater }
     ensures pass { MomentsPass }
+{}
+
+/// What a component makes of an event doesn't rest on what was sent before, and what it sends stands behind that.
+pub fn sends_stand_behind()
+    ensures { SendsStandBehind }
 {}

@@ -115,7 +115,6 @@ fn default_within(
     ensures takes { IfOk result (λ o. IfSome o (λ v. left.new + least_size table.now id.0 ≤ left.old)) }
 {
     table.keeps_rules();
-    law::canonical_spelling();
     law::least_size();
     let before = *left;
     let least = table.min_bits(id);

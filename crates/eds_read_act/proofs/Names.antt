@@ -1,5 +1,5 @@
 -- The names of a text, where it is cut at its first point.
-use Rattle.std.proofs.Common.{◌≡◌, ℕ, suc, ◌+◌, ◌<◌, ◌≤◌, Bool, true, false, List, [], ◌∷◌, length, take, drop, refl, sym, ap, ◌∙◌, arith, length-drop}
+use Rattle.std.proofs.Common.{◌≡◌, ℕ, suc, ◌+◌, ◌<◌, ◌≤◌, Bool, true, false, List, [], ◌∷◌, length, take, drop, refl, ap, arith, length-drop}
 use Rattle.std.specs.List.{position_or_len, before_first, after_first}
 use Rattle.eds_read_act.specs.Naming.{is_point, before_names, names_in}
 

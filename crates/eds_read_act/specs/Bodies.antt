@@ -15,7 +15,7 @@ use Rattle.eds_plan.specs.declared.activity.Op.TheVariants as op
 use Rattle.eds_plan.specs.declared.activity.Operand.{Operand}
 use Rattle.eds_plan.specs.declared.activity.Target.{Target}
 use Rattle.eds_plan.specs.Carried.{leaving}
-use Rattle.eds_plan.specs.Statements.{Condition, Conditions, compare, every, some, none, conditions_of, Stmt, assign, calculate, choose, iterate, call, send_command, send_parameter, stmts_of}
+use Rattle.eds_plan.specs.Statements.{Condition, compare, every, some, none, conditions_of, Stmt, assign, calculate, choose, iterate, call, send_command, send_parameter, stmts_of}
 use Rattle.eds_read_act.specs.declared.activity_sort.ActivitySort.{ActivitySort}
 use Rattle.eds_read_act.specs.declared.activity_sort.ActivitySort.TheVariants as sort
 use Rattle.eds_read_act.specs.declared.naming.Found.{Found}
@@ -28,7 +28,7 @@ use Rattle.eds_read_act.specs.BadReference.{output_of, iterator_of}
 use Rattle.eds_read_act.specs.Inside.{text_at, operand_of, operands_of, child_named, first_where, given_for}
 use Rattle.eds_read_act.specs.Naming.{short}
 use Rattle.eds_read_act.specs.Numbered.{numbered}
-use Rattle.eds_read_act.specs.Operands.{operand_at, operand_if, zero_operand, type_of}
+use Rattle.eds_read_act.specs.Operands.{operand_at, operand_if, type_of}
 use Rattle.eds_read_act.specs.Scopes.{Scope, Field}
 use Rattle.eds_read_act.specs.Sending.{activity_of, command_of, parameter_of}
 use Rattle.eds_read_act.specs.TypeMismatch.{relation_of, number_in}

@@ -1,5 +1,5 @@
 -- What operands stand for, and what they fit.
-use Rattle.std.specs.Prelude.{ℕ, ◌==◌, ◌||◌, List, [], ◌∷◌, codes, Bool, true, false, is_some, Option, Some, None, option_map, slice_get, pos}
+use Rattle.std.specs.Prelude.{ℕ, ◌==◌, ◌||◌, List, codes, Bool, true, false, is_some, Option, Some, None, option_map, slice_get, pos}
 use Rattle.eds_base.specs.Reading.{◌>>=◌}
 use Rattle.eds_base.specs.Numbers.{whole_number}
 use Rattle.eds_base.specs.declared.ids.TypeId.{TypeId}

@@ -1,5 +1,5 @@
 -- Operands fit what takes them, and calculations and iterations are of numbers.
-use Rattle.std.specs.Prelude.{ℕ, suc, zero, ◌+◌, ◌-◌, ◌==◌, ◌&&◌, ◌||◌, not, nat_le, ℤ, pos, List, [], ◌∷◌, codes, Bool, true, false, is_some, is_none, if◌then◌else◌, Option, Some, None}
+use Rattle.std.specs.Prelude.{ℕ, suc, zero, ◌+◌, ◌-◌, ◌==◌, ◌&&◌, ◌||◌, not, nat_le, ℤ, pos, List, [], ◌∷◌, codes, Bool, true, false, is_some, if◌then◌else◌, Option, Some, None}
 use Rattle.std.specs.Ordering.{int_eq}
 use Rattle.std.specs.List.{flat_map, list_any}
 use Rattle.eds_base.specs.Reading.{◌>>=◌, same}
@@ -19,8 +19,8 @@ use Rattle.eds_read_act.specs.declared.operand.Wanted.{Wanted}
 use Rattle.eds_read_act.specs.declared.operand.Wanted.TheVariants as wanted
 use Rattle.eds_read_act.specs.declared.sending.Held.{Held}
 use Rattle.eds_read_act.specs.ActivitySorts.{sort_at, is_operand}
-use Rattle.eds_read_act.specs.Inside.{text_at, operand_of, operands_of, is_operand_at, child_named}
-use Rattle.eds_read_act.specs.Operands.{kind_of, is_number, literal, type_fits, type_of, operand_fits}
+use Rattle.eds_read_act.specs.Inside.{text_at, operand_of, operands_of, is_operand_at}
+use Rattle.eds_read_act.specs.Operands.{kind_of, is_number, type_of, operand_fits}
 use Rattle.eds_read_act.specs.BadReference.{broken_if, is_bad, output_of, iterator_of}
 use Rattle.eds_read_act.specs.Scopes.{Scope, Field}
 use Rattle.eds_read_act.specs.Sending.{parameter_of, taken_at}
