@@ -393,6 +393,8 @@ class ComponentReader:
             return Event("Timer", None, None, None, after, None), []
         kind, attribute = (Command, "command") if e.name == "OnCommandPrimitive" else (Parameter, "parameter")
         end, member = self.end_and_member(e, kind, attribute)
+        if kind is Parameter and end is not None and not self.c.ends[end].required and "operation" not in e.attrs:
+            self.broken(36, transition)
         if member is None:
             self.broken(33, e)
             return Event("Command", end, member, None, None, None), UNKNOWN
@@ -401,8 +403,6 @@ class ComponentReader:
             arguments = [(a.name, a.type) for a in carried(found, not required)]
             return Event("Command", end, member, "cmd", None, transaction), arguments
         op = "val" if required else e.attrs.get("operation")
-        if op is None:
-            self.broken(36, transition)
         read_only = op == "set" and found.read_only
         if read_only:
             self.broken(33, e)
