@@ -12,10 +12,10 @@ import sys
 
 # ---------------------------------------------------------------- what is built
 
-EVERYTHING = {"strings", "binaries", "arrays", "fixed", "padding", "lists", "nested", "inherit", "length", "checks", "open"}
-STAGES = {"whole": EVERYTHING, "scalars": set()}
+EVERYTHING = {"strings", "binaries", "arrays", "fixed", "padding", "lists", "nested", "inherit", "length", "checks", "open", "interfaces", "ends"}
+STAGES = {"whole": EVERYTHING, "built": EVERYTHING - {"fixed", "inherit"}, "scalars": set()}
 # what stays pending in every stage of this model: it has no meaning for these
-PENDING_ALWAYS = {"DeclaredInterfaceSet", "ComponentSet", "StateMachineSet"}
+PENDING_ALWAYS = {"VariableSet", "ParameterMapSet", "ActivitySet", "StateMachineSet"}
 
 
 def pending_word(e, stage):
@@ -25,7 +25,7 @@ def pending_word(e, stage):
         return n
     by = {"StringDataType": "strings", "BinaryDataType": "binaries", "ArrayDataType": "arrays", "FixedValueEntry": "fixed",
           "PaddingEntry": "padding", "ListEntry": "lists", "ConstraintSet": "inherit", "TrailerEntryList": "inherit",
-          "LengthEntry": "length", "ErrorControlEntry": "checks"}
+          "LengthEntry": "length", "ErrorControlEntry": "checks", "DeclaredInterfaceSet": "interfaces", "ComponentSet": "ends"}
     if n in by and by[n] not in stage:
         return n
     if n == "ContainerDataType" and "inherit" not in stage:
@@ -204,7 +204,8 @@ def json_string(s):
 RULES = ["", "NotJson", "NotElement", "UnknownElement", "Unsupported", "MissingAttribute", "BadAttribute", "BadName", "Limit",
          "Duplicate", "Unresolved", "WrongKind", "BadEncoding", "EmptyRange", "BadEnumeration", "BaseCycle", "TypeCycle",
          "EmptyType", "DuplicateEntry", "ListField", "LengthField", "FixedValue", "ErrorControl", "ConstraintTarget",
-         "ConstraintValue", "ConstraintEmpty", "Overlap"]
+         "ConstraintValue", "ConstraintEmpty", "Overlap", "InterfaceCycle", "DuplicateMember", "Unmapped", "UnknownGeneric",
+         "GenericBase"]
 
 
 class Refused(Exception):
@@ -658,6 +659,53 @@ def declared_items(roots):
     return out
 
 
+def elements(e):
+    """An element and all below it, in document order, without those that are passed over."""
+    yield e
+    for c in e.children:
+        if c.name not in PASSED_OVER:
+            yield from elements(c)
+
+
+def kids_in(e, sets, *names):
+    """The children of those children of an element that are such sets, in document order."""
+    return [c for s in e.children if s.name in sets for c in s.kids(*names)]
+
+
+ENDS = ("ProvidedInterfaceSet", "RequiredInterfaceSet")
+
+
+def owned(e):
+    """The lists of elements below an owner whose names differ."""
+    out = [kids_in(e, ["GenericTypeMapSet"], "GenericTypeMap")]
+    if e.name == "Interface":
+        out += [kids_in(e, ["GenericTypeSet"], "GenericType"), kids_in(e, ["ParameterSet", "CommandSet"], "Parameter", "Command")]
+    if e.name in ("Command", "Activity"):
+        out.append(e.kids("Argument"))
+    if e.name == "Component":
+        out.append(kids_in(e, ENDS, "Interface"))
+        body = e.kid("Implementation")
+        if body is not None:
+            out += [kids_in(body, [s], k) for s, k in (("VariableSet", "Variable"), ("ActivitySet", "Activity"), ("StateMachineSet", "StateMachine"))]
+    if e.name == "StateMachine":
+        out.append(e.kids("EntryState", "State", "ExitState"))
+    return out
+
+
+class Face:
+    """A declared interface. A type in it is a `Type`, or the text of one of its own generic names."""
+
+    def __init__(self, element, scopes):
+        self.element, self.scopes, self.place = element, scopes, element.place
+        self.generics = kids_in(element, ["GenericTypeSet"], "GenericType")
+        self.names = [g.attrs["name"] for g in self.generics]
+        self.base_types, self.bases = {}, []
+        self.hidden = flag(element.attrs.get("abstract", "false"))
+        self.members = kids_in(element, ["ParameterSet"], "Parameter") + kids_in(element, ["CommandSet"], "Command")
+
+
+UNMAPPED = "unmapped"
+
 SCALARS = ("Integer", "SubRange", "Enumerated", "Boolean")
 
 
@@ -791,7 +839,7 @@ def array_count(t):
 
 class Judge:
     def __init__(self, roots, word, nfiles, stage):
-        self.stage = stage
+        self.stage, self.roots = stage, roots
         self.items = declared_items(roots)
         self.word_text, self.nfiles = word, nfiles
         self.names()
@@ -800,6 +848,7 @@ class Judge:
         self.phase5()
         self.phase6()
         self.phase7()
+        self.phase8()
 
     # ---- phase 3
 
@@ -810,6 +859,11 @@ class Judge:
                 breaks.append((9, e.place, e.attrs["name"]))
             else:
                 seen[q] = (sort, e)
+        for r in self.roots:
+            for e in elements(r):
+                for l in owned(e):
+                    names = [c.attrs["name"] for c in l]
+                    breaks += [(9, c.place, c.attrs["name"]) for i, c in enumerate(l) if c.attrs["name"] in names[:i]]
         first(breaks)
         self.by_name = seen
         self.types = []
@@ -819,6 +873,8 @@ class Judge:
                 t = Type(len(self.types), q, e, scopes)
                 self.types.append(t)
                 self.of_element[e.place] = t
+        self.faces = [Face(e, scopes) for sort, q, e, scopes in self.items if sort == "interface"]
+        self.face_of = {f.place: f for f in self.faces}
         self.counts = {s: len([1 for i in self.items if i[0] == s]) for s in ("type", "interface", "component")}
 
     def look_up(self, scopes, text, element_place, wanted, breaks):
@@ -833,6 +889,54 @@ class Judge:
                 return self.of_element[e.place]
         breaks.append((10, element_place, text))
         return None
+
+    def look_up_face(self, scopes, e, breaks):
+        """The interface that the `type` of a base or an end names."""
+        for q in [join(s, e.attrs["type"]) for s in scopes]:
+            if q in self.by_name:
+                sort, found = self.by_name[q]
+                if sort == "interface" and not (e.name == "Interface" and self.face_of[found.place].hidden):
+                    return self.face_of[found.place]
+                breaks.append((11, e.place, e.attrs["type"]))
+                return None
+        breaks.append((10, e.place, e.attrs["type"]))
+        return None
+
+    def named_in(self, scopes, generics, e, breaks):
+        """What the `type` of an element of an interface or an end stands for: a generic name or a type."""
+        if e.attrs["type"] in generics:
+            return e.attrs["type"]
+        t = self.look_up(scopes, e.attrs["type"], e.place, lambda t: True, breaks)
+        self.named_outside.append((e, t))
+        return t
+
+    def maps_of(self, scopes, generics, e, breaks):
+        return {g.attrs["name"]: self.named_in(scopes, generics, g, breaks) for g in kids_in(e, ["GenericTypeMapSet"], "GenericTypeMap")}
+
+    def face_references(self, breaks):
+        """References of interfaces and ends. `named_outside` has the elements beside parts that name a type, with it."""
+        self.named_outside, self.ends = [], []
+        for f in self.faces:
+            for g in f.generics:
+                if "baseType" in g.attrs:
+                    t = self.look_up(f.scopes, g.attrs["baseType"], g.place, lambda t: True, breaks)
+                    f.base_types[g.attrs["name"]] = t
+                    self.named_outside.append((g, t))
+            for b in kids_in(f.element, ["BaseInterfaceSet"], "Base"):
+                if b.attrs["type"] in f.names:
+                    breaks.append((11, b.place, b.attrs["type"]))
+                    base = None
+                else:
+                    base = self.look_up_face(f.scopes, b, breaks)
+                f.bases.append((base, self.maps_of(f.scopes, f.names, b, breaks)))
+            for c in f.members:
+                for e in [c] if c.name == "Parameter" else c.kids("Argument"):
+                    self.named_in(f.scopes, f.names, e, breaks)
+        for sort, q, e, scopes in self.items:
+            if sort == "component":
+                inner = [q] + scopes
+                for end in kids_in(e, ENDS, "Interface"):
+                    self.ends.append((end, self.look_up_face(inner, end, breaks), self.maps_of(inner, [], end, breaks)))
 
     def references(self):
         breaks = []
@@ -868,6 +972,7 @@ class Judge:
                     if c.name == "TypeConstraint":
                         named_type = self.look_up(t.scopes, c.attrs["type"], c.place, anything, breaks)
                     t.constraints.append(Constraint(c, t, named_type))
+        self.face_references(breaks)
         self.word = None
         if self.word_text is not None:
             self.word = self.look_up([""], self.word_text, (self.nfiles, 0), anything, breaks)
@@ -1179,6 +1284,9 @@ class Judge:
             for c in t.constraints:
                 if c.type is not None and is_open(c.type):
                     add(20, c.element.place)
+        for e, t in self.named_outside:
+            if is_open(t):
+                add(20, e.place)
 
     def size(self, t):
         if t.kind in ("Integer", "SubRange", "Enumerated"):
@@ -1290,6 +1398,7 @@ class Judge:
             for p in t.parts:
                 if p.type is not None:
                     out.add(p.type.id)
+        out |= {t.id for e, t in self.named_outside if e.name != "GenericType"}
         if self.word is not None:
             out.add(self.word.id)
         return {i for i in out if not is_open(self.types[i])}
@@ -1326,6 +1435,56 @@ class Judge:
                     if note is not None:
                         kept = one.name + " " + second.name + "".join(" %s=%d" % x for x in note)
                         raise Refused(26, second.place, kept)
+
+    # ---- phase 8
+
+    def phase8(self):
+        def above(f):
+            seen, todo = set(), [b for b, _ in f.bases]
+            while todo:
+                x = todo.pop()
+                if x.place not in seen:
+                    seen.add(x.place)
+                    todo += [b for b, _ in x.bases]
+            return seen
+
+        first([(27, f.place, None) for f in self.faces if f.place in above(f)])
+        breaks = []
+        for place, face, types in [(f.place, f, {}) for f in self.faces if not f.names] + [(e.place, f, types) for e, f, types in self.ends]:
+            found = self.instance_breaks(face, types)
+            if found:
+                rule, kept = min(found, key=lambda b: b[0])
+                breaks.append((rule, place, kept))
+        first(breaks)
+
+    def instance_breaks(self, face, types):
+        """What an interface under a map breaks, the first of each rule: pairs of a rule and its kept word."""
+        members, found, seen = [], {}, set()
+
+        def gather(f, types):
+            under = frozenset((n, t if isinstance(t, str) else t.id) for n, t in types.items())
+            if (f.place, under) in seen:
+                return
+            seen.add((f.place, under))
+            for n in f.names:
+                if n not in types:
+                    found.setdefault(29, n)
+                elif types[n] != UNMAPPED and n in f.base_types and f.base_types[n] not in chain(types[n]):
+                    found.setdefault(31, n)
+            for n in types:
+                if n not in f.names:
+                    found.setdefault(30, n)
+            for base, own in f.bases:
+                gather(base, {n: types.get(t, UNMAPPED) if isinstance(t, str) else t for n, t in own.items()})
+            members.extend(c.attrs["name"] for c in f.members)
+
+        gather(face, types)
+        if len(members) > 1024:
+            found[8] = "members"
+        twice = [n for i, n in enumerate(members) if n in members[i + 1:]]
+        if twice:
+            found[28] = twice[0]
+        return list(found.items())
 
 
 class Constraint:
