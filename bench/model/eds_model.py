@@ -1,26 +1,21 @@
-#!/usr/bin/env python3
-"""An independent model of the sheet language, written from the rules of the profile alone.
+"""An independent model of sheets and their types, written from the rules of the profile alone.
 
-  eds_model.py check FILE...            eds_model.py unpack TYPE HEXFILE FILE...
-  eds_model.py pack TYPE JSONFILE FILE...
-
-Prints what `eds` prints and ends with its status. `answer(words, files, stage)` is the same as a function, with
-files a dict from names to bytes. A stage is a set of words of what is built; see STAGES.
+`judged(files, word, stage)` judges the octets of sheet files, `unpack` and `pack` read and pack for the type that the word
+names. A stage is a set of words of what is built. run_model.py adds interfaces, components and runs, and answers words.
 """
 import re
-import sys
 
 # ---------------------------------------------------------------- what is built
 
 EVERYTHING = {"strings", "binaries", "arrays", "fixed", "padding", "lists", "nested", "inherit", "length", "checks", "open"}
-STAGES = {"whole": EVERYTHING, "scalars": set()}
-# interfaces, components, machines and transactions are judged by run_model.py: this file alone leaves them pending
+# interfaces, ends, activities, machines and transactions are judged by run_model.py: this file alone leaves them pending
 
 
 def pending_word(e, stage):
     """The kept word where the element isn't built yet, or None."""
     n = e.name
-    by = {"DeclaredInterfaceSet": "interfaces", "ComponentSet": "components", "StateMachineSet": "machines",
+    by = {"DeclaredInterfaceSet": "interfaces", "ComponentSet": "ends", "VariableSet": "activities",
+          "ParameterMapSet": "activities", "ActivitySet": "activities", "StateMachineSet": "machines",
           "StringDataType": "strings", "BinaryDataType": "binaries", "ArrayDataType": "arrays", "FixedValueEntry": "fixed",
           "PaddingEntry": "padding", "ListEntry": "lists", "ConstraintSet": "inherit", "TrailerEntryList": "inherit",
           "LengthEntry": "length", "ErrorControlEntry": "checks"}
@@ -1871,9 +1866,6 @@ holds_packed = holds
 
 # ---------------------------------------------------------------- the answer
 
-COMMANDS = {"check": 2, "unpack": 4, "pack": 4}
-
-
 def judged(files, word, stage, judge=Judge):
     breaks = []
     roots = [read_tree(i, f, breaks) for i, f in enumerate(files)]
@@ -1892,45 +1884,6 @@ def judged(files, word, stage, judge=Judge):
         pend(r)
     first(out)
     return judge(roots, word, len(files), stage)
-
-
-def answer(words, files, stage=EVERYTHING):
-    """(status, report) of words over files: a dict of bytes."""
-    usage = (2, "usage: eds COMMAND ARGUMENTS\n")
-    if not words or words[0] not in COMMANDS or len(words) < COMMANDS[words[0]]:
-        return usage
-    command = words[0]
-    names = words[1:] if command == "check" else words[3:]
-    if len(names) > 64:
-        return (7, "limit files 64\n")
-    total, sheets = 0, []
-    for n in names:
-        if n not in files:
-            return (8, "no file %s\n" % n)
-        if len(files[n]) > 4194304:
-            return (7, "limit file 4194304\n")
-        total += len(files[n])
-        if total > 16777216:
-            return (7, "limit sheets 16777216\n")
-        sheets.append(files[n])
-    try:
-        j = judged(sheets, None if command == "check" else words[1], stage)
-    except Refused as r:
-        return (1, r.report())
-    if command == "check":
-        return (0, "accepted types %d containers %d interfaces %d components %d\n" % (
-            j.counts["type"], len([t for t in j.types if t.kind == "Container"]), j.counts["interface"], j.counts["component"]))
-    if words[2] not in files:
-        return (8, "no file %s\n" % words[2])
-    data = files[words[2]]
-    if len(data) > (1048576 if command == "unpack" else 4194304):
-        return (7, "limit input %d\n" % (1048576 if command == "unpack" else 4194304))
-    try:
-        if command == "unpack":
-            return unpack(j, data)
-        return pack(j, data)
-    except Fault as f:
-        return (3, "fault %s at $%s\n" % (f.reason, f.path))
 
 
 def unpack(j, data):
@@ -1958,20 +1911,3 @@ def pack(j, data):
         raise Fault("WrongShape", w.path)
     bits = Packer(j).pack(j.word, v)
     return (0, octets_of(bits).hex() + "\nbits %d\n" % len(bits))
-
-
-def main():
-    words = sys.argv[1:]
-    files = {}
-    for w in words[1:]:
-        try:
-            files[w] = open(w, "rb").read()
-        except OSError:
-            pass
-    status, report = answer(words, files)
-    sys.stdout.buffer.write(report.encode())
-    sys.exit(status)
-
-
-if __name__ == "__main__":
-    main()

@@ -9,9 +9,9 @@ import json
 import os
 import random
 import sys
-import tempfile
 
-sys.path.insert(0, os.path.dirname(os.path.realpath(__file__)))
+HERE = os.path.dirname(os.path.realpath(__file__))
+sys.path[:0] = [HERE, os.path.dirname(HERE)]
 import compare
 import components as c
 import eds_model as m
@@ -606,10 +606,7 @@ def answers(seed, program, count):
         given = {**files, **more}
         want = r.answer(words, given)
         count.update(kinds(want[1]))
-        if program is None:
-            continue
-        with tempfile.TemporaryDirectory() as folder:
-            got = compare.run(program, words, given, folder)
+        got = want if program is None else compare.run(os.path.abspath(program), words, given)
         if got != want:
             yield words, given, want, got
 

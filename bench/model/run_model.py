@@ -1,10 +1,13 @@
 #!/usr/bin/env python3
-"""The model with interfaces, components and runs. Beside what eds_model.py does:
+"""The model as a program: eds_model.py with interfaces, components and runs.
 
-  run_model.py run SCRIPT FILE...            run_model.py demo N
+  run_model.py check FILE...                 run_model.py unpack TYPE HEXFILE FILE...
+  run_model.py run SCRIPT FILE...            run_model.py pack TYPE JSONFILE FILE...
+  run_model.py demo N
 
-Prints what `eds` prints and ends with its status. `answer(words, files)` is the same as a function, with files a dict
-from names to bytes."""
+Prints what `eds` prints and ends with its status. `answer(words, files, stage)` is the same as a function, with files a
+dict from names to bytes. A stage is a set of words of what is built; see STAGES.
+"""
 import re
 import sys
 
@@ -15,8 +18,8 @@ from activities import Primitive
 from runs import Host, Rejected, Storm
 from scripts import BadLine, Script, end_report, event_text
 
-EVERYTHING = m.EVERYTHING | {"interfaces", "components", "machines", "transactions"}
-STAGES = {"whole": EVERYTHING, "ends": m.EVERYTHING | {"interfaces", "components"}}
+EVERYTHING = m.EVERYTHING | {"interfaces", "ends", "activities", "machines", "transactions"}
+STAGES = {"whole": EVERYTHING, "built": (m.EVERYTHING | {"interfaces", "ends"}) - {"fixed", "inherit"}, "scalars": set()}
 MOST_SCRIPT, MOST_REPORT = 4194304, 67108864
 
 sys.setrecursionlimit(100000)
