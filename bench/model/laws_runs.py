@@ -9,7 +9,8 @@ import sys
 
 sys.path.insert(0, os.path.dirname(os.path.realpath(__file__)))
 import eds_model as m
-import gen_runs
+import gen_components
+import gen_scripts
 import run_model as r
 import runs
 from defaults import packs
@@ -63,11 +64,11 @@ def differs(seed):
     """How many runs one seed has, and what is wrong with them."""
     rng, out, count = random.Random(seed), [], 0
     try:
-        judge = r.judged([gen_runs.octets(gen_runs.case(seed))])
+        judge = r.judged([gen_components.octets(gen_components.case(seed))])
     except m.Refused:
         return 0, []
     for _ in range(4):
-        octets = gen_runs.script(rng, judge)
+        octets = gen_scripts.script(rng, judge)
         try:
             script = Script(judge, octets)
             wires = script.joined()

@@ -1,27 +1,18 @@
-#!/usr/bin/env python3
-"""gen_runs.py [PROGRAM] [--seed N] [--cases N]: random sheets with components and random scripts, by the model alone or both.
-
-Without PROGRAM it says what the model's answers came to; with PROGRAM it prints where that answers otherwise. `case(seed)`
-gives the files of a sheet, and `script(rng, judge)` a script for an accepted one."""
-import argparse
-import collections
+"""Random sheets with interfaces and components. `case(seed)` gives the tree of one; about half of them are accepted."""
 import json
 import os
 import random
 import sys
 
-HERE = os.path.dirname(os.path.realpath(__file__))
-sys.path[:0] = [HERE, os.path.dirname(HERE)]
-import compare
+sys.path.insert(0, os.path.dirname(os.path.realpath(__file__)))
 import components as c
 import eds_model as m
 import gen
 import run_model as r
-from defaults import default_of, packs
+from defaults import default_of
 from interfaces import Command, Parameter, Resolution, carried
 
 PACKAGE = "A"
-TYPE_STAGE = m.EVERYTHING
 
 
 def element(name, attributes=None, *children):
@@ -60,7 +51,7 @@ class Interfaces:
     def __init__(self, rng):
         self.r = rng
         while True:
-            types = gen.Gen(rng, TYPE_STAGE, rng.choice([5, 7, 9])).sheet()[2]
+            types = gen.Gen(rng, m.EVERYTHING, rng.choice([5, 7, 9])).sheet()[2]
             self.types = element("DataTypeSet", None, ["IntegerDataType", {"name": "N8"}, ["IntegerDataEncoding", {"sizeInBits": "8", "encoding": "unsigned"}]], *types)
             self.faces, self.built, self.set = [], [], None
             try:
@@ -486,151 +477,3 @@ def case(seed):
     for _ in range(rng.choice([0, 0, 0, 1, 1, 2])):
         spoil(rng, tree)
     return tree
-
-
-# ---------------------------------------------------------------- scripts
-
-class ScriptMaker:
-    """A random script for the components of an accepted sheet."""
-
-    def __init__(self, rng, judge):
-        self.r, self.j, self.wired = rng, judge, set()
-        self.ends = [(x.name + ":" + e.name, e) for x in judge.components for e in x.ends]
-        lines = self.wires() if rng.random() < .6 else []
-        makers = [self.tick] + ([self.arriving] * 4 if self.free() else [])
-        lines += [rng.choice(makers)() for _ in range(rng.choice([0, 2, 4, 8, 16]))]
-        if rng.random() < .35:
-            lines.insert(rng.randrange(len(lines) + 1), self.bad())
-        end = "\r\n" if rng.random() < .1 else "\n"
-        self.octets = "".join(x + end for x in lines if x is not None).encode("utf-8", "surrogateescape")
-        if rng.random() < .1:
-            self.octets = self.octets[:-1]
-
-    def free(self):
-        return [x for x in self.ends if x[0] not in self.wired]
-
-    def wires(self):
-        """Wires between ends of one interface and map, now and then ones that fail."""
-        out = []
-        for lower, x in self.ends:
-            for upper, y in self.ends:
-                fit = x.required and not y.required and x.face is y.face and x.map == y.map and not {lower, upper} & self.wired
-                if fit and self.r.random() < .7 or self.r.random() < .01:
-                    out.append("wire %s %s" % (lower, upper))
-                    self.wired |= {lower, upper}
-        return out
-
-    def tick(self):
-        return "tick %d" % self.r.choice([0, 1, 4, 5, 100, 250, 1000, 3333, 10**18 if self.r.random() < .1 else 7])
-
-    def json(self, t):
-        """The JSON of a value, mostly of one that packs."""
-        values = gen.Values(self.r, self.j)
-        value = values.value(t)
-        for _ in range(8):
-            try:
-                if packs(self.j, t, m.value_of(self.j, t, m.Json(json.dumps(value).encode()).read(), "")):
-                    break
-            except m.WrongShape:
-                pass
-            value = values.value(t)
-        return gen.spoil(self.r, value) if self.r.random() < .01 else value
-
-    def arriving(self):
-        """A line that brings something to an end that isn't wired, or None where it has no members."""
-        name, end = self.r.choice(self.free())
-        if not end.members:
-            return None
-        x = self.r.choice(end.members)
-        if isinstance(x, Parameter):
-            word = "val" if end.required else "get" if x.read_only or self.r.random() < .5 else "set"
-            return "%s %s %s" % (word, name, x.name) + (" " + self.text(self.json(x.type)) if word != "get" else "")
-        arguments = carried(x, not end.required)
-        if len(arguments) == 1 and self.r.random() < .6:
-            return "frame %s %s %s" % (name, x.name, self.hex(arguments[0].type))
-        return "cmd %s %s %s" % (name, x.name, self.text({a.name: self.json(a.type) for a in arguments}))
-
-    def text(self, value):
-        return json.dumps(value, ensure_ascii=self.r.random() < .5)
-
-    def hex(self, t):
-        return gen.frame_text(self.r, self.j, t).decode().replace(" ", "").replace("\n", "")
-
-    def bad(self):
-        """A line that mostly is refused, for each of the reasons."""
-        rng = self.r
-        name, end = rng.choice(self.ends or [("A/C0:e0", None)])
-        member = rng.choice(end.members).name if end is not None and end.members else "c00"
-        return rng.choice([
-            "tock 5", "tick 5 ", "tick", "wire %s" % name, "cmd %s %s" % (name, member), "", "# a comment \udcff", "tick \udcff", " ", "tick ",
-            "wire %s %s" % (name, name), "wire A/C0:e0 A/C1:e0", "wire A/C0:nowhere A/C1:e0", "tick -1", "tick 12345678901234567890",
-            "tick 1000000000000000001", "tick 1000000000000000000\n" * 10 + "tick 1", "cmd A/C9:e0 %s {}" % member, "get A/C0:x p00",
-            "val %s %s 1" % (name, member), "get %s %s" % (name, member), "set %s %s 1" % (name, member), "cmd %s nowhere {}" % name,
-            "frame %s %s 0" % (name, member), "frame %s %s 0g" % (name, member), "frame %s %s " % (name, member), "frame %s %s 00 00" % (name, member),
-            "frame %s %s %s" % (name, member, "00" * 65537), "cmd %s %s {" % (name, member), "cmd %s %s []" % (name, member),
-            "cmd %s %s {\"$type\":1}" % (name, member), "cmd %s %s {\"a0\":999999}" % (name, member), "set %s %s nul" % (name, member),
-            "val %s %s {\"x\":1}" % (name, member), "set %s %s -99999" % (name, member), "val %s %s \"none\"" % (name, member),
-            "frame %s %s %s" % (name, member, "5a" * 40), "# a comment"])
-
-
-def script(rng, judge):
-    return ScriptMaker(rng, judge).octets
-
-
-# ---------------------------------------------------------------- many cases
-
-def kinds(report):
-    """What a report shows, for the count of what came."""
-    out = set()
-    for line in report.split("\n"):
-        words = line.split(" ")
-        if words[0] in ("refused", "bad", "limit"):
-            out.add(" ".join(words[:3] if words[0] == "refused" else words[:1] + words[3:] if words[0] == "bad" else words[:2]))
-        elif len(words) > 1 and words[0].isdigit():
-            out.add("halt " + words[-1] if words[1] == "halt" else "reject " + words[4] if words[1] == "reject" else words[1])
-        elif words[0] in ("wait", "end", "accepted"):
-            out.add(words[0])
-    return out
-
-
-def answers(seed, program, count):
-    """The model's answers for one seed, and those of the program that differ."""
-    rng = random.Random(seed)
-    files, scripts = {"sheet": octets(case(seed))}, []
-    try:
-        judge = r.judged([files["sheet"]])
-        scripts = [script(rng, judge) for _ in range(3)]
-    except m.Refused:
-        pass
-    for words, more in [(["check", "sheet"], {})] + [(["run", "script", "sheet"], {"script": s}) for s in scripts]:
-        given = {**files, **more}
-        want = r.answer(words, given)
-        count.update(kinds(want[1]))
-        got = want if program is None else compare.run(os.path.abspath(program), words, given)
-        if got != want:
-            yield words, given, want, got
-
-
-def main():
-    a = argparse.ArgumentParser()
-    a.add_argument("program", nargs="?")
-    a.add_argument("--seed", type=int, default=1)
-    a.add_argument("--cases", type=int, default=100)
-    o = a.parse_args()
-    count, differ = collections.Counter(), 0
-    for i in range(o.cases):
-        for words, files, want, got in answers(o.seed * 1000003 + i, o.program, count):
-            differ += 1
-            if differ <= 5:
-                print("==", o.seed * 1000003 + i, words)
-                for name, text in files.items():
-                    print("--", name, text.decode("utf-8", "replace"))
-                print("model  ", want)
-                print("program", got)
-    for kind, n in sorted(count.items()):
-        print("%7d %s" % (n, kind))
-    print(o.cases, "sheets,", differ, "differ")
-
-
-if __name__ == "__main__":
-    main()
