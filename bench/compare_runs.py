@@ -13,6 +13,7 @@ import collections
 import os
 import random
 import sys
+import traceback
 
 import compare
 import gen_components
@@ -50,6 +51,21 @@ def inputs(seed):
         yield ["run", "script", "sheet"], {**files, "script": gen_scripts.script(dice, judge)}
 
 
+def compare_one(seed, program, count):
+    """The differences of one run; `count` gets what the model's reports show."""
+    found = []
+    try:
+        for words, files in inputs(seed):
+            want = run_model.answer(words, files)
+            got = compare.run(program, words, files) if program else want
+            count.update(kinds(want[1]) | {"answers"})
+            if got != want:
+                found.append((words, files, want, got))
+    except Exception:  # the model itself fails
+        found.append((["model"], {}, traceback.format_exc(), None))
+    return found
+
+
 def main():
     asked = argparse.ArgumentParser(usage=__doc__.split("\n\n")[1].strip())
     asked.add_argument("--runs", type=int, default=1000)
@@ -57,22 +73,17 @@ def main():
     asked.add_argument("program", nargs="?", default=os.path.join(compare.TOP, "crates/eds_prog/out/eds_prog"))
     asked = asked.parse_args()
     program = None if asked.program == "-" else os.path.abspath(asked.program)
-    count, answers, wrong = collections.Counter(), 0, 0
+    count, wrong = collections.Counter(), 0
     for seed in range(asked.seed * 10**9, asked.seed * 10**9 + asked.runs):
-        for words, files in inputs(seed):
-            want = run_model.answer(words, files)
-            got = compare.run(program, words, files) if program else want
-            count.update(kinds(want[1]))
-            answers += 1
-            if got != want:
-                wrong += 1
-                print(f"compare: seed {seed}: {' '.join(words)}")
-                for name, octets in files.items():
-                    print(f"  {name}: {octets.decode('utf-8', 'replace')}")
-                print(f"  model   {want}\n  program {got}", flush=True)
+        for words, files, want, got in compare_one(seed, program, count):
+            wrong += 1
+            print(f"compare: seed {seed}: {' '.join(words)}")
+            for name, octets in files.items():
+                print(f"  {name}: {octets.decode('utf-8', 'replace')}")
+            print(f"  model   {want}\n  program {got}", flush=True)
     for kind, times in count.most_common():
         print(f"{times:8} {kind}")
-    print(f"compare: {asked.runs} sheets, {answers} answers: {wrong} differ")
+    print(f"compare: {asked.runs} sheets: {wrong} differ")
     return 1 if wrong else 0
 
 

@@ -710,7 +710,7 @@ def frame_text(rng, judge, t):
             v = m.value_of(judge, t, m.Json(json.dumps(Values(rng, judge).value(t)).encode()).read(), "")
             bits = m.Packer(judge).pack(t, v)
             break
-        except (m.Fault, m.WrongShape):
+        except (m.BadJson, m.Fault, m.WrongShape):
             pass
     if bits is None or rng.random() < .15:
         bits = m.bits_of(bytes(rng.randrange(256) for _ in range(rng.choice([0, 1, 2, 3, 5, 8, 12]))))

@@ -56,7 +56,7 @@ class ScriptMaker:
             try:
                 if packs(self.j, t, m.value_of(self.j, t, m.Json(json.dumps(value).encode()).read(), "")):
                     break
-            except m.WrongShape:
+            except (m.BadJson, m.WrongShape):
                 pass
             value = values.value(t)
         return gen.spoil(self.r, value) if self.r.random() < .01 else value
