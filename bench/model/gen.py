@@ -581,9 +581,12 @@ class Values:
 
     def __init__(self, rng, judge):
         self.r, self.j = rng, judge
+        self.left = 3000       # about how many values are still made: arrays of arrays grow fast
+        self.strays = 1        # how many containers may still stand where they don't belong
 
     def value(self, t):
         r = self.r
+        self.left -= 1
         if t.kind in ("Integer", "SubRange"):
             low, high = m.interval(t)
             n = r.choice([low, high, max(low, min(high, 0)), r.randint(low, high), max(low, min(high, r.randint(-3, 9)))])
@@ -606,13 +609,17 @@ class Values:
             return s.upper() if r.random() < .2 else s
         if t.kind == "Array":
             n = m.array_count(t)
-            return [self.value(t.item) for _ in range(n if r.random() < .98 else n + 1)] if n < 300 else []
+            return [self.value(t.item) for _ in range(n if r.random() < .98 else n + 1)] if n < 300 and self.left > n else []
         return self.fields(t)
 
     def fields(self, t):
         r = self.r
         concrete = [k for k in self.j.at_or_under(t) if not k.hidden]
-        k = r.choice(concrete) if concrete and r.random() < .98 else r.choice([x for x in self.j.types if x.kind == "Container"])
+        if concrete and (self.strays == 0 or r.random() < .98):
+            k = r.choice(concrete)
+        else:
+            self.strays = 0
+            k = r.choice([x for x in self.j.types if x.kind == "Container"])
         parts = [p for p in m.sequence(k) if p.kind in ("Entry", "ListEntry")]
         out = {}
         if r.random() < .9 or k is not t:
@@ -635,7 +642,7 @@ class Values:
                     same = [q for q in parts if q.kind == "ListEntry" and q is not p and q.element.attrs["listLengthField"] == f.name and q.name in out]
                     n = out[f.name] if same else n
                     out[f.name] = n
-                out[p.name] = [self.value(p.type) for _ in range(n if r.random() < .97 else n + 1)] if n < 100 else []
+                out[p.name] = [self.value(p.type) for _ in range(n if r.random() < .97 else n + 1)] if n < 100 and self.left > n else []
         return out
 
     def meet(self, out, c, k):
