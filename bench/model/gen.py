@@ -156,9 +156,9 @@ class Gen:
         item = self.pick(*([] if self.p(.01) else ["Integer", "SubRange", "Enumerated", "Boolean", "String", "Binary", "Array", "Container"]))
         dims = []
         for _ in range(self.r.choice([1, 1, 1, 2, 2, 3])):
-            ix = self.pick("Boolean", "Enumerated", "Integer", "SubRange")
-            small = ix is not None and (ix[1] in ("Boolean", "Enumerated") or ix[2][1] - ix[2][0] < 5)
-            if ix is not None and (small or self.p(.02)) and self.p(.4):
+            small = [t for t in self.types if t[1] in ("Boolean", "Enumerated") or t[1] in ("Integer", "SubRange") and t[2][1] - t[2][0] < 5]
+            ix = self.pick("Boolean", "Enumerated", "Integer", "SubRange") if self.p(.01) else self.r.choice(small or [None])
+            if ix is not None and self.p(.5):
                 dims.append(["Dimension", {"indexTypeRef": self.ref(ix)}])
             else:
                 dims.append(["Dimension", {"size": str(self.r.choice([1, 2, 2, 3]))}])
@@ -201,6 +201,8 @@ class Gen:
                 t = self.pick_check(r.random() < .96)
                 if t is None:
                     continue
+                if "padding" in self.stage and self.p(.5):
+                    out.append(["PaddingEntry", {"sizeInBits": str(r.choice([1, 3, 4, 5, 7, 13]))}])
                 out.append(["ErrorControlEntry", {"name": name, "type": self.ref(t[0]), "errorControlType": t[1]}])
             elif kind == "LengthEntry":
                 if state.get("length") and self.p(.95):
@@ -240,7 +242,7 @@ class Gen:
                 own_names[name] = t
                 continue
             own_names[name] = None
-        if not trailer and "open" in self.stage and self.p(.15 if not state.get("length") else .5):
+        if not trailer and "open" in self.stage and self.p(.1 if not state.get("length") else .7):
             t = self.pick("Open")
             if t is not None:
                 out.append(["Entry", {"name": r.choice([x for x in NAMES if x not in own_names] or ["z"]), "type": self.ref(t)}])
@@ -421,6 +423,9 @@ class Gen:
                 form = {"sizeInBits": str(bits), "encoding": "unsigned", "byteOrder": r.choice(["bigEndian", "bigEndian", "littleEndian"])}
                 out.append(["IntegerDataType", {"name": "O%d" % bits}, ["IntegerDataEncoding", form]])
                 self.types.append(("O%d" % bits, "Integer", (0, 2**bits - 1, (bits, "unsigned", form["byteOrder"]), True)))
+        if "open" in self.stage and self.p(.4):
+            out.append(["BinaryDataType", {"name": "Blob", "sizeInBits": str(r.choice([8, 32, 128])), "fixedSize": "false"}])
+            self.types.append(("Blob", "Open", None))
         for i, name in enumerate(names):
             mk = self.integer if i == 0 else r.choice(makers) if i < self.size * .4 else r.choice(makers + [self.container] * len(makers))
             e, (kind, info) = mk(name)
@@ -576,9 +581,12 @@ class Values:
 
     def __init__(self, rng, judge):
         self.r, self.j = rng, judge
+        self.left = 3000       # about how many values are still made: arrays of arrays grow fast
+        self.strays = 1        # how many containers may still stand where they don't belong
 
     def value(self, t):
         r = self.r
+        self.left -= 1
         if t.kind in ("Integer", "SubRange"):
             low, high = m.interval(t)
             n = r.choice([low, high, max(low, min(high, 0)), r.randint(low, high), max(low, min(high, r.randint(-3, 9)))])
@@ -601,13 +609,17 @@ class Values:
             return s.upper() if r.random() < .2 else s
         if t.kind == "Array":
             n = m.array_count(t)
-            return [self.value(t.item) for _ in range(n if r.random() < .98 else n + 1)] if n < 300 else []
+            return [self.value(t.item) for _ in range(n if r.random() < .98 else n + 1)] if n < 300 and self.left > n else []
         return self.fields(t)
 
     def fields(self, t):
         r = self.r
         concrete = [k for k in self.j.at_or_under(t) if not k.hidden]
-        k = r.choice(concrete) if concrete and r.random() < .98 else r.choice([x for x in self.j.types if x.kind == "Container"])
+        if concrete and (self.strays == 0 or r.random() < .98):
+            k = r.choice(concrete)
+        else:
+            self.strays = 0
+            k = r.choice([x for x in self.j.types if x.kind == "Container"])
         parts = [p for p in m.sequence(k) if p.kind in ("Entry", "ListEntry")]
         out = {}
         if r.random() < .9 or k is not t:
@@ -630,7 +642,7 @@ class Values:
                     same = [q for q in parts if q.kind == "ListEntry" and q is not p and q.element.attrs["listLengthField"] == f.name and q.name in out]
                     n = out[f.name] if same else n
                     out[f.name] = n
-                out[p.name] = [self.value(p.type) for _ in range(n if r.random() < .97 else n + 1)] if n < 100 else []
+                out[p.name] = [self.value(p.type) for _ in range(n if r.random() < .97 else n + 1)] if n < 100 and self.left > n else []
         return out
 
     def meet(self, out, c, k):
