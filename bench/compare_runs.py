@@ -12,6 +12,7 @@ import argparse
 import collections
 import os
 import random
+import signal
 import sys
 import traceback
 
@@ -21,6 +22,27 @@ import gen_scripts
 import run_model
 
 SCRIPTS = 3
+PATIENCE = 5  # seconds for one answer of the model: 10,000 firings of 100,000 statements would take days
+
+
+class Slow(Exception):
+    """The model has no answer in time."""
+
+
+def lose_patience(*_):
+    raise Slow
+
+
+def answer(words, files):
+    """The model's answer, or None where it takes too long."""
+    signal.signal(signal.SIGALRM, lose_patience)
+    signal.setitimer(signal.ITIMER_REAL, PATIENCE)
+    try:
+        return run_model.answer(words, files)
+    except Slow:
+        return None
+    finally:
+        signal.setitimer(signal.ITIMER_REAL, 0)
 
 
 def kinds(report):
@@ -56,7 +78,10 @@ def compare_one(seed, program, count):
     found = []
     try:
         for words, files in inputs(seed):
-            want = run_model.answer(words, files)
+            want = answer(words, files)
+            if want is None:
+                count["passed over, too slow for the model"] += 1
+                continue
             got = compare.run(program, words, files) if program else want
             count.update(kinds(want[1]) | {"answers"})
             if got != want:
