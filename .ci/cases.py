@@ -72,11 +72,11 @@ def lines(report, parts):
     return "".join(text_of(line, parts) + "\n" for line in report)
 
 
-def cases():
-    """Each case with its file's name and its parts."""
+def cases(files=None):
+    """Each case of some files, without them of all, with its file's name and its parts."""
     parts = with_parts({}, json.loads((DATA / "elements.json").read_text()))
     parts = with_parts(parts, json.loads((DATA / "sheets.json").read_text()))
-    for file in sorted((DATA / "cases").iterdir()):
+    for file in files or sorted((DATA / "cases").iterdir()):
         for group in json.loads(file.read_text())["groups"]:
             outer = with_parts(parts, group.get("parts"))
             for own in group["cases"]:

@@ -1,29 +1,22 @@
-#!/usr/bin/env python3
-"""An independent model of the sheet language, written from the rules of the profile alone.
+"""An independent model of sheets and their types, written from the rules of the profile alone.
 
-  eds_model.py check FILE...            eds_model.py unpack TYPE HEXFILE FILE...
-  eds_model.py pack TYPE JSONFILE FILE...
-
-Prints what `eds` prints and ends with its status. `answer(words, files, stage)` is the same as a function, with
-files a dict from names to bytes. A stage is a set of words of what is built; see STAGES.
+`judged(files, word, stage)` judges the octets of sheet files, `unpack` and `pack` read and pack for the type that the word
+names. A stage is a set of words of what is built. run_model.py adds interfaces, components and runs, and answers words.
 """
 import re
-import sys
 
 # ---------------------------------------------------------------- what is built
 
 EVERYTHING = {"strings", "binaries", "arrays", "fixed", "padding", "lists", "nested", "inherit", "length", "checks", "open"}
-STAGES = {"whole": EVERYTHING, "scalars": set()}
-# what stays pending in every stage of this model: it has no meaning for these
-PENDING_ALWAYS = {"DeclaredInterfaceSet", "ComponentSet", "StateMachineSet"}
+# interfaces, ends, activities, machines and transactions are judged by run_model.py: this file alone leaves them pending
 
 
 def pending_word(e, stage):
     """The kept word where the element isn't built yet, or None."""
     n = e.name
-    if n in PENDING_ALWAYS:
-        return n
-    by = {"StringDataType": "strings", "BinaryDataType": "binaries", "ArrayDataType": "arrays", "FixedValueEntry": "fixed",
+    by = {"DeclaredInterfaceSet": "interfaces", "ComponentSet": "ends", "VariableSet": "activities",
+          "ParameterMapSet": "activities", "ActivitySet": "activities", "StateMachineSet": "machines",
+          "StringDataType": "strings", "BinaryDataType": "binaries", "ArrayDataType": "arrays", "FixedValueEntry": "fixed",
           "PaddingEntry": "padding", "ListEntry": "lists", "ConstraintSet": "inherit", "TrailerEntryList": "inherit",
           "LengthEntry": "length", "ErrorControlEntry": "checks"}
     if n in by and by[n] not in stage:
@@ -204,7 +197,8 @@ def json_string(s):
 RULES = ["", "NotJson", "NotElement", "UnknownElement", "Unsupported", "MissingAttribute", "BadAttribute", "BadName", "Limit",
          "Duplicate", "Unresolved", "WrongKind", "BadEncoding", "EmptyRange", "BadEnumeration", "BaseCycle", "TypeCycle",
          "EmptyType", "DuplicateEntry", "ListField", "LengthField", "FixedValue", "ErrorControl", "ConstraintTarget",
-         "ConstraintValue", "ConstraintEmpty", "Overlap"]
+         "ConstraintValue", "ConstraintEmpty", "Overlap", "InterfaceCycle", "DuplicateMember", "Unmapped", "UnknownGeneric",
+         "GenericBase", "NoDefault", "BadReference", "TypeMismatch", "CallCycle", "BadMachine", "BadMap", "BadTimer"]
 
 
 class Refused(Exception):
@@ -350,14 +344,15 @@ TABLE = {
     "Iteration": ("iteratorVariableRef", "", "StartAt! EndAt! Step? Do!"),
     "StartAt": ("", "", "OPERAND!"), "EndAt": ("", "", "OPERAND!"), "Step": ("", "", "Value!"),
     "Call": ("activity", "", "ArgumentValue"), "ArgumentValue": ("name", "", "OPERAND!"),
-    "SendCommandPrimitive": ("interface command", "", "ArgumentValue"),
-    "SendParameterPrimitive": ("interface parameter", "operation", "OPERAND?"),
+    "SendCommandPrimitive": ("interface command", "transaction", "ArgumentValue"),
+    "SendParameterPrimitive": ("interface parameter", "operation transaction", "OPERAND?"),
     "Value": ("value", "", ""), "VariableRef": ("variableRef", "", ""), "ArgumentRef": ("argumentRef", "", ""),
     "StateMachineSet": ("", "", "StateMachine"), "StateMachine": ("name", "", "EntryState State ExitState Transition"),
     "EntryState": ("name", "", ""), "ExitState": ("name", "", ""), "State": ("name", "", "OnEntry? OnExit?"),
     "OnEntry": ("activity", "", "ArgumentValue"), "OnExit": ("activity", "", "ArgumentValue"),
     "Transition": ("fromState toState", "name", "EVENT? Guard? Do?"),
-    "OnCommandPrimitive": ("interface command", "", ""), "OnParameterPrimitive": ("interface parameter", "operation", ""),
+    "OnCommandPrimitive": ("interface command", "transaction", ""),
+    "OnParameterPrimitive": ("interface parameter", "operation transaction", ""),
     "OnTimer": ("nanosecondsAfterEntry", "", ""),
 }
 
@@ -426,7 +421,7 @@ def attribute_kind(e, a):
     n, p = e.name, (e.parent.name if e.parent else "")
     if a == "name":
         return "package" if n == "Package" else "name"
-    if a in ("listLengthField", "iteratorVariableRef", "interface", "command", "parameter", "activity", "fromState", "toState"):
+    if a in ("listLengthField", "iteratorVariableRef", "interface", "command", "parameter", "activity", "fromState", "toState", "transaction"):
         return "name"
     if a == "variableRef":
         return "name" if n == "ParameterMap" else joined(".")
@@ -488,7 +483,7 @@ def unsupported_words(e, stage):
         words.append("failed")
     if "open" not in stage and e.attrs.get("fixedSize") in ("false", "0"):
         words.append("fixedSize")
-    if "transaction" in e.attrs:
+    if "transactions" not in stage and "transaction" in e.attrs:
         words.append("transaction")
     return words
 
@@ -792,6 +787,7 @@ def array_count(t):
 class Judge:
     def __init__(self, roots, word, nfiles, stage):
         self.stage = stage
+        self.roots = roots
         self.items = declared_items(roots)
         self.word_text, self.nfiles = word, nfiles
         self.names()
@@ -800,6 +796,23 @@ class Judge:
         self.phase5()
         self.phase6()
         self.phase7()
+        self.later_phases()
+
+    # ---- what interfaces and components add; run_model.py fills these in
+
+    def owned_twice(self):
+        """The breaks of Duplicate inside interfaces and components."""
+        return []
+
+    def more_references(self, breaks):
+        """Looks up the references of interfaces and components."""
+
+    def more_named(self):
+        """(type, place, used) per type that interfaces and components name: used by `type`, and not by a generic's `baseType`."""
+        return []
+
+    def later_phases(self):
+        """Judges interfaces, components and machines."""
 
     # ---- phase 3
 
@@ -810,7 +823,7 @@ class Judge:
                 breaks.append((9, e.place, e.attrs["name"]))
             else:
                 seen[q] = (sort, e)
-        first(breaks)
+        first(breaks + self.owned_twice())
         self.by_name = seen
         self.types = []
         self.of_element = {}
@@ -871,6 +884,7 @@ class Judge:
         self.word = None
         if self.word_text is not None:
             self.word = self.look_up([""], self.word_text, (self.nfiles, 0), anything, breaks)
+        self.more_references(breaks)
         first(breaks)
 
     # ---- phase 4
@@ -1179,6 +1193,9 @@ class Judge:
             for c in t.constraints:
                 if c.type is not None and is_open(c.type):
                     add(20, c.element.place)
+        for t, place, _ in self.more_named():
+            if is_open(t):
+                add(20, place)
 
     def size(self, t):
         if t.kind in ("Integer", "SubRange", "Enumerated"):
@@ -1292,6 +1309,7 @@ class Judge:
                     out.add(p.type.id)
         if self.word is not None:
             out.add(self.word.id)
+        out |= {t.id for t, _, used in self.more_named() if used}
         return {i for i in out if not is_open(self.types[i])}
 
     def overlap_of(self, k, l, used):
@@ -1775,6 +1793,9 @@ class Packer:
             octets = v[1].encode()
             return bits_of(octets + bytes([stop]) * (length - len(octets) if fixed else 1))
         if t.kind == "Binary":
+            n, open_ = binary_form(t)
+            if v[1] > n or v[1] % 8 if open_ else v[1] != n:
+                raise Fault("WrongSize", path)
             return bits_of(v[2])[:v[1]]
         if t.kind == "Array":
             if len(v[1]) != array_count(t):
@@ -1845,10 +1866,7 @@ holds_packed = holds
 
 # ---------------------------------------------------------------- the answer
 
-COMMANDS = {"check": 2, "unpack": 4, "pack": 4}
-
-
-def judged(files, word, stage):
+def judged(files, word, stage, judge=Judge):
     breaks = []
     roots = [read_tree(i, f, breaks) for i, f in enumerate(files)]
     first(breaks)
@@ -1865,46 +1883,7 @@ def judged(files, word, stage):
     for r in roots:
         pend(r)
     first(out)
-    return Judge(roots, word, len(files), stage)
-
-
-def answer(words, files, stage=EVERYTHING):
-    """(status, report) of words over files: a dict of bytes."""
-    usage = (2, "usage: eds COMMAND ARGUMENTS\n")
-    if not words or words[0] not in COMMANDS or len(words) < COMMANDS[words[0]]:
-        return usage
-    command = words[0]
-    names = words[1:] if command == "check" else words[3:]
-    if len(names) > 64:
-        return (7, "limit files 64\n")
-    total, sheets = 0, []
-    for n in names:
-        if n not in files:
-            return (8, "no file %s\n" % n)
-        if len(files[n]) > 4194304:
-            return (7, "limit file 4194304\n")
-        total += len(files[n])
-        if total > 16777216:
-            return (7, "limit sheets 16777216\n")
-        sheets.append(files[n])
-    try:
-        j = judged(sheets, None if command == "check" else words[1], stage)
-    except Refused as r:
-        return (1, r.report())
-    if command == "check":
-        return (0, "accepted types %d containers %d interfaces %d components %d\n" % (
-            j.counts["type"], len([t for t in j.types if t.kind == "Container"]), j.counts["interface"], j.counts["component"]))
-    if words[2] not in files:
-        return (8, "no file %s\n" % words[2])
-    data = files[words[2]]
-    if len(data) > (1048576 if command == "unpack" else 4194304):
-        return (7, "limit input %d\n" % (1048576 if command == "unpack" else 4194304))
-    try:
-        if command == "unpack":
-            return unpack(j, data)
-        return pack(j, data)
-    except Fault as f:
-        return (3, "fault %s at $%s\n" % (f.reason, f.path))
+    return judge(roots, word, len(files), stage)
 
 
 def unpack(j, data):
@@ -1932,20 +1911,3 @@ def pack(j, data):
         raise Fault("WrongShape", w.path)
     bits = Packer(j).pack(j.word, v)
     return (0, octets_of(bits).hex() + "\nbits %d\n" % len(bits))
-
-
-def main():
-    words = sys.argv[1:]
-    files = {}
-    for w in words[1:]:
-        try:
-            files[w] = open(w, "rb").read()
-        except OSError:
-            pass
-    status, report = answer(words, files)
-    sys.stdout.buffer.write(report.encode())
-    sys.exit(status)
-
-
-if __name__ == "__main__":
-    main()

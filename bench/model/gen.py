@@ -9,6 +9,10 @@ sys.path.insert(0, os.path.dirname(os.path.realpath(__file__)))
 import eds_model as m
 
 NAMES = ["a", "b", "c", "d", "e", "f", "g", "h", "x", "Mode", "_k", "n-1"]
+GENERICS = ["G", "H", "Unit"]
+MEMBERS = ["p", "q", "r", "s", "t", "u", "v", "w", "On", "Count"]
+FACE_NAMES = ["I%d" % i for i in range(8)] + ["Sub"]
+COMPONENT_NAMES = ["C1", "C2", "Dev"]
 TYPE_NAMES = ["T%d" % i for i in range(40)] + ["U8", "Word", "Base"]
 
 
@@ -16,6 +20,7 @@ class Gen:
     def __init__(self, rng, stage, size=10):
         self.r, self.stage, self.size = rng, stage, size
         self.types = []      # (reference, kind, info)
+        self.faces = []      # the interfaces so far
 
     def p(self, x):
         return self.r.random() < x
@@ -33,19 +38,22 @@ class Gen:
         a = {"sizeInBits": str(bits), "encoding": enc}
         if self.p(.25):
             a["byteOrder"] = r.choice(["bigEndian", "littleEndian", "littleEndian"])
-            if a["byteOrder"] == "littleEndian" and self.p(.9):
+            if a["byteOrder"] == "littleEndian" and self.p(.98):
                 a["sizeInBits"] = str(r.choice([8, 16, 24, 32, 64]))
-        if self.p(.02):
+        if self.p(.005):
             a["sizeInBits"] = str(r.choice([0, 65, 6, 12, -1, 100]))
         return ["IntegerDataEncoding", a]
 
     def range_for(self, low, high):
         r = self.r
         near = [low, low - 1, low + 1, high, high + 1, high - 1, 0, 1, -1, (low + high) // 2]
-        a, b = sorted([r.choice(near), r.choice(near)])
+        a, b = sorted(max(-2**64, min(r.choice(near), 2**64)) for _ in "ab")
         if self.p(.7):
             a, b = max(low, min(a, high)), max(low, min(b, high))
         kind = r.choice(list(m.RANGE_ENDS))
+        least, most = m.range_of(m.Element("MinMaxRange", {"rangeType": kind, "min": str(a), "max": str(b)}, (0, 0), None))
+        if max(low, least) > min(high, most) and self.p(.97):
+            a, b, kind = low, high, "inclusiveMinInclusiveMax"
         at = {"rangeType": kind}
         if "min" in m.RANGE_ENDS[kind].split() or self.p(.1):
             at["min"] = self.number(a)
@@ -148,9 +156,9 @@ class Gen:
         item = self.pick(*([] if self.p(.01) else ["Integer", "SubRange", "Enumerated", "Boolean", "String", "Binary", "Array", "Container"]))
         dims = []
         for _ in range(self.r.choice([1, 1, 1, 2, 2, 3])):
-            ix = self.pick("Boolean", "Enumerated", "Integer", "SubRange")
-            small = ix is not None and (ix[1] in ("Boolean", "Enumerated") or ix[2][1] - ix[2][0] < 5)
-            if ix is not None and (small or self.p(.02)) and self.p(.4):
+            small = [t for t in self.types if t[1] in ("Boolean", "Enumerated") or t[1] in ("Integer", "SubRange") and t[2][1] - t[2][0] < 5]
+            ix = self.pick("Boolean", "Enumerated", "Integer", "SubRange") if self.p(.01) else self.r.choice(small or [None])
+            if ix is not None and self.p(.5):
                 dims.append(["Dimension", {"indexTypeRef": self.ref(ix)}])
             else:
                 dims.append(["Dimension", {"size": str(self.r.choice([1, 2, 2, 3]))}])
@@ -181,7 +189,7 @@ class Gen:
                 kinds.append(k)
                 if k == "ListEntry":
                     kinds.append(k)
-        n = r.choice([0, 1, 1, 2, 2, 3, 4]) if not trailer else r.choice([1, 1, 2])
+        n = r.choice([1, 1, 2, 2, 3, 4, 5 if self.p(.8) else 0]) if not trailer else r.choice([1, 1, 2])
         for _ in range(n):
             kind = r.choice(kinds)
             if kind == "PaddingEntry":
@@ -193,6 +201,8 @@ class Gen:
                 t = self.pick_check(r.random() < .96)
                 if t is None:
                     continue
+                if "padding" in self.stage and self.p(.5):
+                    out.append(["PaddingEntry", {"sizeInBits": str(r.choice([1, 3, 4, 5, 7, 13]))}])
                 out.append(["ErrorControlEntry", {"name": name, "type": self.ref(t[0]), "errorControlType": t[1]}])
             elif kind == "LengthEntry":
                 if state.get("length") and self.p(.95):
@@ -232,7 +242,7 @@ class Gen:
                 own_names[name] = t
                 continue
             own_names[name] = None
-        if not trailer and "open" in self.stage and self.p(.15 if not state.get("length") else .5):
+        if not trailer and "open" in self.stage and self.p(.1 if not state.get("length") else .7):
             t = self.pick("Open")
             if t is not None:
                 out.append(["Entry", {"name": r.choice([x for x in NAMES if x not in own_names] or ["z"]), "type": self.ref(t)}])
@@ -299,6 +309,79 @@ class Gen:
         info["root"] = base[2]["root"] if base else info
         return e + lists, ("Container", info)
 
+    # ---- interfaces and components
+
+    def map_set(self, face, own):
+        """A map for the generic names of an interface: mostly whole and of types that fit."""
+        out = []
+        for name, base in face["generics"]:
+            if self.p(.04):
+                continue
+            fit = self.pick() if base is None else base if self.p(.85) else self.pick()
+            to = self.r.choice(own) if own and self.p(.4) else self.ref(fit)
+            out.append(["GenericTypeMap", {"name": name, "type": to}])
+        if self.p(.04):
+            out.append(["GenericTypeMap", {"name": self.r.choice(GENERICS), "type": self.ref(self.pick())}])
+        return [["GenericTypeMapSet"] + out] if out or self.p(.1) else []
+
+    def interface(self, name):
+        r = self.r
+        a = {"name": name}
+        if self.p(.3):
+            a["level"] = r.choice(["application", "functional", "access", "subnetwork"])
+        if self.p(.2):
+            a["abstract"] = r.choice(["true", "1", "false", "0"])
+        generics = [(g, self.pick() if self.p(.4) else None) for g in r.sample(GENERICS, r.choice([0, 0, 1, 2]))]
+        own = [g for g, _ in generics]
+        bases, above = [], set()
+        for _ in range(r.choice([0, 1, 1, 2, 3]) if self.faces else 0):
+            base = r.choice(self.faces)
+            if base["members"] & above and self.p(.6):
+                continue
+            above |= base["members"]
+            bases.append(["Base", {"type": base["name"]}] + self.map_set(base, own))
+        free = [m_ for m_ in MEMBERS if m_ not in above or self.p(.01)]
+        r.shuffle(free)
+        typed = lambda: r.choice(own) if own and self.p(.5) else self.ref(self.pick())
+        parameters, commands = [], []
+        for n in free[:r.choice([0, 1, 1, 2, 3])]:
+            if self.p(.6):
+                parameters.append(["Parameter", {"name": n, "type": typed()}])
+                if self.p(.3):
+                    parameters[-1][1]["readOnly"] = r.choice(["true", "false"])
+            else:
+                ways = ["in", "out", "inout", "notify"]
+                commands.append(["Command", {"name": n}] + [["Argument", {"name": x, "type": typed(), "mode": r.choice(ways)}] for x in r.sample("abc", r.choice([0, 1, 2]))])
+        sets = [["BaseInterfaceSet"] + bases, ["GenericTypeSet"] + [["GenericType", dict({"name": g}, **({"baseType": self.ref(b)} if b else {}))] for g, b in generics],
+                ["ParameterSet"] + parameters, ["CommandSet"] + commands]
+        sets = [x for x in sets if len(x) > 1 or self.p(.1)]
+        r.shuffle(sets)
+        self.faces.append({"name": name, "generics": generics, "members": above | {e[1]["name"] for e in parameters + commands}, "hidden": a.get("abstract") in ("true", "1")})
+        return ["Interface", a] + sets
+
+    def component(self, name):
+        r = self.r
+        inside = []
+        if self.p(.2):
+            inside.append(["DataTypeSet", self.integer(r.choice(TYPE_NAMES))[0]])
+        if self.p(.2):
+            inside.append(["DeclaredInterfaceSet", self.interface(r.choice(FACE_NAMES))])
+            self.faces.pop()
+        ends = {"ProvidedInterfaceSet": [], "RequiredInterfaceSet": []}
+        for n in r.sample(MEMBERS, r.choice([0, 1, 2, 3])):
+            face = r.choice([f for f in self.faces if not f["hidden"] or self.p(.05)] or self.faces)
+            ends[r.choice(list(ends))].append(["Interface", {"name": n, "type": face["name"]}] + self.map_set(face, []))
+        return ["Component", {"name": name}] + inside + [[k] + v for k, v in ends.items() if v or self.p(.1)] + ([["Implementation"]] if self.p(.1) else [])
+
+    def others(self):
+        """Sets of interfaces and components, that stand beside the types."""
+        out = []
+        if "interfaces" in self.stage and self.p(.6):
+            out.append(["DeclaredInterfaceSet"] + [self.interface(n) for n in self.r.sample(FACE_NAMES, self.r.randint(1, 5))])
+        if "ends" in self.stage and self.faces and self.p(.6):
+            out.append(["ComponentSet"] + [self.component(n) for n in self.r.sample(COMPONENT_NAMES, self.r.randint(1, 3))])
+        return out
+
     # ---- choice of types
 
     def pick(self, *kinds):
@@ -335,14 +418,20 @@ class Gen:
                 makers.append(mk)
         package = r.choice(["A", "A/B", "Sat/X"])
         out = []
+        for bits in (8, 16):
+            if "checks" in self.stage and self.p(.5):
+                form = {"sizeInBits": str(bits), "encoding": "unsigned", "byteOrder": r.choice(["bigEndian", "bigEndian", "littleEndian"])}
+                out.append(["IntegerDataType", {"name": "O%d" % bits}, ["IntegerDataEncoding", form]])
+                self.types.append(("O%d" % bits, "Integer", (0, 2**bits - 1, (bits, "unsigned", form["byteOrder"]), True)))
+        if "open" in self.stage and self.p(.4):
+            out.append(["BinaryDataType", {"name": "Blob", "sizeInBits": str(r.choice([8, 32, 128])), "fixedSize": "false"}])
+            self.types.append(("Blob", "Open", None))
         for i, name in enumerate(names):
             mk = self.integer if i == 0 else r.choice(makers) if i < self.size * .4 else r.choice(makers + [self.container] * len(makers))
             e, (kind, info) = mk(name)
             out.append(e)
             full = package + "/" + name
             self.types.append((r.choice([name, name, name, full]), kind, info))
-        if "checks" in self.stage and self.p(.5):
-            out.insert(0, ["IntegerDataType", {"name": "O8"}, ["IntegerDataEncoding", {"sizeInBits": "8", "encoding": "unsigned"}]])
         return package, names, out
 
 
@@ -392,18 +481,91 @@ def mutate(rng, tree):
                 attrs[k] = rng.choice(TYPE_NAMES)
 
 
+NUMBERS = [0, 1, -1, 2, 3, 12, 255, 256, 257, 4096, 65535, 65536, 65537, 2**32 - 1, 2**32, 2**32 + 1, -2**32, -2**32 - 1, 2**63, 2**64]
+REFERENCES = ("type", "baseType", "dataTypeRef", "indexTypeRef")
+
+
+def all_elements(tree):
+    yield tree
+    for c in tree:
+        if isinstance(c, list):
+            yield from all_elements(c)
+
+
+def deep(rng, item):
+    """A chain of types, each of which holds the one before it, about as deep as types may be nested."""
+    out = []
+    for i in range(rng.choice([29, 30, 31, 32, 33])):
+        name = "D%d" % i
+        if rng.random() < .5:
+            out.append(["ArrayDataType", {"name": name, "dataTypeRef": item}, ["DimensionList", ["Dimension", {"size": "1"}]]])
+        else:
+            out.append(["ContainerDataType", {"name": name}, ["EntryList", ["Entry", {"name": "x", "type": item}]]])
+        item = name
+    rng.shuffle(out)
+    return out
+
+
+def defect(rng, types, others):
+    """Changes one thing so that a rule on these elements may break; types and others are lists of elements."""
+    found = [e for t in types + others for e in all_elements(t) if len(e) > 1 and isinstance(e[1], dict)]
+    names = [t[1]["name"] for t in types]
+    of = lambda *words: rng.choice([e for e in found if e[0] in words] or [None])
+    parts = lambda: rng.choice([e for t in types for e in all_elements(t) if e[0] == "EntryList"] or [None])
+    what = rng.randrange(16)
+    if what == 0 and (e := of("Dimension")):
+        e[1].clear()
+        e[1]["indexTypeRef"] = rng.choice(names + FACE_NAMES[:2])
+    elif what == 1 and (e := of("Dimension")):
+        e[1]["size"] = str(rng.choice(NUMBERS))
+    elif what == 2:
+        types.extend(deep(rng, rng.choice(names)))
+    elif what == 3 and (e := of("Entry", "ListEntry", "ArrayDataType")):
+        e[1]["dataTypeRef" if e[0] == "ArrayDataType" else "type"] = rng.choice(names[len(names) // 2:])
+    elif what == 4 and (l := parts()):
+        del l[1:]
+    elif what == 5 and (l := parts()) and len(l) > 2:
+        e, other = rng.sample(l[1:], 2)
+        if "name" in e[1] and "name" in other[1]:
+            e[1]["name"] = other[1]["name"]
+    elif what == 6 and (e := of("ListEntry")):
+        e[1]["listLengthField"] = rng.choice(NAMES)
+    elif what in (7, 8) and (l := parts()) and len(l) > 2:
+        e, other = rng.sample(range(1, len(l)), 2)
+        l.insert(other, l.pop(e))
+    elif what == 9 and (e := of("Term")):
+        e[1][rng.choice(["coefficient", "exponent"])] = str(rng.choice(NUMBERS))
+    elif what == 10 and (l := parts()):
+        l.insert(rng.randrange(1, len(l) + 1), ["LengthEntry", {"name": rng.choice(NAMES), "type": rng.choice(names)}])
+    elif what == 11 and (e := of("ErrorControlEntry")):
+        e[1]["errorControlType"] = rng.choice(list(m.CHECKS))
+    elif what == 12 and (e := of("BinaryDataType")):
+        e[1]["fixedSize"] = rng.choice(["true", "false"])
+    elif what == 13 and (e := of("Interface", "Base", "GenericTypeMap", "Parameter", "GenericType")):
+        e[1]["baseType" if e[0] == "GenericType" else "type"] = rng.choice(names + FACE_NAMES + GENERICS)
+    elif what == 14 and (e := of("GenericTypeMap", "GenericType", "Parameter", "Command", "Interface", "Component")):
+        e[1]["name"] = rng.choice(GENERICS + MEMBERS + FACE_NAMES)
+    elif (e := rng.choice([e for e in found if set(e[1]) & set(REFERENCES)] or [None])):
+        e[1][next(k for k in REFERENCES if k in e[1])] = rng.choice(names)
+
+
 def case(rng, stage):
     """Texts of one file or two."""
     g = Gen(rng, stage, rng.choice([4, 6, 8, 10, 14]))
     package, names, types = g.sheet()
+    others = g.others()
+    for _ in range(rng.choice([0, 0, 1, 1, 2])):
+        defect(rng, types, others)
     if rng.random() < .2:
         k = rng.randrange(len(types) + 1)
-        trees = [["PackageFile", ["Package", {"name": package}, ["DataTypeSet"] + types[:k]]], ["DataSheet", ["Package", {"name": rng.choice([package, package, "A/B", "A"])}, ["DataTypeSet"] + types[k:]]]]
+        trees = [["PackageFile", ["Package", {"name": package}, ["DataTypeSet"] + types[:k]]], ["DataSheet", ["Package", {"name": rng.choice([package] * 6 + ["A/B", "A"])}, ["DataTypeSet"] + types[k:]]]]
     elif rng.random() < .1:
         trees = [["PackageFile", ["Package", {"name": package}, ["DataTypeSet"] + types[:2], ["DataTypeSet"] + types[2:]]]]
     else:
         trees = [["PackageFile", ["Package", {"name": package}, ["DataTypeSet"] + types]]]
-    if rng.random() < .3:
+    for o in others:
+        rng.choice(trees)[1].insert(rng.choice([2, 3]), o)
+    if rng.random() < .2:
         for _ in range(rng.choice([1, 1, 2])):
             mutate(rng, rng.choice(trees))
     texts = [json.dumps(t, ensure_ascii=rng.random() < .5).encode() for t in trees]
@@ -419,9 +581,12 @@ class Values:
 
     def __init__(self, rng, judge):
         self.r, self.j = rng, judge
+        self.left = 3000       # about how many values are still made: arrays of arrays grow fast
+        self.strays = 1        # how many containers may still stand where they don't belong
 
     def value(self, t):
         r = self.r
+        self.left -= 1
         if t.kind in ("Integer", "SubRange"):
             low, high = m.interval(t)
             n = r.choice([low, high, max(low, min(high, 0)), r.randint(low, high), max(low, min(high, r.randint(-3, 9)))])
@@ -444,13 +609,17 @@ class Values:
             return s.upper() if r.random() < .2 else s
         if t.kind == "Array":
             n = m.array_count(t)
-            return [self.value(t.item) for _ in range(n if r.random() < .98 else n + 1)] if n < 300 else []
+            return [self.value(t.item) for _ in range(n if r.random() < .98 else n + 1)] if n < 300 and self.left > n else []
         return self.fields(t)
 
     def fields(self, t):
         r = self.r
         concrete = [k for k in self.j.at_or_under(t) if not k.hidden]
-        k = r.choice(concrete) if concrete and r.random() < .98 else r.choice([x for x in self.j.types if x.kind == "Container"])
+        if concrete and (self.strays == 0 or r.random() < .98):
+            k = r.choice(concrete)
+        else:
+            self.strays = 0
+            k = r.choice([x for x in self.j.types if x.kind == "Container"])
         parts = [p for p in m.sequence(k) if p.kind in ("Entry", "ListEntry")]
         out = {}
         if r.random() < .9 or k is not t:
@@ -473,7 +642,7 @@ class Values:
                     same = [q for q in parts if q.kind == "ListEntry" and q is not p and q.element.attrs["listLengthField"] == f.name and q.name in out]
                     n = out[f.name] if same else n
                     out[f.name] = n
-                out[p.name] = [self.value(p.type) for _ in range(n if r.random() < .97 else n + 1)] if n < 100 else []
+                out[p.name] = [self.value(p.type) for _ in range(n if r.random() < .97 else n + 1)] if n < 100 and self.left > n else []
         return out
 
     def meet(self, out, c, k):
@@ -553,17 +722,17 @@ def frame_text(rng, judge, t):
             v = m.value_of(judge, t, m.Json(json.dumps(Values(rng, judge).value(t)).encode()).read(), "")
             bits = m.Packer(judge).pack(t, v)
             break
-        except (m.Fault, m.WrongShape):
+        except (m.BadJson, m.Fault, m.WrongShape):
             pass
     if bits is None or rng.random() < .15:
         bits = m.bits_of(bytes(rng.randrange(256) for _ in range(rng.choice([0, 1, 2, 3, 5, 8, 12]))))
     k = rng.random()
-    if k < .15 and bits:
+    if k < .25 and bits:
         i = rng.randrange(len(bits))
         bits[i] ^= 1
-    elif k < .25:
+    elif k < .35:
         bits = bits[:rng.randrange(len(bits) + 1)]
-    elif k < .32:
+    elif k < .42:
         bits = bits + [rng.randrange(2) for _ in range(rng.choice([1, 3, 7, 8, 9, 16]))]
     pad = -len(bits) % 8
     bits = bits + [rng.randrange(2) if rng.random() < .3 else 0 for _ in range(pad)]

@@ -1,0 +1,219 @@
+#!/usr/bin/env python3
+"""The model as a program: eds_model.py with interfaces, components and runs.
+
+  run_model.py check FILE...                 run_model.py unpack TYPE HEXFILE FILE...
+  run_model.py run SCRIPT FILE...            run_model.py pack TYPE JSONFILE FILE...
+  run_model.py demo N
+
+Prints what `eds` prints and ends with its status. `answer(words, files, stage)` is the same as a function, with files a
+dict from names to bytes. A stage is a set of words of what is built; see STAGES.
+"""
+import re
+import sys
+
+import eds_model as m
+from components import Component, ComponentReader, component_references, twice_in_component
+from interfaces import Face, References, Resolution, cycle_breaks, twice_in_interface
+from activities import Primitive
+from runs import Host, Rejected, Storm
+from scripts import BadLine, Script, end_report, event_text
+
+EVERYTHING = m.EVERYTHING | {"interfaces", "ends", "activities", "machines", "transactions"}
+STAGES = {"whole": EVERYTHING, "built": (m.EVERYTHING | {"interfaces", "ends"}) - {"fixed", "inherit"}, "scalars": set()}
+MOST_SCRIPT, MOST_REPORT = 4194304, 67108864
+
+sys.setrecursionlimit(100000)
+
+
+class Judge(m.Judge):
+    """Judges a whole sheet; `components` are then the plan of what runs."""
+
+    def owned_twice(self):
+        breaks = []
+        for sort, _, e, _ in self.items:
+            if sort != "type":
+                breaks += twice_in_interface(e) if sort == "interface" else twice_in_component(e)
+        return breaks
+
+    def more_references(self, breaks):
+        self.faces, self.components, self.face_of = [], [], {}
+        references = References(self, breaks)
+        for sort, name, e, scopes in self.items:
+            if sort == "interface":
+                self.face_of[e.place] = Face(len(self.faces), name, e, scopes)
+                self.faces.append(self.face_of[e.place])
+            elif sort == "component":
+                self.components.append(Component(name, e, [name] + scopes))
+        for face in self.faces:
+            references.declared(face)
+        for component in self.components:
+            component_references(component, references)
+        self.named_types = references.named
+
+    def more_named(self):
+        return self.named_types
+
+    def later_phases(self):
+        m.first(cycle_breaks(self.faces))
+        breaks = []
+        for face in self.faces:
+            if not face.generics:
+                breaks += Resolution(face.place, face, []).breaks
+        for component in self.components:
+            for end in component.ends:
+                resolution = Resolution(end.place, end.face, end.pairs)
+                end.members = resolution.members
+                breaks += resolution.breaks
+        m.first(breaks)
+        m.first([b for component in self.components for b in ComponentReader(self, component).breaks])
+
+
+def judged(files, word=None, stage=EVERYTHING):
+    return m.judged(files, word, stage, Judge)
+
+
+# ---------------------------------------------------------------- the answer
+
+def run(judge, script):
+    """(host, number of the line that is a Storm or None) of a script."""
+    host = Host(judge, script.joined())
+    for number, line in script.lines:
+        try:
+            host.handle(line)
+        except Storm:
+            return host, number
+    return host, None
+
+
+def run_answer(judge, octets):
+    """(status, report) of a script over an accepted sheet."""
+    if len(octets) > MOST_SCRIPT:
+        return (7, "limit input %d\n" % MOST_SCRIPT)
+    try:
+        host, storm = run(judge, Script(judge, octets))
+    except BadLine as bad:
+        return (3, bad.report())
+    events = "".join(event_text(judge, time, event) for time, event in host.outs)
+    if storm is not None:
+        return (7, events + "limit deliveries 10000 at line %d\n" % storm)
+    report = events + end_report(judge, host)
+    return (0, report) if len(report.encode()) <= MOST_REPORT else (7, "limit report %d\n" % MOST_REPORT)
+
+
+def sheets_of(names, files):
+    """The octets of the sheet files, or the status and report that they end in."""
+    if len(names) > 64:
+        return None, (7, "limit files 64\n")
+    total, sheets = 0, []
+    for n in names:
+        if n not in files:
+            return None, (8, "no file %s\n" % n)
+        total += len(files[n])
+        if len(files[n]) > 4194304:
+            return None, (7, "limit file 4194304\n")
+        if total > 16777216:
+            return None, (7, "limit sheets 16777216\n")
+        sheets.append(files[n])
+    return sheets, None
+
+
+LEAST_WORDS = {"check": 2, "unpack": 4, "pack": 4, "run": 3, "demo": 2}
+
+
+def answer(words, files, stage=EVERYTHING):
+    """(status, report) of words over files: a dict of bytes."""
+    command = words[0] if words else None
+    if len(words) < LEAST_WORDS.get(command, len(words) + 1) or command == "demo" and not demo_number(words):
+        return (2, "usage: eds COMMAND ARGUMENTS\n")
+    if command == "demo":
+        return (0, demo_report(int(words[1])))
+    sheets, end = sheets_of(words[{"check": 1, "run": 2}.get(command, 3):], files)
+    if end is not None:
+        return end
+    try:
+        judge = judged(sheets, words[1] if command in ("unpack", "pack") else None, stage)
+    except m.Refused as refused:
+        return (1, refused.report())
+    if command == "check":
+        return (0, "accepted types %d containers %d interfaces %d components %d\n" % counts(judge))
+    return input_answer(command, judge, words[1 if command == "run" else 2], files)
+
+
+def counts(judge):
+    containers = len([t for t in judge.types if t.kind == "Container"])
+    return (judge.counts["type"], containers, judge.counts["interface"], judge.counts["component"])
+
+
+def input_answer(command, judge, name, files):
+    """(status, report) of a command that reads an input file, over an accepted sheet."""
+    if name not in files:
+        return (8, "no file %s\n" % name)
+    if command == "run":
+        return run_answer(judge, files[name])
+    most = 1048576 if command == "unpack" else 4194304
+    if len(files[name]) > most:
+        return (7, "limit input %d\n" % most)
+    try:
+        return (m.unpack if command == "unpack" else m.pack)(judge, files[name])
+    except m.Fault as fault:
+        return (3, "fault %s at $%s\n" % (fault.reason, fault.path))
+
+
+# ---------------------------------------------------------------- demo
+
+DEMO = (
+    '["PackageFile",["Package",{"name":"Gen"},["DataTypeSet",@8,@16,["ContainerDataType",{"name":"Base","abstract":"true"},'
+    '["EntryList",["Entry",{"name":"K","type":"U16"}]]],@C],["DeclaredInterfaceSet",["Interface",{"name":"Sub",'
+    '"level":"subnetwork"},["GenericTypeSet",["GenericType",{"name":"Unit"}]],["CommandSet",["Command",{"name":"send"},'
+    '["Argument",{"name":"unit","type":"Unit"}]],["Command",{"name":"recv"},["Argument",{"name":"unit","type":"Unit",'
+    '"mode":"notify"}]]]]],["ComponentSet",["Component",{"name":"Echo"},["RequiredInterfaceSet",["Interface",{"name":"bus",'
+    '"type":"Sub"},["GenericTypeMapSet",["GenericTypeMap",{"name":"Unit","type":"Base"}]]]],["Implementation",["VariableSet",'
+    '["Variable",{"name":"n","type":"U16"}]],["ActivitySet",["Activity",{"name":"echo"},["Argument",{"name":"unit",'
+    '"type":"Base"}],["Body",["MathOperation",{"outputVariableRef":"n"},["VariableRef",{"variableRef":"n"}],["Value",'
+    '{"value":"1"}],["Operator",{"operator":"add"}]],["SendCommandPrimitive",{"interface":"bus","command":"send"},'
+    '["ArgumentValue",{"name":"unit"},["ArgumentRef",{"argumentRef":"unit"}]]]]]],["StateMachineSet",["StateMachine",'
+    '{"name":"m"},["EntryState",{"name":"S"}],["Transition",{"fromState":"S","toState":"S"},["OnCommandPrimitive",'
+    '{"interface":"bus","command":"recv"}],["Do",{"activity":"echo"},["ArgumentValue",{"name":"unit"},["ArgumentRef",'
+    '{"argumentRef":"unit"}]]]]]]]]]]]')
+DEMO_INTEGER = '["IntegerDataType",{"name":"U%d"},["IntegerDataEncoding",{"sizeInBits":"%d","encoding":"unsigned"}]]'
+DEMO_CONTAINER = ('["ContainerDataType",{"name":"C%d","baseType":"Base"},["ConstraintSet",["ValueConstraint",{"entry":"K",'
+                  '"value":"%d"}]],["EntryList",["Entry",{"name":"V","type":"U8"}]]]')
+
+
+def demo_number(words):
+    return len(words) == 2 and re.fullmatch("[1-9][0-9]{0,2}", words[1]) is not None and int(words[1]) <= 500
+
+
+def demo(n):
+    """The sheet and the script of a demonstration of n containers."""
+    sheet = DEMO.replace("@C", ",".join(DEMO_CONTAINER % (i, i) for i in range(1, n + 1)))
+    sheet = sheet.replace("@8", DEMO_INTEGER % (8, 8)).replace("@16", DEMO_INTEGER % (16, 16))
+    lines = ["frame Gen/Echo:bus recv %04x%02x\ntick 1\n" % (i % (n + 1), i % 256) for i in range(1, 10 * (n + 1) + 1)]
+    return sheet.encode(), "".join(lines).encode()
+
+
+def demo_report(n):
+    sheet, script = demo(n)
+    judge = judged([sheet])
+    host, _ = run(judge, Script(judge, script))
+    sent = len([e for _, e in host.outs if isinstance(e, Primitive)])
+    rejects = len([e for _, e in host.outs if isinstance(e, Rejected)])
+    types, containers, _, _ = counts(judge)
+    return "demo %d types %d containers %d sent %d rejects %d end %d\n" % (n, types, containers, sent, rejects, host.now)
+
+
+def main():
+    words, files = sys.argv[1:], {}
+    for w in words[1:]:
+        try:
+            with open(w, "rb") as f:
+                files[w] = f.read()
+        except OSError:
+            pass
+    status, report = answer(words, files)
+    sys.stdout.buffer.write(report.encode())
+    sys.exit(status)
+
+
+if __name__ == "__main__":
+    main()
