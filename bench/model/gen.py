@@ -483,6 +483,7 @@ def mutate(rng, tree):
 
 
 NUMBERS = [0, 1, -1, 2, 3, 12, 255, 256, 257, 4096, 65535, 65536, 65537, 2**32 - 1, 2**32, 2**32 + 1, -2**32, -2**32 - 1, 2**63, 2**64]
+COEFFICIENTS = [0, 1, 1, 1, 2, 7, -1, 2**32, 2**32 + 1, -2**32, -2**32 - 1]
 REFERENCES = ("type", "baseType", "dataTypeRef", "indexTypeRef")
 
 
@@ -519,7 +520,7 @@ def defect(rng, types, others):
         e[1].clear()
         e[1]["indexTypeRef"] = rng.choice(names + FACE_NAMES[:2])
     elif what == 1 and (e := of("DimensionList")):
-        e[1:] = [["Dimension", {"size": str(n)}] for n in rng.choice([[rng.choice(NUMBERS)], [256, 256], [257, 255, 1], [3, 5, 17, 257, 1], [2**64, 2]])]
+        e[1:] = [["Dimension", {"size": str(n)}] for n in rng.choice([[rng.choice(NUMBERS)], [256, 256], [65536], [65537], [3, 5, 17, 257, 1], [2**64, 2]])]
     elif what == 2:
         types.extend(deep(rng, rng.choice(names)))
     elif what == 3 and (e := of("Entry", "ListEntry", "ArrayDataType")):
@@ -536,8 +537,8 @@ def defect(rng, types, others):
         e, other = rng.sample(range(1, len(l)), 2)
         l.insert(other, l.pop(e))
     elif what in (9, 16) and (e := of("LengthEntry")):
-        least, most = rng.choice([(0, 1), (1, 1), (rng.choice(NUMBERS), 1), (rng.choice(NUMBERS), rng.choice(NUMBERS)), (7, rng.choice(NUMBERS))])
-        e[2:] = [["PolynomialCalibrator"] + [["Term", {"coefficient": str(c), "exponent": str(x)}] for c, x in rng.sample([(least, 0), (most, 1)], 2) + [(1, 1)] * (rng.random() < .3)]]
+        terms = [(0, rng.choice(COEFFICIENTS)), (1, rng.choice(COEFFICIENTS)), (rng.choice([0, 1]), 1)][: rng.choice([1, 2, 2, 2, 3])]
+        e[2:] = [["PolynomialCalibrator"] + [["Term", {"coefficient": str(c), "exponent": str(x)}] for x, c in rng.sample(terms, len(terms))]]
     elif what == 10 and (l := parts()):
         l.insert(rng.randrange(1, len(l) + 1), ["LengthEntry", {"name": rng.choice(NAMES), "type": rng.choice(names)}])
     elif what == 11 and (e := of("ErrorControlEntry")):
