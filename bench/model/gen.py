@@ -99,7 +99,7 @@ class Gen:
         x = self.range_for(low, max(low, high))
         fake = m.Element("MinMaxRange", {k: str(v) for k, v in x[1][1].items()}, (0, 0), None)
         lo, hi = m.range_of(fake)
-        return ["SubRangeDataType", {"name": name, "baseType": self.ref(base)}, x], ("SubRange", (max(low, lo), min(high, hi), base[2][2], False))
+        return ["SubRangeDataType", {"name": name, "baseType": self.ref(base)}, x], ("SubRange", (max(low, lo), min(high, hi), base[2][2], False, base))
 
     def enumerated(self, name):
         x = self.encoding()
@@ -317,7 +317,8 @@ class Gen:
         for name, base in face["generics"]:
             if self.p(.04):
                 continue
-            fit = self.pick() if base is None else base if self.p(.85) else self.pick()
+            under = [t for t in self.types if t[1] == "SubRange" and t[2][-1] is base]
+            fit = self.pick() if base is None else self.r.choice(under + [base]) if self.p(.85) else self.pick()
             to = self.r.choice(own) if own and self.p(.4) else self.ref(fit)
             out.append(["GenericTypeMap", {"name": name, "type": to}])
         if self.p(.04):
@@ -331,7 +332,7 @@ class Gen:
             a["level"] = r.choice(["application", "functional", "access", "subnetwork"])
         if self.p(.2):
             a["abstract"] = r.choice(["true", "1", "false", "0"])
-        generics = [(g, self.pick() if self.p(.4) else None) for g in r.sample(GENERICS, r.choice([0, 0, 1, 2]))]
+        generics = [(g, self.pick(*["Integer", "SubRange"] * self.p(.5)) if self.p(.4) else None) for g in r.sample(GENERICS, r.choice([0, 0, 1, 2]))]
         own = [g for g, _ in generics]
         bases, above = [], set()
         for _ in range(r.choice([0, 1, 1, 2, 3]) if self.faces else 0):
@@ -482,6 +483,7 @@ def mutate(rng, tree):
 
 
 NUMBERS = [0, 1, -1, 2, 3, 12, 255, 256, 257, 4096, 65535, 65536, 65537, 2**32 - 1, 2**32, 2**32 + 1, -2**32, -2**32 - 1, 2**63, 2**64]
+COEFFICIENTS = [0, 1, 1, 1, 2, 7, -1, 2**32, 2**32 + 1, -2**32, -2**32 - 1]
 REFERENCES = ("type", "baseType", "dataTypeRef", "indexTypeRef")
 
 
@@ -512,12 +514,13 @@ def defect(rng, types, others):
     names = [t[1]["name"] for t in types]
     of = lambda *words: rng.choice([e for e in found if e[0] in words] or [None])
     parts = lambda: rng.choice([e for t in types for e in all_elements(t) if e[0] == "EntryList"] or [None])
-    what = rng.randrange(16)
+    lists = lambda *words: [l for t in types for l in all_elements(t) if l[0] == "EntryList" and {e[0] for e in l[1:]} & set(words)]
+    what = rng.randrange(25)
     if what == 0 and (e := of("Dimension")):
         e[1].clear()
         e[1]["indexTypeRef"] = rng.choice(names + FACE_NAMES[:2])
-    elif what == 1 and (e := of("Dimension")):
-        e[1]["size"] = str(rng.choice(NUMBERS))
+    elif what == 1 and (e := of("DimensionList")):
+        e[1:] = [["Dimension", {"size": str(n)}] for n in rng.choice([[rng.choice(NUMBERS)], [256, 256], [65536], [65537], [3, 5, 17, 257, 1], [2**64, 2]])]
     elif what == 2:
         types.extend(deep(rng, rng.choice(names)))
     elif what == 3 and (e := of("Entry", "ListEntry", "ArrayDataType")):
@@ -533,8 +536,9 @@ def defect(rng, types, others):
     elif what in (7, 8) and (l := parts()) and len(l) > 2:
         e, other = rng.sample(range(1, len(l)), 2)
         l.insert(other, l.pop(e))
-    elif what == 9 and (e := of("Term")):
-        e[1][rng.choice(["coefficient", "exponent"])] = str(rng.choice(NUMBERS))
+    elif what in (9, 16) and (e := of("LengthEntry")):
+        terms = [(0, rng.choice(COEFFICIENTS)), (1, rng.choice(COEFFICIENTS)), (rng.choice([0, 1]), 1)][: rng.choice([1, 2, 2, 2, 3])]
+        e[2:] = [["PolynomialCalibrator"] + [["Term", {"coefficient": str(c), "exponent": str(x)}] for x, c in rng.sample(terms, len(terms))]]
     elif what == 10 and (l := parts()):
         l.insert(rng.randrange(1, len(l) + 1), ["LengthEntry", {"name": rng.choice(NAMES), "type": rng.choice(names)}])
     elif what == 11 and (e := of("ErrorControlEntry")):
@@ -545,6 +549,37 @@ def defect(rng, types, others):
         e[1]["baseType" if e[0] == "GenericType" else "type"] = rng.choice(names + FACE_NAMES + GENERICS)
     elif what == 14 and (e := of("GenericTypeMap", "GenericType", "Parameter", "Command", "Interface", "Component")):
         e[1]["name"] = rng.choice(GENERICS + MEMBERS + FACE_NAMES)
+    elif what == 17 and (e := of("ErrorControlEntry")):
+        name = "X%d" % rng.randrange(9)
+        form = {"sizeInBits": rng.choice(["8", "16"]), "encoding": rng.choice(m.ENCODINGS + ["unsigned"] * 3)}
+        types.append(["IntegerDataType", {"name": name}, ["IntegerDataEncoding", form]] + ([["Range", ["MinMaxRange", {"rangeType": "atLeast", "min": "0"}]]] if rng.random() < .3 else []))
+        e[1]["type"] = name
+    elif what == 18 and (l := rng.choice(lists("ListEntry") or [None])):
+        e, f = rng.choice([e for e in l[1:] if e[0] == "ListEntry"]), rng.choice(l[1:])
+        if f[0] == "Entry":
+            e[1]["listLengthField"] = f[1]["name"]
+            f[1]["type"] = rng.choice(names)
+    elif what == 19 and (l := rng.choice(lists("LengthEntry") or [None])) and "Blob" in names:
+        l.insert(rng.choice([len(l), len(l), len(l) - 1, 1]), ["Entry", {"name": "tail", "type": "Blob"}])
+    elif what == 20:
+        owners = [s for o in others for x in all_elements(o) if x[0] in ("Interface", "Component") for s in [[k for y in x[1:] if isinstance(y, list) for k in y[1:] if isinstance(k, list) and "name" in k[1]]] if len(s) > 1]
+        if owners:
+            one, other = rng.sample(rng.choice(owners), 2)
+            one[1]["name"] = other[1]["name"]
+    elif what == 21 and (e := of("ArrayDataType")):
+        types.append(["ContainerDataType", {"name": "Hollow"}] + rng.choice([[], [["EntryList"]], [["EntryList", ["PaddingEntry", {"sizeInBits": "1"}]]]]))
+        e[1]["dataTypeRef"] = "Hollow"
+    elif what == 22 and (e := of("DimensionList")):
+        form = {"sizeInBits": str(rng.choice([17, 16, 64, 65, 12])), "encoding": rng.choice(["unsigned", "BCD"])}
+        types.append(["IntegerDataType", {"name": "Ix"}, ["IntegerDataEncoding", form]])
+        if rng.random() < .5:
+            types.append(["SubRangeDataType", {"name": "Iy", "baseType": "Ix"}, ["Range", ["MinMaxRange", {"rangeType": rng.choice(["atLeast", "greaterThan"]), "min": rng.choice(["0", "1", "65535", "65536"])}]]])
+        e[1:] = [["Dimension", {"indexTypeRef": types[-1][1]["name"]}]]
+    elif what == 23 and (e := of("GenericTypeMap")) and (base := of("GenericType")):
+        under = [t for t in types if t[0] == "SubRangeDataType"]
+        if under:
+            sub = rng.choice(under)
+            base[1]["baseType"], e[1]["type"] = sub[1]["baseType"], rng.choice([sub[1]["name"], sub[1]["baseType"], rng.choice(names)])
     elif (e := rng.choice([e for e in found if set(e[1]) & set(REFERENCES)] or [None])):
         e[1][next(k for k in REFERENCES if k in e[1])] = rng.choice(names)
 
@@ -730,7 +765,10 @@ def frame_text(rng, judge, t):
     if k < .25 and bits:
         i = rng.randrange(len(bits))
         bits[i] ^= 1
-    elif k < .35:
+    elif k < .28 and bits:
+        i, n = rng.randrange(len(bits)), rng.choice([4, 8, 16])
+        bits[i:i + n] = [rng.choice([0, 0, 1])] * len(bits[i:i + n])
+    elif k < .36:
         bits = bits[:rng.randrange(len(bits) + 1)]
     elif k < .42:
         bits = bits + [rng.randrange(2) for _ in range(rng.choice([1, 3, 7, 8, 9, 16]))]
