@@ -10,6 +10,7 @@ mod BaseSteps
 mod NumberSteps
 mod RowSteps
 mod SeatFacts
+pub mod HollowFacts
 mod ChainSteps
 pub mod SheetPlaces
 pub mod LevelFacts

@@ -22,10 +22,6 @@ use Rattle.eds_read_types.proofs.RowRules.{AreLeveled, AreRows, keeps_all}
 abbrev pub IsSolid : Table → ℕ → Type 0
 IsSolid t id = IsHollow t id → ⊥
 
--- the type, if it is a container, has entries of its own
-abbrev pub HasEntries : Table → ℕ → Type 0
-HasEntries t id = (c : Container) → container_of t id ≡ Some c → c.entries ≡ [] → ⊥
-
 -- what an entry of a container keeps; length entries and error controls are none yet
 abbrev pub PartFits : Table → Placed → Part → Type 0
 PartFits t p (part.Plain name id) = IsSolid t id.0 × (open_of t id.0 ≡ None)
@@ -86,77 +82,6 @@ placed_append y i (p ∷ ps) qs = ap (λ rest. record { container = y; place = i
 -- the parts of a container, each at its place among its entries and then its trailers
 pub own_placed : (t : Table) (y : ℕ) → own_parts t y ≡ placed_from y 0 (entries_in (container_of t y) ++ trailers_in (container_of t y))
 own_placed t y = ap (λ n. placed_from y 0 (entries_in (container_of t y)) ++ placed_from y n (trailers_in (container_of t y))) (omega arith) ∙ sym (placed_append y 0 (entries_in (container_of t y)) (trailers_in (container_of t y)))
-
--- a type that is no container, and of which none derives, is not hollow
-pub solid_other : (t : Table) → ((id base : ℕ) → base_of t id ≡ Some base → is_some (container_of t base) ≡ is_some (container_of t id)) → (id : ℕ) → container_of t id ≡ None → IsSolid t id
-unfolding chain_within
-solid_other t alike id none h = clash (container_of t h.hollow) h.concrete (same 16 h.hollow h.under ∙ ap is_some none)
-  where
-    clash : (o : Option Container) → IsTrue (concrete_in o) → is_some o ≡ false → ⊥
-    clash None c e = absurd cc
-    clash (Some c) k e = absurd cc
-
-    same : (n k : ℕ) → Has (chain_within n t k) id → is_some (container_of t k) ≡ is_some (container_of t id)
-    same zero k has = absurd (no_item has)
-      where
-        no_item : Has [] id → ⊥
-        no_item has = go has.before has.is
-          where
-            go : (before : List ℕ) → [] ≡ before ++ id ∷ has.after → ⊥
-            go [] e = cc
-            go (b ∷ before) e = cc
-    same (suc n) k has = elim (has-parts (chain_before (chain_within n t) (base_of t k)) (k ∷ []) id has) [
-      | inl l ↦ above (same n) (base_of t k) refl l
-      | inr r ↦ ap (λ m. is_some (container_of t m)) (only r.before r.after r.is)
-    ]
-      where
-        above : ((k : ℕ) → Has (chain_within n t k) id → is_some (container_of t k) ≡ is_some (container_of t id)) → (o : Option ℕ) → base_of t k ≡ o → Has (chain_before (chain_within n t) o) id → is_some (container_of t k) ≡ is_some (container_of t id)
-        above up None e l = absurd (go l.before l.is)
-          where
-            go : (before : List ℕ) → [] ≡ before ++ id ∷ l.after → ⊥
-            go [] e = cc
-            go (b ∷ before) e = cc
-        above up (Some base) e l = sym (alike k base e) ∙ up base l
-
-        only : (before after : List ℕ) → k ∷ [] ≡ before ++ id ∷ after → k ≡ id
-        only [] after e = cc
-        only (b ∷ []) after e = absurd cc
-        only (b ∷ c ∷ before) after e = absurd cc
-
-none_of : (f : ℕ → List Placed) (ys : List ℕ) (y : ℕ) → flat_map f ys ≡ [] → Has ys y → f y ≡ []
-none_of f [] y e h = absurd (go h.before h.is)
-  where
-    go : (before : List ℕ) → [] ≡ before ++ y ∷ h.after → ⊥
-    go [] e = cc
-    go (b ∷ before) e = cc
-none_of f (z ∷ ys) y e h = elim (has-cases z y ys h) [
-  | inl s ↦ subst (λ m. f m ≡ []) s (first_nil (f z) (flat_map f ys) e)
-  | inr l ↦ none_of f ys y (last_nil (f z) (flat_map f ys) e) l
-]
-  where
-    first_nil : (xs zs : List Placed) → xs ++ zs ≡ [] → xs ≡ []
-    first_nil [] zs e = refl
-    first_nil (x ∷ xs) zs e = absurd cc
-
-    last_nil : (xs zs : List Placed) → xs ++ zs ≡ [] → zs ≡ []
-    last_nil [] zs e = e
-    last_nil (x ∷ xs) zs e = absurd cc
-
--- a container that has entries of its own is not hollow, whatever derives from it
-pub solid_own : (t : Table) → ((id base : ℕ) → base_of t id ≡ Some base → is_some (container_of t base) ≡ is_some (container_of t id)) → (id : ℕ) → HasEntries t id → IsSolid t id
-solid_own t alike id some = go (container_of t id) refl
-  where
-    unplaced : (y i : ℕ) (ps : List Part) → placed_from y i ps ≡ [] → ps ≡ []
-    unplaced y i [] e = refl
-    unplaced y i (p ∷ ps) e = absurd cc
-
-    first_nil : (xs zs : List Placed) → xs ++ zs ≡ [] → xs ≡ []
-    first_nil [] zs e = refl
-    first_nil (x ∷ xs) zs e = absurd cc
-
-    go : (o : Option Container) → container_of t id ≡ o → IsHollow t id → ⊥
-    go None e h = solid_other t alike id e h
-    go (Some c) e h = some c e (sym (ap entries_in e) ∙ unplaced id 0 (entries_in (container_of t id)) (none_of (placed_entries t) (chain t h.hollow) id (first_nil (flat_map (placed_entries t) (chain t h.hollow)) (flat_map (placed_trailers t) (reverse (chain t h.hollow))) h.no_parts) h.under))
 
 container_by_kind : (t : Table) (rank : ℕ → ℕ) (id : ℕ) (k : Kind) → IsPlainKind t rank id k → (c : Container) → container_by k ≡ Some c → IsPlainContainer t rank id c
 container_by_kind t rank id (kind.Int form spans) plain c e = absurd cc

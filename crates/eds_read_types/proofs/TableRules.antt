@@ -73,16 +73,17 @@ use Rattle.eds_read_types.proofs.Unbroken.{IsUnbroken, unbroken}
 use Rattle.eds_read_types.proofs.SheetPlaces.{at_one, each-none as nowhere, of_types}
 use Rattle.eds_read_types.proofs.Limits.{few_types, length-rows}
 use Rattle.eds_read_types.proofs.LawFacts.{name_apart, enumerated_unbroken}
-use Rattle.eds_read_types.proofs.PlainRules.{IsSolid, EntryKeeps, IsPlainKind, KeepsRow, ArePlainRows, solid_own, own_placed, keeps_by_rows}
+use Rattle.eds_read_types.proofs.PlainRules.{IsSolid, EntryKeeps, IsPlainKind, KeepsRow, ArePlainRows, own_placed, keeps_by_rows}
 use Rattle.eds_read_types.proofs.PartOrder.{by_lists}
-use Rattle.eds_read_types.proofs.RowRules.{AreLeveled, alike_kinds}
+use Rattle.eds_read_types.proofs.RowRules.{AreLeveled}
 use Rattle.eds_read_types.proofs.SequenceFacts.{OwnDiffer, AreDisjoint, name_mark, parts_above, has-parts, disjoint-by}
 use Rattle.eds_read_types.proofs.FamilyFacts.{size_is}
 use Rattle.eds_nesting.specs.Families.{families, family, containers, types_of, types_in}
 use Rattle.eds_read_types.specs.LimitFamily.{family_size, family_at}
 use Rattle.eds_read_types.proofs.LevelFacts.{HasLevels}
 use Rattle.eds_read_types.proofs.NestingFacts.{no_base_cycle, course-ends, rank as rank_in, few_ranks, nested, base_ranks, part_named}
-use Rattle.eds_read_types.proofs.EmptyFacts.{has_bits, solid}
+use Rattle.eds_read_types.proofs.EmptyFacts.{has_bits}
+use Rattle.eds_read_types.proofs.HollowFacts.{solid}
 use Rattle.eds_read_types.proofs.ListFieldFacts.{counted}
 use Rattle.eds_read_types.proofs.PartFacts.{mapped_there, placed_all, no_item, part_none}
 use Rattle.eds_read_types.proofs.PartNames.{among_has, among_parts, element_names, row_names as parts_named, names_distinct, padding_keeps}
@@ -340,14 +341,6 @@ module _ (trees : List (List Node)) (names : Names) (word : Option (List ℕ)) (
           let some = number_some (base_found trees names r.declared.place) base (sym (ap (λ (w : TypeRow). number_of_id w.base) r.is) ∙ h) in
           record { declared = r.declared; there = r.there; found = some.0; by_name = some.1; number = some.2 }
 
-  -- a container derives from a container, and nothing else does
-  base_alike : (id base : ℕ) → base_of (table_rows trees names) id ≡ Some base → is_some (container_of (table_rows trees names) base) ≡ is_some (container_of (table_rows trees names) id)
-  base_alike id base e =
-      let h = has_base id base e in
-      let k = derives id h.declared h.there h.found h.by_name in
-      subst (λ n. is_some (container_of (table_rows trees names) n) ≡ is_some (container_of (table_rows trees names) id)) h.number
-      (ap (λ o. is_some (container_in o)) k.1 ∙ alike_kinds (kind_of trees names id h.declared.place) (k.0).kind k.2 ∙ sym (ap (λ o. is_some (container_in o)) (row_of id h.declared h.there)))
-
   derives_number : (id : ℕ) (d : Declared) → slice_get (types names) id ≡ Some d → (base : ℕ) → number_of_id (base_found trees names d.place) ≡ Some base → HasKind (table_rows trees names) base (DerivesFrom (kind_of trees names id d.place))
   derives_number id d there base e = let some = number_some (base_found trees names d.place) base e in subst (λ n. HasKind (table_rows trees names) n (DerivesFrom (kind_of trees names id d.place))) some.2 (derives id d there some.0 some.1)
 
@@ -417,8 +410,8 @@ module _ (trees : List (List Node)) (names : Names) (word : Option (List ℕ)) (
   container_is id d there con = ap container_in (row_of id d there) ∙ rw con refl
 
   -- where a part's type is no open binary and has bits
-  solid_type : (id : ℕ) → open_of (table_rows trees names) id ≡ None → may_be_empty (table_rows trees names) id ≡ false → IsSolid (table_rows trees names) id × (open_of (table_rows trees names) id ≡ None)
-  solid_type id closed_type bits = (solid_own (table_rows trees names) base_alike id (solid (table_rows trees names) id (has_bits (table_rows trees names) id bits).0), closed_type)
+  solid_type : (id : ℕ) → id < length (table_rows trees names) → open_of (table_rows trees names) id ≡ None → may_be_empty (table_rows trees names) id ≡ false → IsSolid (table_rows trees names) id × (open_of (table_rows trees names) id ≡ None)
+  solid_type id lt closed_type bits = (solid (table_rows trees names) id lt (has_bits (table_rows trees names) id bits).0, closed_type)
 
   no_open : (o : Option ℕ) (at : Place) → untold_by at o ≡ [] → o ≡ None
   no_open None at h = refl
@@ -433,7 +426,7 @@ module _ (trees : List (List Node)) (names : Names) (word : Option (List ℕ)) (
       let open_none = no_open (open_of (table_rows trees names) (entry_id trees names q).0) q (part_none length_field_at trees names u.lengths id d.place place k (plain_part trees names q) part q e) in
       let bits = full (open_of (table_rows trees names) (entry_id trees names q).0) (may_be_empty (table_rows trees names) (entry_id trees names q).0) open_none
       (unmet (is_empty_entry (table_rows trees names) (entry_id trees names q).0) _ (part_none empty_part_at trees names u.empty_parts id d.place place k (plain_part trees names q) part q e)) in
-      solid_type (entry_id trees names q).0 open_none bits
+      solid_type (entry_id trees names q).0 (entry_there q id d there) open_none bits
     where
       full : (o : Option ℕ) (empty : Bool) → o ≡ None → (not (is_some o) && empty) ≡ false → empty ≡ false
       full None empty e h = h
@@ -447,7 +440,7 @@ module _ (trees : List (List Node)) (names : Names) (word : Option (List ℕ)) (
       let part = part_there id d (container_is id d there con) k q e ∙ ap (λ s. Some (part_by s trees names id (seats_of trees names id) q)) s in
       let open_none = no_open (open_of (table_rows trees names) (entry_id trees names q).0) q (part_none length_field_at trees names u.lengths id d.place place k (list_part trees names id (seats_of trees names id) q) part q e) in
       let bits = unmet (may_be_empty (table_rows trees names) (entry_id trees names q).0) _ (part_none empty_part_at trees names u.empty_parts id d.place place k (list_part trees names id (seats_of trees names id) q) part q e) in
-      solid_type (entry_id trees names q).0 open_none bits
+      solid_type (entry_id trees names q).0 (entry_there q id d there) open_none bits
 
   -- padding keeps its size, and has no type
   pad_keeps : (id k n : ℕ) → 1 ≤ n → n ≤ 524288 → EntryKeeps (table_rows trees names) rank (record { container = id; place = k; part = part.Pad n })

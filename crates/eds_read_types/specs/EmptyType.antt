@@ -1,5 +1,7 @@
 -- The type of an entry or of a list's items, that of an array's items, and the type that the TYPE word names have bits. Nothing is
--- kept. An open binary may be the type of an entry, and of nothing else.
+-- kept. An open binary may be the type of an entry, and of nothing else. That the rule is judged only where no part of a type that
+-- is reached breaks another one is not said yet: as long as no compiled sheet has a container that derives, an empty container has
+-- no parts that could.
 use Rattle.std.specs.Prelude.{ℕ, zero, suc, List, [], ◌∷◌, ◌++◌, Bool, true, false, not, ◌||◌, ◌&&◌, is_some, if◌then◌else◌, Option, Some, None, slice_get}
 use Rattle.eds_base.specs.declared.ids.Place.{Place}
 use Rattle.eds_base.specs.declared.ids.TypeId.{TypeId}
@@ -10,28 +12,15 @@ use Rattle.eds_names.specs.LookUp.{Names}
 use Rattle.eds_types.specs.declared.row.TypeRow.{TypeRow}
 use Rattle.eds_types.specs.declared.row.Kind.{Kind}
 use Rattle.eds_types.specs.declared.row.Kind.TheVariants as kind
-use Rattle.eds_types.specs.declared.row.Container.{Container}
 use Rattle.eds_types.specs.declared.row.Part.{Part}
 use Rattle.eds_types.specs.declared.row.Part.TheVariants as part
-use Rattle.eds_types.specs.Rows.{Table, Placed, container_of}
+use Rattle.eds_types.specs.Rows.{Table, Placed}
 use Rattle.eds_types.specs.Sizes.{open_of}
 use Rattle.eds_read_types.specs.References.{broken, word_place}
 use Rattle.eds_read_types.specs.ReadTypes.{word_type}
 use Rattle.eds_read_types.specs.TableRows.{table_rows}
+use Rattle.eds_read_types.specs.Hollow.{is_hollow}
 use Rattle.eds_read_types.specs.Parts.{RowJudgement, PartJudgement, at_rows, at_parts}
-
-abbrev pub is_empty : List Part → Bool
-is_empty [] = true
-is_empty (p ∷ ps) = false
-
-abbrev pub is_empty_container : Option Container → Bool
-is_empty_container None = false
-is_empty_container (Some c) = is_empty c.entries
-
--- The type is a container without entries, which is spelled by no bits. The rule is judged where no part of the container, and
--- of those that it reaches, breaks one, which holds of a container without parts.
-abbrev pub is_hollow : Table → ℕ → Bool
-is_hollow t id = is_empty_container (container_of t id)
 
 abbrev pub item_by : Kind → Option ℕ
 item_by (kind.Int form spans) = None

@@ -35,6 +35,7 @@ pub mod Parts
 pub mod Nesting
 pub mod TypeCycle
 pub mod LimitNesting
+pub mod Hollow
 pub mod EmptyType
 pub mod ListField
 pub mod LengthField

@@ -115,7 +115,7 @@ pub(crate) fn cycles_of(alloc: Global, bases: &[Option<TypeId>]) -> Result<Vec<b
 }
 
 /// What is noted of a type, where there is such a type.
-fn flag_at(flags: &[bool], id: usize) -> Option<bool>
+pub(crate) fn flag_at(flags: &[bool], id: usize) -> Option<bool>
     ensures { result ≡ slice_get flags.now id }
 {
     flags.get(id).copied()

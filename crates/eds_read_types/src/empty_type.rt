@@ -4,9 +4,11 @@ ghost use Rattle.std.specs.Prelude.{◌≡◌, ◌||◌, is_some, option_map};
 ghost use Rattle.eds_types.specs.Sizes.{open_of};
 ghost use Rattle.eds_base.specs.declared.ids.TypeId.{TypeId as type_id};
 ghost use Rattle.eds_base.specs.Refusals.{least};
-ghost use Rattle.eds_read_types.specs.EmptyType.{is_hollow as is_hollow_at, item_of as item_of_row, may_be_empty as may_be_empty_at, is_empty_entry as is_empty_entry_at, empty_where as empty_where_at};
+ghost use Rattle.eds_read_types.specs.Hollow.{hollows, is_hollow as is_hollow_at};
+ghost use Rattle.eds_read_types.specs.EmptyType.{item_of as item_of_row, may_be_empty as may_be_empty_at, is_empty_entry as is_empty_entry_at, empty_where as empty_where_at};
 
 use crate::breaks::broken;
+use crate::hollow::is_hollow;
 use crate::reference::word_type;
 use crate::rules::SheetRule;
 use crate::sheet_rows::{PartAt, PartRule, RowRule, SheetRows, is_open};
@@ -17,27 +19,12 @@ use std::alloc::Global;
 /// The most types that are nested in one another.
 const DEEPEST: u32 = 32;
 
-/// Whether a type is a container without entries.
-fn is_hollow(rows: &TypeRows, id: TypeId) -> bool
-    ensures { result ≡ is_hollow_at rows.now id.0 }
-{
-    match rows.get(id.0 as usize) {
-        None => false,
-        Some(row) => match &row.kind {
-            Kind::Con(container) => match container.entries.as_slice() {
-                [] => true,
-                [_, ..] => false,
-            },
-            _ => false,
-        },
-    }
-}
-
-/// Whether a type is a container without entries, or an open binary.
-fn is_bare(rows: &TypeRows, id: TypeId) -> bool
+/// Whether a type is a container that may be spelled by no bits, or an open binary.
+fn is_bare(rows: &TypeRows, hollow: &[bool], id: TypeId) -> bool
+    requires { hollow.now ≡ hollows rows.now }
     ensures { result ≡ (is_hollow_at rows.now id.0 || is_some (open_of rows.now id.0)) }
 {
-    is_hollow(rows, id) || is_open(rows, id)
+    is_hollow(rows, hollow, id) || is_open(rows, id)
 }
 
 /// The type of an array's items.
@@ -53,14 +40,15 @@ fn item_of(rows: &TypeRows, id: usize) -> Option<TypeId>
     }
 }
 
-/// Whether a type may be spelled by no bits: it is a container without entries, an open binary, or an array of such items.
-fn may_be_empty(rows: &TypeRows, id: TypeId) -> bool
+/// Whether a type may be spelled by no bits: it is such a container, an open binary, or an array of such items.
+fn may_be_empty(rows: &TypeRows, hollow: &[bool], id: TypeId) -> bool
+    requires { hollow.now ≡ hollows rows.now }
     ensures { result ≡ may_be_empty_at rows.now id.0 }
 {
     let mut at = id;
     let mut left = DEEPEST;
     while left > 0 {
-        if is_bare(rows, at) {
+        if is_bare(rows, hollow, at) {
             return true;
         }
         match item_of(rows, at.0 as usize) {
@@ -87,16 +75,23 @@ fn empty_where(empty: bool, at: Place) -> Option<Refusal>
 pub(crate) struct EmptyPart;
 
 impl PartRule for EmptyPart {
+    ghost use Rattle.eds_read_types.specs.Hollow.{hollows, is_hollow as is_hollow_at};
     ghost use Rattle.eds_read_types.specs.EmptyType.{empty_part_at};
 
     ghost breaks = { empty_part_at };
 
     fn least_at(_: Global, at: &PartAt) -> Result<Option<Refusal>, Memory> {
         match at.part {
-            Part::Plain(_, id) => Ok(empty_where(is_empty_entry(at.rows, *id), at.place)),
+            Part::Plain(_, id) => Ok(empty_where(
+                is_empty_entry(at.rows, at.hollow, *id),
+                at.place,
+            )),
             Part::Fixed(_, _, _) => Ok(None),
             Part::Pad(_) => Ok(None),
-            Part::List(_, id, _, _) => Ok(empty_where(may_be_empty(at.rows, *id), at.place)),
+            Part::List(_, id, _, _) => Ok(empty_where(
+                may_be_empty(at.rows, at.hollow, *id),
+                at.place,
+            )),
             Part::Length(_, _, _, _) => Ok(None),
             Part::Check(_, _, _) => Ok(None),
         }
@@ -104,16 +99,18 @@ impl PartRule for EmptyPart {
 }
 
 /// Whether a type may be spelled by no bits and is no open binary.
-fn is_empty_entry(rows: &TypeRows, id: TypeId) -> bool
+fn is_empty_entry(rows: &TypeRows, hollow: &[bool], id: TypeId) -> bool
+    requires { hollow.now ≡ hollows rows.now }
     ensures { result ≡ is_empty_entry_at rows.now id.0 }
 {
-    !is_open(rows, id) && may_be_empty(rows, id)
+    !is_open(rows, id) && may_be_empty(rows, hollow, id)
 }
 
 /// The type of an array's items has bits.
 pub(crate) struct EmptyItem;
 
 impl RowRule for EmptyItem {
+    ghost use Rattle.eds_read_types.specs.Hollow.{hollows, is_hollow as is_hollow_at};
     ghost use Rattle.eds_read_types.specs.EmptyType.{empty_item_at};
 
     ghost breaks = { empty_item_at };
@@ -126,7 +123,7 @@ impl RowRule for EmptyItem {
     ) -> Result<Option<Refusal>, Memory> {
         match item_of(sheet.rows, id) {
             None => Ok(None),
-            Some(item) => Ok(empty_where(may_be_empty(sheet.rows, item), at)),
+            Some(item) => Ok(empty_where(may_be_empty(sheet.rows, sheet.hollow, item), at)),
         }
     }
 }
@@ -135,6 +132,7 @@ impl RowRule for EmptyItem {
 pub(crate) struct EmptyWord;
 
 impl SheetRule for EmptyWord {
+    ghost use Rattle.eds_read_types.specs.Hollow.{hollows, is_hollow as is_hollow_at};
     ghost use Rattle.eds_read_types.specs.EmptyType.{empty_word};
 
     ghost breaks = { empty_word };
@@ -143,7 +141,10 @@ impl SheetRule for EmptyWord {
         let named = sheet.graph.sheet;
         match word_type(alloc, named)? {
             None => Ok(None),
-            Some(id) => Ok(empty_where(may_be_empty(sheet.rows, id), named.word_place())),
+            Some(id) => Ok(empty_where(
+                may_be_empty(sheet.rows, sheet.hollow, id),
+                named.word_place(),
+            )),
         }
     }
 }

@@ -17,6 +17,7 @@ mod entry;
 mod face_reference;
 mod face_rules;
 mod form;
+mod hollow;
 pub mod law;
 mod length_field;
 mod limit_chain;

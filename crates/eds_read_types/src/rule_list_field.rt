@@ -6,7 +6,7 @@ ghost use Rattle.eds_types.specs.Rows.{chain, list_has};
 ghost use Rattle.std.specs.Option.{option_copied};
 
 use crate::breaks::broken;
-use crate::sheet_rows::{PartAt, PartRule, base_of, entries_of};
+use crate::sheet_rows::{PartAt, PartRule, entries_of, is_at_or_above};
 use eds_base::{Memory, Refusal, Rule, Span, TypeId};
 use eds_types::{Kind, Part, TypeRows};
 use std::alloc::Global;
@@ -65,25 +65,6 @@ fn is_count(rows: &TypeRows, part: Option<&Part>) -> bool
             Part::Check(_, _, _) => false,
         },
     }
-}
-
-/// Whether a type is another one, or one of its bases.
-fn is_at_or_above(rows: &TypeRows, upper: usize, id: usize) -> bool
-    ensures { result ≡ list_has (chain rows.now id) upper }
-{
-    let mut at = id;
-    let mut left: usize = 16;
-    while left > 0 {
-        if at == upper {
-            return true;
-        }
-        match base_of(rows, at) {
-            None => return false,
-            Some(base) => at = base.0 as usize,
-        }
-        left -= 1;
-    }
-    false
 }
 
 /// Whether the entry of a position in a container stands before a part.

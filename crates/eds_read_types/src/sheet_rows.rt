@@ -7,11 +7,12 @@ ghost use Rattle.eds_base.specs.declared.refusal.Refusal.{Refusal as refusal};
 ghost use Rattle.eds_base.specs.Refusals.{least};
 ghost use Rattle.eds_tree.specs.declared.tree.Node.{Node as node};
 ghost use Rattle.eds_types.specs.Sizes.{open_of};
-ghost use Rattle.eds_types.specs.Rows.{Table, Placed, base_of as base_in, number_of_id, container_of, entries_in, trailers_in};
+ghost use Rattle.eds_types.specs.Rows.{Table, Placed, base_of as base_in, number_of_id, chain, list_has, container_of, entries_in, trailers_in};
 ghost use Rattle.eds_read_types.specs.Bases.{breaks_over};
 ghost use Rattle.eds_read_types.specs.TableRows.{table_rows};
 ghost use Rattle.eds_nesting.specs.Families.{families as families_of, nesting as nesting_of, family_sizes as family_sizes_of, endless_met as endless_met_of};
 ghost use Rattle.eds_read_types.specs.Parts.{parts_in, judged_part, judged_parts};
+ghost use Rattle.eds_read_types.specs.Hollow.{hollows};
 ghost use Rattle.eds_read_types.specs.LimitFamily.{family_size};
 ghost use Rattle.eds_read_types.specs.Nesting.{course_of, meets_base_cycle};
 
@@ -34,9 +35,12 @@ pub(crate) struct SheetRows<'a> {
     pub(crate) endless: &'a [bool],
     /// For each type how many containers its family has.
     pub(crate) sizes: &'a [usize],
+    /// For each type whether it is a container that may be spelled by no bits.
+    pub(crate) hollow: &'a [bool],
     ghost read: { rows.now ≡ table_rows graph.now.sheet.now.trees.now graph.now.sheet.now.space.now },
     ghost nested: { nesting.now ≡ nesting_of rows.now (families_of rows.now) },
     ghost met: { endless.now ≡ endless_met_of rows.now (families_of rows.now) },
+    ghost known: { hollow.now ≡ hollows rows.now },
     ghost sized: { sizes.now ≡ family_sizes_of rows.now (families_of rows.now) },
 }
 
@@ -124,10 +128,12 @@ pub(crate) fn is_open(rows: &TypeRows, id: TypeId) -> bool
 #[derive(Drop)]
 pub(crate) struct PartAt<'a> {
     pub(crate) rows: &'a TypeRows,
+    pub(crate) hollow: &'a [bool],
     pub(crate) container: usize,
     pub(crate) index: usize,
     pub(crate) part: &'a Part,
     pub(crate) place: Place,
+    ghost known: { hollow.now ≡ hollows rows.now },
 }
 
 /// A rule that is judged at one part of a container at a time.
@@ -148,6 +154,25 @@ pub(crate) fn base_of(rows: &TypeRows, id: usize) -> Option<TypeId>
         None => None,
         Some(row) => row.base,
     }
+}
+
+/// Whether a type is another one, or one of its bases.
+pub(crate) fn is_at_or_above(rows: &TypeRows, upper: usize, id: usize) -> bool
+    ensures { result ≡ list_has (chain rows.now id) upper }
+{
+    let mut at = id;
+    let mut left: usize = 16;
+    while left > 0 {
+        if at == upper {
+            return true;
+        }
+        match base_of(rows, at) {
+            None => return false,
+            Some(base) => at = base.0 as usize,
+        }
+        left -= 1;
+    }
+    false
 }
 
 /// The entries of a type, none where it is no container.
@@ -191,10 +216,12 @@ fn part_of(rows: &TypeRows, id: usize, index: usize) -> Option<&Part>
 fn least_part<R: PartRule>(
     alloc: Global,
     rows: &TypeRows,
+    hollow: &[bool],
     container: usize,
     index: usize,
     place: Place,
 ) -> Result<Option<Refusal>, Memory>
+    requires { hollow.now ≡ hollows rows.now }
     ensures { IfOk result (λ r. r ≡ least (judged_part R.breaks rows.now container index place)) }
 {
     match part_of(rows, container, index) {
@@ -203,6 +230,7 @@ fn least_part<R: PartRule>(
             alloc,
             &PartAt {
                 rows,
+                hollow,
                 container,
                 index,
                 part,
@@ -215,14 +243,16 @@ fn least_part<R: PartRule>(
 fn least_over_parts<R: PartRule>(
     alloc: Global,
     rows: &TypeRows,
+    hollow: &[bool],
     container: usize,
     places: &[Place],
 ) -> Result<Option<Refusal>, Memory>
+    requires { hollow.now ≡ hollows rows.now }
     ensures { IfOk result (λ r. r ≡ least (breaks_over (judged_part R.breaks rows.now container) 0 places.now)) }
 {
     let mut found = None;
     for index in 0..places.len() {
-        let here = least_part::<R>(alloc, rows, container, index, places[index])?;
+        let here = least_part::<R>(alloc, rows, hollow, container, index, places[index])?;
         found = Refusal::first(found, here);
     }
     Ok(found)
@@ -243,6 +273,6 @@ impl<R: PartRule> RowRule for AtParts<R> {
         at: Place,
     ) -> Result<Option<Refusal>, Memory> {
         let places = own_parts_at(alloc, sheet.graph.sheet.trees, at)?;
-        least_over_parts::<R>(alloc, sheet.rows, id, &places)
+        least_over_parts::<R>(alloc, sheet.rows, sheet.hollow, id, &places)
     }
 }

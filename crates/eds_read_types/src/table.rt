@@ -12,6 +12,7 @@ ghost use Rattle.eds_read_types.specs.TableRead.{typed_of, table_read};
 
 use crate::base_graph::{BaseGraph, bases_of, cycles_of};
 use crate::face_reference::push_face_types;
+use crate::hollow::hollows;
 use crate::named_trees::{NamedTrees, elements, type_places};
 use crate::reference::word_type;
 use crate::rules::least_break;
@@ -87,11 +88,13 @@ fn least_of(alloc: Global, graph: &BaseGraph, rows: &TypeRows) -> Result<Option<
     let nesting = courses_of(alloc, rows)?;
     let endless = endless_of(alloc, rows)?;
     let sizes = sizes_of(alloc, rows)?;
+    let hollow = hollows(alloc, rows)?;
     let sheet = SheetRows {
         graph,
         rows,
         nesting: &nesting,
         sizes: &sizes,
+        hollow: &hollow,
         endless: &endless,
     };
     least_break(alloc, &sheet)

@@ -2,7 +2,7 @@ use Rattle.std.proofs.Common.{sym, ap, ◌∙◌, arith}
 use Rattle.eds_types.specs.Rows.{number_of_id}
 use Rattle.eds_read_types.proofs.BaseSteps.{other-is}
 use Rattle.eds_read_types.proofs.ChainSteps.{above_none, above_hit, above_end, above_on}
-use Rattle.eds_read_types.proofs.rule_list_field.is_at_or_above.Goals as goal
+use Rattle.eds_read_types.proofs.sheet_rows.is_at_or_above.Goals as goal
 
 pub returns-then-at-upper : goal.returns-then-at-upper
 returns-then-at-upper c = above_hit c.loop-left.left c.args.rows.now c.loop-left.at c.args.upper (omega arith) c.if-at-upper.true ∙ c.loop-left.invariant
