@@ -1,8 +1,7 @@
 -- Types that may be spelled by no bits.
-use Rattle.std.proofs.Common.{◌≡◌, ℕ, zero, suc, ◌-◌, ◌<◌, ◌||◌, Bool, true, false, List, [], ◌∷◌, Option, Some, None, refl, sym, ap, subst, ◌∙◌, arith}
+use Rattle.std.proofs.Common.{◌≡◌, ℕ, zero, suc, ◌-◌, ◌<◌, ◌||◌, Bool, true, false, Option, Some, None, refl, sym, ap, ◌∙◌, arith}
 use Rattle.std.specs.Prelude.{is_some}
-use Rattle.eds_types.specs.declared.row.Container.{Container}
-use Rattle.eds_types.specs.Rows.{Table, container_of}
+use Rattle.eds_types.specs.Rows.{Table}
 use Rattle.eds_types.specs.Sizes.{open_of}
 use Rattle.eds_read_types.specs.Hollow.{is_hollow}
 use Rattle.eds_read_types.specs.EmptyType.{has_empty_items, item_of, is_empty_within, may_be_empty}

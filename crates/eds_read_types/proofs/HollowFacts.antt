@@ -1,6 +1,5 @@
 -- Types of containers that may be spelled by no bits.
-use Rattle.std.proofs.Common.{◌≡◌, ℕ, zero, suc, ◌+◌, ◌-◌, ◌<◌, ◌≤◌, ◌==◌, ◌||◌, ◌&&◌, not, cond, Bool, true, false, List, [], ◌∷◌, ◌++◌, length, map, reverse, get_or, slice_get, Option, Some, None, refl, sym, ap, subst, ◌∙◌, ◌⊎◌, inl, inr, arith}
-use Rattle.std.specs.Prelude.{IsTrue}
+use Rattle.std.proofs.Common.{◌≡◌, ℕ, zero, suc, ◌+◌, ◌-◌, ◌<◌, ◌≤◌, ◌==◌, ◌||◌, ◌&&◌, not, cond, Bool, true, false, List, [], ◌∷◌, ◌++◌, length, map, reverse, get_or, slice_get, Option, Some, None, refl, sym, ap, subst, ◌∙◌, inl, inr, arith}
 use Rattle.std.specs.Option.{unwrap_or}
 use Rattle.std.specs.List.{list_all, list_any, flat_map, range_with_len}
 use Rattle.std.proofs.lemmas.Bool.{and_parts, eq-eqb, eqb-true}
@@ -10,7 +9,7 @@ use Rattle.std.proofs.lemmas.Option.{slice_get_within, slice_get-get_or}
 use Rattle.eds_bits.specs.Lists.{Has}
 use Rattle.eds_types.specs.declared.row.TypeRow.{TypeRow}
 use Rattle.eds_types.specs.declared.row.Part.{Part}
-use Rattle.eds_types.specs.Rows.{Table, entries_of, trailers_of, container_in, concrete_in, is_concrete, base_of, chain, chain_before, chain_within, list_has, numbers, Placed, placed_from, placed_entries, placed_trailers, sequence}
+use Rattle.eds_types.specs.Rows.{Table, entries_of, trailers_of, container_in, concrete_in, is_concrete, base_of, chain, chain_before, chain_within, list_has, numbers, Placed, placed_from, placed_entries, placed_trailers}
 use Rattle.eds_types.specs.Rules.{IsHollow}
 use Rattle.eds_graph.proofs.Tests.{split}
 use Rattle.eds_read_types.specs.Hollow.{is_empty, is_bare, is_further, is_void, has_void, hollows, is_hollow}

@@ -1,5 +1,5 @@
 -- Lists whose numbers are told by entries before them.
-use Rattle.std.proofs.Common.{◌≡◌, ℕ, zero, suc, ◌+◌, ◌<◌, ◌&&◌, ◌||◌, ◌==◌, cond, not, Bool, true, false, List, [], ◌∷◌, ◌++◌, append_assoc, reverse, length, map, slice_get, Option, Some, None, refl, sym, ap, subst, ◌∙◌, arith, inl, inr, leb-true}
+use Rattle.std.proofs.Common.{◌≡◌, ℕ, zero, suc, ◌+◌, ◌<◌, ◌||◌, ◌==◌, cond, not, Bool, true, false, List, [], ◌∷◌, ◌++◌, append_assoc, reverse, slice_get, Option, Some, None, refl, sym, ap, subst, ◌∙◌, arith, inl, inr, leb-true}
 use Rattle.std.specs.Prelude.{ℤ, pos, int_lt, ◌≤ℤ◌, nat_lt, if◌then◌else◌}
 use Rattle.std.specs.List.{flat_map}
 use Rattle.std.proofs.lemmas.Grind.{flat_map-append}
@@ -14,7 +14,7 @@ use Rattle.eds_types.specs.declared.row.Kind.TheVariants as kind
 use Rattle.eds_types.specs.declared.row.Part.{Part}
 use Rattle.eds_types.specs.declared.row.Part.TheVariants as part
 use Rattle.eds_types.specs.Rows.{Table, base_of, container_of, entries_in, trailers_in, own_parts, Placed, placed_from, placed_entries, placed_trailers, sequence, chain, list_has, chain_before, chain_within}
-use Rattle.eds_types.specs.Rules.{IsIntBy, IsInt, HasKind, IsBefore, IsCounted}
+use Rattle.eds_types.specs.Rules.{IsIntBy, IsInt, IsBefore, IsCounted}
 use Rattle.eds_read_types.specs.ListField.{has_negative, counts_by, counts_in, is_count, stands_before, is_told}
 use Rattle.eds_read_types.specs.Parts.{parts_in}
 use Rattle.eds_read_types.proofs.PlainRules.{own_placed}

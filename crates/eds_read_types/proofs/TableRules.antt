@@ -1,6 +1,6 @@
 -- The rows of a sheet that breaks no rule on types keep the rules of a table.
 use Rattle.std.proofs.Common.{◌≡◌, ℕ, zero, suc, ◌+◌, ◌<◌, ◌≤◌, Bool, true, false, ◌||◌, ◌&&◌, List, [], ◌∷◌, ◌++◌, length, map, slice_get, option_map, Option, Some, None, refl, sym, ap, subst, ◌∙◌, ◌⊎◌, inl, inr, arith, lit≤}
-use Rattle.std.specs.Prelude.{nat_le, nat_lt, is_some, IsSome, unwrap_or, option_to_list, codes, not, Ok, if◌then◌else◌}
+use Rattle.std.specs.Prelude.{nat_le, nat_lt, is_some, IsSome, option_to_list, codes, not, Ok, if◌then◌else◌}
 use Rattle.std.specs.List.{AllByRecursion, filter_map, flat_map, list_all}
 use Rattle.std.proofs.Common.{leb-true}
 use Rattle.std.proofs.lemmas.Bool.{and_parts, ltb-false}
@@ -27,18 +27,17 @@ use Rattle.eds_names.specs.LookUp.{Names, AreApart, NamesDiffer, look_up, names_
 use Rattle.eds_names.proofs.Differing.{differ}
 use Rattle.eds_types.specs.declared.row.TypeRow.{TypeRow}
 use Rattle.eds_types.specs.declared.row.Kind.TheVariants as kind
-use Rattle.eds_types.specs.declared.row.Container.{Container}
 use Rattle.eds_types.specs.declared.row.Part.{Part}
 use Rattle.eds_types.specs.declared.row.Part.TheVariants as part
-use Rattle.eds_types.specs.Rows.{Table, base_in, base_of, own_parts, placed_from, chain_before, chain_within, container_by, container_in, container_of, number_of_id, entries_in}
+use Rattle.eds_types.specs.Rows.{base_in, base_of, own_parts, placed_from, chain_before, chain_within, container_by, container_in, container_of, number_of_id}
 use Rattle.eds_types.specs.Sizes.{open_of}
 use Rattle.eds_types.specs.Fields.{type_by}
 use Rattle.eds_graph.specs.Ways.{is_circular, is_endless}
 use Rattle.eds_graph.specs.Search.{Has as is_one_of}
 use Rattle.eds_types.specs.Rules.{AreDistinct, IsContainer, IsListing, KindKeeps, HasKind, DerivesFrom, IsNested, IsCounted, name_of, KeepsRules}
 use Rattle.eds_read_types.specs.declared.numbers.FormAndDomain.{FormAndDomain}
-use Rattle.eds_read_types.specs.Places.{element, is_element, is_container, is_sub_range, is_number, attribute, own_name, elements, types, type_places}
-use Rattle.eds_read_types.specs.References.{references, row_for, judged_text, judged_by, judged_at, broken_with}
+use Rattle.eds_read_types.specs.Places.{element, is_element, is_container, is_sub_range, is_number, attribute, elements, types, type_places}
+use Rattle.eds_read_types.specs.References.{references, row_for, judged_text, judged_by, judged_at}
 use Rattle.eds_read_types.specs.ReadTypes.{id_of, id_found}
 use Rattle.eds_read_types.specs.declared.part_sort.PartSort.{PartSort}
 use Rattle.eds_read_types.specs.declared.part_sort.PartSort.TheVariants as sorts
@@ -47,11 +46,10 @@ use Rattle.eds_read_types.specs.Parts.{parts_in}
 use Rattle.eds_read_types.specs.Seats.{seats_of}
 use Rattle.eds_read_types.specs.ListFields.{field_seat, field_container, field_place}
 use Rattle.eds_read_types.specs.PartRows.{entry_id, padding_bits, unread, plain_part, list_part, part_by}
-use Rattle.eds_read_types.specs.Forms.{int_form_of, bool_form_of}
 use Rattle.eds_read_types.specs.Listings.{listing_of}
-use Rattle.eds_read_types.specs.Bases.{may_derive, base_named, base_found, bases_of, base_at}
+use Rattle.eds_read_types.specs.Bases.{base_named, base_found, bases_of, base_at}
 use Rattle.eds_read_types.specs.Numbers.{form_or_wide, numbers_of}
-use Rattle.eds_read_types.specs.TableRows.{part_in, is_abstract, container_at, scalar_kind_by, scalar_kind_in, kind_of, table_row, rows_from, table_rows, has_few_entries, are_few}
+use Rattle.eds_read_types.specs.TableRows.{part_in, container_at, scalar_kind_by, scalar_kind_in, kind_of, table_row, rows_from, table_rows, has_few_entries, are_few}
 use Rattle.eds_read_types.specs.TableBreaks.{table_breaks}
 use Rattle.eds_read_types.specs.DuplicateEntry.{repeats, names_above, duplicates_at}
 use Rattle.eds_read_types.specs.declared.sort.Sort.{Sort}
@@ -68,7 +66,7 @@ use Rattle.eds_read_types.specs.EmptyType.{may_be_empty, is_empty_entry, empty_p
 use Rattle.eds_read_types.specs.ListField.{is_told, list_field_at}
 use Rattle.eds_read_types.specs.LengthField.{untold_by, length_field_at}
 use Rattle.eds_read_types.specs.declared.reference_row.Wanted.TheVariants.{NumberType, ContainerType}
-use Rattle.eds_read_types.proofs.NoBreaks.{none_at, least-none, append-none, types-apart, no_repeats}
+use Rattle.eds_read_types.proofs.NoBreaks.{none_at, least-none, types-apart, no_repeats}
 use Rattle.eds_read_types.proofs.Unbroken.{IsUnbroken, unbroken}
 use Rattle.eds_read_types.proofs.SheetPlaces.{at_one, each-none as nowhere, of_types}
 use Rattle.eds_read_types.proofs.Limits.{few_types, length-rows}

@@ -1,4 +1,4 @@
-use Rattle.std.proofs.Common.{◌≡◌, ◌&&◌, length, sym, ap, ◌∙◌}
+use Rattle.std.proofs.Common.{◌&&◌, length, sym, ap, ◌∙◌}
 use Rattle.eds_types.specs.Rows.{chain, list_has}
 use Rattle.eds_read_types.specs.Hollow.{is_void}
 use Rattle.eds_read_types.proofs.HollowFacts.{noted_some, no_void}
