@@ -975,7 +975,7 @@ class Judge:
             if t.kind == "Array":
                 indexes = [i for _, i in t.dims if i is not None]
                 above = [x for i in indexes for x in chain(i)]
-                if not any(x.id in bad12 or x.id in bad15 for x in above) and t.id not in bad:
+                if not any(x.id in bad12 or x.id in bad15 for x in above):
                     if array_count(t) > 65536:
                         words.append("items")
             if words:

@@ -1,3 +1,4 @@
+pub mod Acted
 pub mod ArgumentLists
 pub mod Calculating
 pub mod Conforming
@@ -11,3 +12,4 @@ pub mod Seeking
 pub mod Starting
 pub mod Whole
 pub mod Working
+pub mod Telling

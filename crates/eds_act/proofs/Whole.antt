@@ -152,7 +152,7 @@ module _ (packs : ℕ → Plain → Bool) (t : Table) (pre : List Sent) where
 -- ---- the whole
 
 module _ (t : Table) (number : ℕ) (c : ComponentPlan) (a : Activity) (args : List Plain) where
-  ended : (packs : ℕ → Plain → Bool) → Tells t packs → (end : ActEnd) (is : List Item) (l m : ℕ) (w v : World) → Leads t c end is [] l w m v → exec packs t c l is w ≡ record { end = end; left = m; world = v }
+  pub ended : (packs : ℕ → Plain → Bool) → Tells t packs → (end : ActEnd) (is : List Item) (l m : ℕ) (w v : World) → Leads t c end is [] l w m v → exec packs t c l is w ≡ record { end = end; left = m; world = v }
   unfolding Leads
   ended packs tells Done is l m w v h = ap (λ js. exec packs t c l js w) (sym (append-nil is)) ∙ h packs tells [] ∙ exec_none packs t [] c m v
   ended packs tells (Halted r) is l m w v h = ap (λ js. exec packs t c l js w) (sym (append-nil is)) ∙ h packs tells []

@@ -2,3 +2,4 @@ pub mod Does
 pub mod Running
 pub mod Laws
 pub mod Work
+pub mod Acting

@@ -1,6 +1,7 @@
 //! Activities of components, run over a plan.
 #![tactic(auto)]
 
+mod action;
 mod activity;
 mod arguments;
 mod check;
@@ -20,5 +21,8 @@ mod target;
 mod turn;
 mod work;
 
+pub use action::run_action;
 pub use activity::run_activity;
 pub use ending::ActEnd;
+pub use guard::holds;
+pub use send::waits;

@@ -22,8 +22,8 @@ fn way_of(end: &EndPlan) -> Way
     if end.required { Way::Down } else { Way::Up }
 }
 
-// Whether the transaction is under way.
-fn waits(waiting: &[Outstanding], face: u16, member: u16, name: u32) -> bool
+/// Whether the transaction is among those under way.
+pub fn waits(waiting: &[Outstanding], face: u16, member: u16, name: u32) -> bool
     ensures { result ≡ waits waiting.now face member name }
 {
     for one in waiting {

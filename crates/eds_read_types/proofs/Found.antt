@@ -33,9 +33,9 @@ module _ (trees : List (List Node)) (names : Names) (named : names_in trees ≡ 
       go later None q h = later h
       go later (Some i) q h = row_there text id (q ∙ h)
 
-  found_there : (at : Place) (text : List ℕ) (id : TypeId) → look_up names at text ≡ Some (item.Sort id) → id.0 < length (types names)
+  item_there : (at : Place) (text : List ℕ) (id : TypeId) → look_up names at text ≡ Some (item.Sort id) → id.0 < length (types names)
   unfolding look_up
-  found_there at text id e = first_there (candidates (around_at names at) text) id e
+  item_there at text id e = first_there (candidates (around_at names at) text) id e
 
   pub number_there : (at : Place) (reference : Option (List ℕ)) (id : TypeId) → id_found names at reference ≡ Some id → id.0 < length (types names)
   number_there at None id e = absurd cc
@@ -43,14 +43,18 @@ module _ (trees : List (List Node)) (names : Names) (named : names_in trees ≡ 
     where
       go : (o : Option Item) → look_up names at text ≡ o → (o >>= id_of) ≡ Some id → id.0 < length (types names)
       go None q h = absurd cc
-      go (Some (item.Sort i)) q h = let is : i ≡ id = cc in subst (λ (j : TypeId). j.0 < length (types names)) is (found_there at text i q)
+      go (Some (item.Sort i)) q h = let is : i ≡ id = cc in subst (λ (j : TypeId). j.0 < length (types names)) is (item_there at text i q)
       go (Some (item.Face i)) q h = absurd cc
       go (Some (item.Comp i)) q h = absurd cc
 
--- the type that an entry has in the table is there, where there is any
-pub id_there : (trees : List (List Node)) (names : Names) (at : Place) {n : ℕ} → n < length (types names) → names_in trees ≡ Ok names → (entry_id trees names at).0 < length (types names)
-id_there trees names at {n} some named = go (id_found names at (type_named trees at)) refl
+-- the type that a reference finds in the table is there, where there is any
+pub found_there : (trees : List (List Node)) (names : Names) (at : Place) (reference : Option (List ℕ)) {n : ℕ} → n < length (types names) → names_in trees ≡ Ok names → (id_or_first (id_found names at reference)).0 < length (types names)
+found_there trees names at reference {n} some named = go (id_found names at reference) refl
   where
-    go : (o : Option TypeId) → id_found names at (type_named trees at) ≡ o → (id_or_first o).0 < length (types names)
+    go : (o : Option TypeId) → id_found names at reference ≡ o → (id_or_first o).0 < length (types names)
     go None e = omega (arith, some)
-    go (Some id) e = number_there trees names named at (type_named trees at) id e
+    go (Some id) e = number_there trees names named at reference id e
+
+-- the same of an entry's type
+pub id_there : (trees : List (List Node)) (names : Names) (at : Place) {n : ℕ} → n < length (types names) → names_in trees ≡ Ok names → (entry_id trees names at).0 < length (types names)
+id_there trees names at some named = found_there trees names at (type_named trees at) some named

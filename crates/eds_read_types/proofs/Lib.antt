@@ -9,6 +9,7 @@ pub mod NoBreaks
 mod BaseSteps
 mod NumberSteps
 mod RowSteps
+mod ItemFacts
 mod SeatFacts
 pub mod HollowFacts
 mod ChainSteps

@@ -39,12 +39,12 @@ use Rattle.eds_names.specs.Declarations.{Declaration, kind_of, declared_as, decl
 use Rattle.eds_names.specs.LookUp.{Names, duplicates, names_of, unless, names_in}
 use Rattle.eds_types.specs.Rows.{trailers_in, container_by, entries_in}
 use Rattle.eds_read_types.proofs.SheetPlaces.{Standing, link_of, links}
-use Rattle.eds_read_types.specs.Places.{element, is_element, in_file, held, is_container, is_type, types, type_places}
+use Rattle.eds_read_types.specs.Places.{element, is_element, in_file, held, is_container, is_array, is_type, types, type_places}
 use Rattle.eds_read_types.specs.PartSorts.{part_sort_of}
 use Rattle.eds_read_types.specs.Entries.{trailers_at, is_part, parts_held, entries_at}
 use Rattle.eds_read_types.specs.Bases.{bases_of}
 use Rattle.eds_read_types.specs.Numbers.{numbers_of}
-use Rattle.eds_read_types.specs.TableRows.{part_in, scalar_kind_by, scalar_kind_in, kind_of as kind_at, table_row, rows_from, table_rows, has_few_entries, are_few}
+use Rattle.eds_read_types.specs.TableRows.{part_in, scalar_kind_by, scalar_kind_in, array_kind, kind_of as kind_at, table_row, rows_from, table_rows, has_few_entries, are_few}
 use Rattle.eds_read_types.specs.declared.sort.Sort.{Sort}
 use Rattle.eds_read_types.specs.declared.sort.Sort.TheVariants as sort
 use Rattle.eds_read_types.specs.Sorts.{sort_of}
@@ -822,8 +822,8 @@ few_numbered trees c (d ∷ ds) h = (h.0, few_numbered trees (counted c d.kind) 
 -- ---- the rows of the table
 
 -- a type that is no container has no entries
-no_container : (trees : List (List Node)) (names : Names) (id : ℕ) (at : Place) → is_container trees at ≡ false → container_by (kind_at trees names id at) ≡ None
-no_container trees names id at e = rw e (in_file_or_not (slice_get trees at.file))
+pub no_container : (trees : List (List Node)) (names : Names) (id : ℕ) (at : Place) → is_container trees at ≡ false → container_by (kind_at trees names id at) ≡ None
+no_container trees names id at e = rw e (go (is_array trees at) refl)
   where
     scalar : (t : List Node) (s : Option Sort) → container_by (scalar_kind_by s t at.node (numbers_of trees (type_places names) (bases_of trees names) id)) ≡ None
     scalar t None = refl
@@ -839,6 +839,10 @@ no_container trees names id at e = rw e (in_file_or_not (slice_get trees at.file
     in_file_or_not : (o : Option (List Node)) → container_by (scalar_kind_in o at.node (numbers_of trees (type_places names) (bases_of trees names) id)) ≡ None
     in_file_or_not None = refl
     in_file_or_not (Some t) = scalar t (sort_of (name_at t at.node))
+
+    go : (b : Bool) → is_array trees at ≡ b → container_by (if b then array_kind trees names at else scalar_kind_in (slice_get trees at.file) at.node (numbers_of trees (type_places names) (bases_of trees names) id)) ≡ None
+    go true q = refl
+    go false q = in_file_or_not (slice_get trees at.file)
 
 few_row : (trees : List (List Node)) (names : Names) (id : ℕ) (d : Declared) → HasFew trees d.place → has_few_entries (table_row trees names id d) ≡ true
 few_row trees names id d h = go (is_container trees d.place) refl

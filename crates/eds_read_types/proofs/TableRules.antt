@@ -3,7 +3,7 @@ use Rattle.std.proofs.Common.{◌≡◌, ℕ, zero, suc, ◌+◌, ◌<◌, ◌�
 use Rattle.std.specs.Prelude.{nat_le, nat_lt, is_some, IsSome, option_to_list, codes, not, Ok, if◌then◌else◌}
 use Rattle.std.specs.List.{AllByRecursion, filter_map, flat_map, list_all}
 use Rattle.std.proofs.Common.{leb-true}
-use Rattle.std.proofs.lemmas.Bool.{and_parts, ltb-false}
+use Rattle.std.proofs.lemmas.Bool.{and_parts, leb-false, ltb-false}
 use Rattle.std.proofs.lemmas.Grind.{flat_map-append}
 use Rattle.std.proofs.lemmas.List.Elements.{filter_map-append}
 use Rattle.std.proofs.lemmas.List.Folds.{list_any-append}
@@ -36,7 +36,7 @@ use Rattle.eds_graph.specs.Ways.{is_circular, is_endless}
 use Rattle.eds_graph.specs.Search.{Has as is_one_of}
 use Rattle.eds_types.specs.Rules.{AreDistinct, IsContainer, IsListing, KindKeeps, HasKind, DerivesFrom, IsNested, IsCounted, name_of, KeepsRules}
 use Rattle.eds_read_types.specs.declared.numbers.FormAndDomain.{FormAndDomain}
-use Rattle.eds_read_types.specs.Places.{element, is_element, is_container, is_sub_range, is_number, attribute, elements, types, type_places}
+use Rattle.eds_read_types.specs.Places.{element, is_element, is_container, is_array, is_sub_range, is_number, attribute, elements, types, type_places}
 use Rattle.eds_read_types.specs.References.{references, row_for, judged_text, judged_by, judged_at}
 use Rattle.eds_read_types.specs.ReadTypes.{id_of, id_found}
 use Rattle.eds_read_types.specs.declared.part_sort.PartSort.{PartSort}
@@ -45,11 +45,11 @@ use Rattle.eds_read_types.specs.Entries.{sort_at, entries_at, trailers_at, own_p
 use Rattle.eds_read_types.specs.Parts.{parts_in}
 use Rattle.eds_read_types.specs.Seats.{seats_of}
 use Rattle.eds_read_types.specs.ListFields.{field_seat, field_container, field_place}
-use Rattle.eds_read_types.specs.PartRows.{entry_id, padding_bits, unread, plain_part, list_part, part_by}
+use Rattle.eds_read_types.specs.PartRows.{entry_id, id_or_first, padding_bits, unread, plain_part, list_part, part_by}
 use Rattle.eds_read_types.specs.Listings.{listing_of}
 use Rattle.eds_read_types.specs.Bases.{base_named, base_found, bases_of, base_at}
 use Rattle.eds_read_types.specs.Numbers.{form_or_wide, numbers_of}
-use Rattle.eds_read_types.specs.TableRows.{part_in, container_at, scalar_kind_by, scalar_kind_in, kind_of, table_row, rows_from, table_rows, has_few_entries, are_few}
+use Rattle.eds_read_types.specs.TableRows.{part_in, container_at, scalar_kind_by, scalar_kind_in, array_kind, kind_of, table_row, rows_from, table_rows, has_few_entries, are_few}
 use Rattle.eds_read_types.specs.TableBreaks.{table_breaks}
 use Rattle.eds_read_types.specs.DuplicateEntry.{repeats, names_above, duplicates_at}
 use Rattle.eds_read_types.specs.declared.sort.Sort.{Sort}
@@ -62,16 +62,19 @@ use Rattle.eds_read_types.specs.WrongKind.{kind_by, wrong_kind_by, wrong_kind_at
 use Rattle.eds_read_types.specs.Nesting.{course_of, meets_base_cycle}
 use Rattle.eds_read_types.specs.TypeCycle.{type_cycle_at}
 use Rattle.eds_read_types.specs.LimitNesting.{is_too_deep, nesting_at}
-use Rattle.eds_read_types.specs.EmptyType.{may_be_empty, is_empty_entry, empty_part_at}
+use Rattle.eds_read_types.specs.EmptyType.{may_be_empty, is_empty_entry, empty_part_at, item_in, empty_item_by, empty_item_at}
+use Rattle.eds_read_types.specs.Items.{items_at, row_items}
+use Rattle.eds_read_types.specs.LimitItems.{is_too_large, items_limit_at}
+use Rattle.eds_read_types.proofs.ItemFacts.{row_some}
 use Rattle.eds_read_types.specs.ListField.{is_told, list_field_at}
 use Rattle.eds_read_types.specs.LengthField.{untold_by, length_field_at}
 use Rattle.eds_read_types.specs.declared.reference_row.Wanted.TheVariants.{NumberType, ContainerType}
 use Rattle.eds_read_types.proofs.NoBreaks.{none_at, least-none, types-apart, no_repeats}
 use Rattle.eds_read_types.proofs.Unbroken.{IsUnbroken, unbroken}
 use Rattle.eds_read_types.proofs.SheetPlaces.{at_one, each-none as nowhere, of_types}
-use Rattle.eds_read_types.proofs.Limits.{few_types, length-rows}
+use Rattle.eds_read_types.proofs.Limits.{few_types, length-rows, no_container}
 use Rattle.eds_read_types.proofs.LawFacts.{name_apart, enumerated_unbroken}
-use Rattle.eds_read_types.proofs.PlainRules.{IsSolid, EntryKeeps, IsPlainKind, KeepsRow, ArePlainRows, own_placed, keeps_by_rows}
+use Rattle.eds_read_types.proofs.PlainRules.{IsSolid, EntryKeeps, IsPlainArray, IsPlainKind, KeepsRow, ArePlainRows, own_placed, keeps_by_rows}
 use Rattle.eds_read_types.proofs.PartOrder.{by_lists}
 use Rattle.eds_read_types.proofs.RowRules.{AreLeveled}
 use Rattle.eds_read_types.proofs.SequenceFacts.{OwnDiffer, AreDisjoint, name_mark, parts_above, has-parts, disjoint-by}
@@ -80,12 +83,12 @@ use Rattle.eds_nesting.specs.Families.{families, family, containers, types_of, t
 use Rattle.eds_read_types.specs.LimitFamily.{family_size, family_at}
 use Rattle.eds_read_types.proofs.LevelFacts.{HasLevels}
 use Rattle.eds_read_types.proofs.NestingFacts.{no_base_cycle, course-ends, rank as rank_in, few_ranks, nested, base_ranks, part_named}
-use Rattle.eds_read_types.proofs.EmptyFacts.{has_bits}
+use Rattle.eds_read_types.proofs.EmptyFacts.{has_bits, closed}
 use Rattle.eds_read_types.proofs.HollowFacts.{solid}
 use Rattle.eds_read_types.proofs.ListFieldFacts.{counted}
 use Rattle.eds_read_types.proofs.PartFacts.{mapped_there, placed_all, no_item, part_none}
 use Rattle.eds_read_types.proofs.PartNames.{among_has, among_parts, element_names, row_names as parts_named, names_distinct, padding_keeps}
-use Rattle.eds_read_types.proofs.Found.{id_there, number_there}
+use Rattle.eds_read_types.proofs.Found.{id_there, found_there, number_there}
 use Rattle.eds_read_types.proofs.SortFacts.{sort_named, binary_keeps}
 use Rattle.eds_read_types.proofs.ChainFacts.{each-none, over-none, unmet, level}
 use Rattle.eds_read_types.proofs.NumberFacts.{HasNumbers, IsNoContainer, known_bases, base_there, base_is_sub, few_levels, less_levels, domains, derives_from}
@@ -167,23 +170,8 @@ sub_is_number trees at h = rw h (true_or (is_element trees (codes "IntegerDataTy
 number_kind : (trees : List (List Node)) (names : Names) (id : ℕ) (at : Place) → is_number trees at ≡ true → kind_of trees names id at ≡ kind.Int (numbers_of trees (type_places names) (bases_of trees names) id).form (numbers_of trees (type_places names) (bases_of trees names) id).spans
 number_kind trees names id at h =
     let container : is_container trees at ≡ false = number_apart (node_name (element trees at)) (codes "ContainerDataType") refl refl h in
-    rw container (in_tree_number (slice_get trees at.file) at.node (numbers_of trees (type_places names) (bases_of trees names) id) h)
-
--- whatever is no container has no parts
-pub scalar_by : (o : Option (List Node)) (n : ℕ) (numbers : FormAndDomain) → container_by (scalar_kind_in o n numbers) ≡ None
-scalar_by None n numbers = refl
-scalar_by (Some t) n numbers = go (sort_of (name_at t n))
-  where
-    go : (s : Option Sort) → container_by (scalar_kind_by s t n numbers) ≡ None
-    go None = refl
-    go (Some sort.Integer) = refl
-    go (Some sort.Enumerated) = refl
-    go (Some sort.Boolean) = refl
-    go (Some sort.Text) = refl
-    go (Some sort.Binary) = refl
-    go (Some sort.Array) = refl
-    go (Some sort.SubRange) = refl
-    go (Some sort.Container) = refl
+    let array : is_array trees at ≡ false = number_apart (node_name (element trees at)) (codes "ArrayDataType") refl refl h in
+    rw container (rw array (in_tree_number (slice_get trees at.file) at.node (numbers_of trees (type_places names) (bases_of trees names) id) h))
 
 -- ---- bases
 
@@ -579,12 +567,57 @@ module _ (trees : List (List Node)) (names : Names) (word : Option (List ℕ)) (
       go (Some sort.SubRange) = tt
       go (Some sort.Container) = tt
 
-  scalar_row : (id : ℕ) (d : Declared) → slice_get (types names) id ≡ Some d → is_container trees d.place ≡ false → KeepsRow (table_rows trees names) rank id (table_row trees names id d)
-  scalar_row id d there is =
+  scalar_row : (id : ℕ) (d : Declared) → slice_get (types names) id ≡ Some d → is_container trees d.place ≡ false → is_array trees d.place ≡ false → KeepsRow (table_rows trees names) rank id (table_row trees names id d)
+  scalar_row id d there is other =
       record {
-        kind_keeps = rw is (scalar_keeps id d there is);
+        kind_keeps = rw is (rw other (scalar_keeps id d there is));
         derives = λ base e. derives_number id d there base e;
-        plain = rw is (plain_scalar id (slice_get trees d.place.file) d.place.node (numbers_of trees (type_places names) (bases_of trees names) id));
+        plain = rw is (rw other (plain_scalar id (slice_get trees d.place.file) d.place.node (numbers_of trees (type_places names) (bases_of trees names) id)));
+      }
+
+  -- ---- arrays
+
+  -- the type of an array's items
+  abbrev item_id : Declared → TypeId
+  item_id d = id_or_first (id_found names d.place (attribute trees (codes "dataTypeRef") d.place))
+
+  item_there : (id : ℕ) (d : Declared) → slice_get (types names) id ≡ Some d → (item_id d).0 < length (table_rows trees names)
+  item_there id d there = subst (λ n. (item_id d).0 < n) (sym (length-rows trees names 0 (types names))) (found_there trees names d.place (attribute trees (codes "dataTypeRef") d.place) (slice_get_within (types names) id d there) named)
+
+  array_is : (id : ℕ) (d : Declared) → slice_get (types names) id ≡ Some d → is_container trees d.place ≡ false → is_array trees d.place ≡ true → slice_get (table_rows trees names) id ≡ Some (record { name = d.name; base = base_found trees names d.place; kind = array_kind trees names d.place })
+  array_is id d there is arr = row_of id d there ∙ rw is (rw arr refl)
+
+  array_plain : (id : ℕ) (d : Declared) → slice_get (types names) id ≡ Some d → is_container trees d.place ≡ false → is_array trees d.place ≡ true → IsPlainArray (table_rows trees names) rank id (item_id d).0
+  array_plain id d there is arr =
+      let place = place_there (types names) id d there in
+      let row = array_is id d there is arr in
+      let broken = over-none (empty_item_at trees (table_rows trees names)) 0 (type_places names) u.empty_items id d.place place id (omega arith) in
+      let bits = unmet (may_be_empty (table_rows trees names) (item_id d).0) _ (sym (ap (λ o. empty_item_by (table_rows trees names) d.place (item_in o)) row) ∙ broken) in
+      let is_closed = closed (open_of (table_rows trees names) (item_id d).0) (has_bits (table_rows trees names) (item_id d).0 bits).1 in
+      record {
+        nests = nested (table_rows trees names) levels circleless id (record { name = d.name; base = base_found trees names d.place; kind = array_kind trees names d.place }) row (item_id d).0 (item_there id d there) (inl refl);
+        solid = (solid_type (item_id d).0 (item_there id d there) is_closed bits).0;
+        closed = is_closed;
+      }
+
+  array_keeps : (id : ℕ) (d : Declared) → slice_get (types names) id ≡ Some d → is_container trees d.place ≡ false → is_array trees d.place ≡ true → KindKeeps (array_kind trees names d.place)
+  array_keeps id d there is arr =
+      let place = place_there (types names) id d there in
+      let row = array_is id d there is arr in
+      let broken = over-none (items_limit_at trees (table_rows trees names)) 0 (type_places names) u.items id d.place place id (omega arith) in
+      let few = unmet (is_too_large (slice_get (table_rows trees names) id)) _ broken in
+      let low : nat_lt 65536 (row_items (items_at trees names d.place)) ≡ false = sym (ap is_too_large row) ∙ few in
+      (row_some (items_at trees names d.place), at_most (row_items (items_at trees names d.place)) low)
+    where
+      at_most : (n : ℕ) → nat_lt 65536 n ≡ false → n ≤ 65536
+      at_most n h = let past = leb-false 65537 n h in omega (arith, past)
+
+  array_row : (id : ℕ) (d : Declared) → slice_get (types names) id ≡ Some d → is_container trees d.place ≡ false → is_array trees d.place ≡ true → KeepsRow (table_rows trees names) rank id (table_row trees names id d)
+  array_row id d there is arr =
+      record {
+        kind_keeps = rw is (rw arr (array_keeps id d there is arr));
+        derives = λ base e. derives_number id d there base e;
+        plain = rw is (rw arr (array_plain id d there is arr));
       }
 
   -- ---- all rows
@@ -592,13 +625,17 @@ module _ (trees : List (List Node)) (names : Names) (word : Option (List ℕ)) (
   keeps_row : (id : ℕ) (d : Declared) → slice_get (types names) id ≡ Some d → has_few_entries (table_row trees names id d) ≡ true → KeepsRow (table_rows trees names) rank id (table_row trees names id d)
   keeps_row id d there few = go (is_container trees d.place) refl
     where
+      by_array : is_container trees d.place ≡ false → (b : Bool) → is_array trees d.place ≡ b → KeepsRow (table_rows trees names) rank id (table_row trees names id d)
+      by_array is true arr = array_row id d there is arr
+      by_array is false arr = scalar_row id d there is arr
+
       go : (b : Bool) → is_container trees d.place ≡ b → KeepsRow (table_rows trees names) rank id (table_row trees names id d)
       go true is =
           let both : (nat_le (length (map (part_in trees names id) (entries_at trees d.place))) 32767 && nat_le (length (map (part_in trees names id) (trailers_at trees d.place))) 32767) ≡ true = rw is at few in
           let short = and_parts (nat_le (length (map (part_in trees names id) (entries_at trees d.place))) 32767) (nat_le (length (map (part_in trees names id) (trailers_at trees d.place))) 32767) both in
           let kind_is : kind_of trees names id d.place ≡ kind.Con (container_at trees names id d.place) = rw is refl in
           subst (λ k. KeepsRow (table_rows trees names) rank id (record { name = d.name; base = base_found trees names d.place; kind = k })) (sym kind_is) (container_row id d there is (subst (λ n. n ≤ 32767) (length-map (entries_at trees d.place) (part_in trees names id)) (leb-true _ 32767 short.0), subst (λ n. n ≤ 32767) (length-map (trailers_at trees d.place) (part_in trees names id)) (leb-true _ 32767 short.1)))
-      go false is = scalar_row id d there is
+      go false is = by_array is (is_array trees d.place) refl
 
   -- ---- names along chains
 
@@ -613,7 +650,7 @@ module _ (trees : List (List Node)) (names : Names) (word : Option (List ℕ)) (
     where
       by_kind : (d : Declared) → slice_get (types names) k ≡ Some d → (b : Bool) → is_container trees d.place ≡ b → (container_of (table_rows trees names) k ≡ None) ⊎ IsContainerRow k
       by_kind d there true is = inr (record { declared = d; there = there; is = is; container = ap container_in (row_of k d there) ∙ rw is refl })
-      by_kind d there false is = inl (ap container_in (row_of k d there) ∙ rw is (scalar_by (slice_get trees d.place.file) d.place.node (numbers_of trees (type_places names) (bases_of trees names) k)))
+      by_kind d there false is = inl (ap container_in (row_of k d there) ∙ no_container trees names k d.place is)
 
       go : (o : Option TypeRow) → slice_get (table_rows trees names) k ≡ o → (container_of (table_rows trees names) k ≡ None) ⊎ IsContainerRow k
       go None q = inl (ap container_in q)

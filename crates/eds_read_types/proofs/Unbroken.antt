@@ -15,6 +15,7 @@ use Rattle.eds_read_types.specs.LimitChain.{breaks_chain}
 use Rattle.eds_read_types.specs.TypeCycle.{breaks_type_cycle}
 use Rattle.eds_read_types.specs.LimitFamily.{breaks_family}
 use Rattle.eds_read_types.specs.LimitNesting.{breaks_nesting}
+use Rattle.eds_read_types.specs.LimitItems.{items_limit_at}
 use Rattle.eds_read_types.specs.BadEncoding.{breaks_encoding}
 use Rattle.eds_read_types.specs.EmptyRange.{breaks_range, breaks_sub_range}
 use Rattle.eds_read_types.specs.BadEnumeration.{breaks_enumeration}
@@ -55,6 +56,7 @@ pub record IsUnbroken (trees : List (List Node)) (names : Names) (word : Option 
   pub type_cycles : breaks_type_cycle trees names ≡ []
   pub families : breaks_family trees names ≡ []
   pub nestings : breaks_nesting trees names ≡ []
+  pub items : at_rows items_limit_at trees names ≡ []
   pub encodings : breaks_encoding trees names ≡ []
   pub ranges : breaks_range trees names ≡ []
   pub subs : breaks_sub_range trees names ≡ []
@@ -85,6 +87,7 @@ unbroken trees names word h =
       type_cycles = bases.1.1.0;
       families = bases.1.1.1.0;
       nestings = bases.1.1.1.1.0;
+      items = bases.1.1.1.1.1.0;
       encodings = scalars.0;
       ranges = scalars.1.0;
       subs = scalars.1.1.0;

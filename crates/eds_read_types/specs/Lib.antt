@@ -26,6 +26,7 @@ pub mod DuplicateEntry
 pub mod Calibrators
 pub mod Unbroken
 pub mod Numbers
+pub mod Items
 pub mod Seats
 pub mod ListFields
 pub mod PartRows
@@ -35,6 +36,7 @@ pub mod Parts
 pub mod Nesting
 pub mod TypeCycle
 pub mod LimitNesting
+pub mod LimitItems
 pub mod Hollow
 pub mod EmptyType
 pub mod ListField

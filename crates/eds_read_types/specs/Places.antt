@@ -29,6 +29,10 @@ own_name trees at = unwrap_or (attribute trees (codes "name") at) []
 abbrev pub is_container : List (List Node) → Place → Bool
 is_container trees at = is_element trees (codes "ContainerDataType") at
 
+-- it is an array
+abbrev pub is_array : List (List Node) → Place → Bool
+is_array trees at = is_element trees (codes "ArrayDataType") at
+
 -- it is a sub-range
 abbrev pub is_sub_range : List (List Node) → Place → Bool
 is_sub_range trees at = is_element trees (codes "SubRangeDataType") at
@@ -36,6 +40,10 @@ is_sub_range trees at = is_element trees (codes "SubRangeDataType") at
 -- it is an integer type or a sub-range
 abbrev pub is_number : List (List Node) → Place → Bool
 is_number trees at = is_element trees (codes "IntegerDataType") at || is_sub_range trees at
+
+-- it is an integer type, a sub-range, or an enumerated or boolean type
+abbrev pub is_index : List (List Node) → Place → Bool
+is_index trees at = is_number trees at || (is_element trees (codes "EnumeratedDataType") at || is_element trees (codes "BooleanDataType") at)
 
 -- an element of the same file
 abbrev pub in_file : Place → ℕ → Place

@@ -1,5 +1,5 @@
 -- The references to types that a sheet has, and what they find.
-use Rattle.std.specs.Prelude.{ℕ, List, [], ◌∷◌, ◌++◌, length, codes, Bool, true, if◌then◌else◌, Option, Some, None, slice_get}
+use Rattle.std.specs.Prelude.{ℕ, List, [], ◌∷◌, ◌++◌, length, codes, Bool, true, if◌then◌else◌, Option, Some, None, slice_get, is_some}
 use Rattle.std.specs.List.{flat_map}
 use Rattle.eds_base.specs.Reading.{◌>>=◌, same}
 use Rattle.eds_base.specs.declared.ids.Place.{Place}
@@ -13,9 +13,9 @@ use Rattle.eds_names.specs.declared.declared.Item.{Item}
 use Rattle.eds_names.specs.declared.declared.Item.TheVariants as item
 use Rattle.eds_names.specs.LookUp.{Names, look_up}
 use Rattle.eds_read_types.specs.declared.reference_row.Wanted.{Wanted}
-use Rattle.eds_read_types.specs.declared.reference_row.Wanted.TheVariants.{AnyType, NumberType, ContainerType}
+use Rattle.eds_read_types.specs.declared.reference_row.Wanted.TheVariants.{AnyType, NumberType, ContainerType, IndexType}
 use Rattle.eds_read_types.specs.declared.reference_row.ReferenceRow.{ReferenceRow}
-use Rattle.eds_read_types.specs.Places.{element, is_container, is_number, attribute, elements, type_places}
+use Rattle.eds_read_types.specs.Places.{element, is_container, is_number, is_index, attribute, elements, type_places}
 
 -- ---- refusals at a place
 
@@ -47,6 +47,7 @@ references =
     ∷ reference (codes "ErrorControlEntry") (codes "type") AnyType
     ∷ reference (codes "TypeConstraint") (codes "type") AnyType
     ∷ reference (codes "ArrayDataType") (codes "dataTypeRef") AnyType
+    ∷ reference (codes "Dimension") (codes "indexTypeRef") IndexType
     ∷ reference (codes "SubRangeDataType") (codes "baseType") NumberType
     ∷ reference (codes "ContainerDataType") (codes "baseType") ContainerType
     ∷ []
@@ -74,9 +75,16 @@ abbrev pub judged_text : ReferenceJudgement → Place → Wanted → Option (Lis
 judged_text judge at wanted None = []
 judged_text judge at wanted (Some text) = judge at text wanted
 
+-- the text by which an element refers; a dimension that has a size refers to no index type
+abbrev pub text_by : Wanted → (size text : Option (List ℕ)) → Option (List ℕ)
+text_by AnyType size text = text
+text_by NumberType size text = text
+text_by ContainerType size text = text
+text_by IndexType size text = if is_some size then None else text
+
 abbrev pub judged_by : ReferenceJudgement → List (List Node) → Place → Option Reference → List Refusal
 judged_by judge trees at None = []
-judged_by judge trees at (Some row) = judged_text judge at row.wanted (attribute trees row.attribute at)
+judged_by judge trees at (Some row) = judged_text judge at row.wanted (text_by row.wanted (attribute trees (codes "size") at) (attribute trees row.attribute at))
 
 -- at the element at a place
 abbrev pub judged_at : ReferenceJudgement → List (List Node) → Place → List Refusal
@@ -103,3 +111,4 @@ abbrev pub admits : List (List Node) → Wanted → Place → Bool
 admits trees AnyType found = true
 admits trees NumberType found = is_number trees found
 admits trees ContainerType found = is_container trees found
+admits trees IndexType found = is_index trees found

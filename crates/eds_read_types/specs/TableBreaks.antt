@@ -12,6 +12,7 @@ use Rattle.eds_read_types.specs.LimitChain.{breaks_chain}
 use Rattle.eds_read_types.specs.TypeCycle.{breaks_type_cycle}
 use Rattle.eds_read_types.specs.LimitFamily.{breaks_family}
 use Rattle.eds_read_types.specs.LimitNesting.{breaks_nesting}
+use Rattle.eds_read_types.specs.LimitItems.{breaks_items}
 use Rattle.eds_read_types.specs.BadEncoding.{breaks_encoding}
 use Rattle.eds_read_types.specs.EmptyRange.{breaks_range, breaks_sub_range}
 use Rattle.eds_read_types.specs.BadEnumeration.{breaks_enumeration}
@@ -24,7 +25,7 @@ use Rattle.eds_read_types.specs.LengthField.{breaks_length}
 abbrev pub rules : List (List Node) → Names → (word : Option (List ℕ)) → List (List (List Refusal))
 rules trees names word =
     (breaks_unresolved trees names word ∷ breaks_kind trees names word ∷ breaks_face_unresolved trees names ∷ breaks_face_kind trees names ∷ [])
-    ∷ (breaks_cycle trees names ∷ breaks_chain trees names ∷ breaks_type_cycle trees names ∷ breaks_family trees names ∷ breaks_nesting trees names ∷ [])
+    ∷ (breaks_cycle trees names ∷ breaks_chain trees names ∷ breaks_type_cycle trees names ∷ breaks_family trees names ∷ breaks_nesting trees names ∷ breaks_items trees names ∷ [])
     ∷ (breaks_encoding trees names ∷ breaks_range trees names ∷ breaks_sub_range trees names ∷ breaks_enumeration trees names ∷ [])
     ∷ (breaks_empty trees names word ∷ breaks_duplicate trees names ∷ breaks_list_field trees names ∷ breaks_length trees names ∷ breaks_face_open trees names ∷ [])
     ∷ []

@@ -15,10 +15,12 @@ use Rattle.eds_types.specs.declared.row.Container.{Container}
 use Rattle.eds_types.specs.declared.row.Part.{Part}
 use Rattle.eds_types.specs.Rows.{container_by, entries_in, trailers_in}
 use Rattle.eds_read_types.specs.declared.numbers.FormAndDomain.{FormAndDomain}
-use Rattle.eds_read_types.specs.Places.{attribute, is_container, types, type_places}
+use Rattle.eds_read_types.specs.Places.{attribute, is_container, is_array, types, type_places}
 use Rattle.eds_read_types.specs.Entries.{entries_at, trailers_at}
 use Rattle.eds_read_types.specs.Seats.{seats_of}
-use Rattle.eds_read_types.specs.PartRows.{part_at}
+use Rattle.eds_read_types.specs.PartRows.{id_or_first, part_at}
+use Rattle.eds_read_types.specs.ReadTypes.{id_found}
+use Rattle.eds_read_types.specs.Items.{items_at, row_items}
 use Rattle.eds_read_types.specs.Forms.{int_form_of, bool_form_of}
 use Rattle.eds_read_types.specs.Listings.{listing_of}
 use Rattle.eds_read_types.specs.declared.sort.Sort.{Sort}
@@ -67,10 +69,15 @@ abbrev pub scalar_kind_in : Option (List Node) → ℕ → FormAndDomain → Kin
 scalar_kind_in None n numbers = kind.Int numbers.form numbers.spans
 scalar_kind_in (Some t) n numbers = scalar_kind t n numbers
 
+-- an array, by the type of its items and their number
+abbrev pub array_kind : List (List Node) → Names → Place → Kind
+array_kind trees names at = kind.Arr (id_or_first (id_found names at (attribute trees (codes "dataTypeRef") at))) (row_items (items_at trees names at))
+
 -- what the type at a place is, of which the number among all types is given
 abbrev pub kind_of : List (List Node) → Names → ℕ → Place → Kind
 kind_of trees names id at =
     if is_container trees at then kind.Con (container_at trees names id at) else
+    if is_array trees at then array_kind trees names at else
     scalar_kind_in (slice_get trees at.file) at.node (numbers_of trees (type_places names) (bases_of trees names) id)
 
 -- a declared type as a row

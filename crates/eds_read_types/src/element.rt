@@ -3,7 +3,7 @@
 ghost use Rattle.std.specs.Prelude.{◌≡◌, ◌++◌, OnOk, IfOk, option_map, slice_get};
 ghost use Rattle.std.specs.Option.{option_copied};
 ghost use Rattle.eds_tree.specs.Trees.{node_name, node_children};
-ghost use Rattle.eds_read_types.specs.Places.{element as element_of, is_element as is_named, attribute as attribute_of, own_name as own_name_of, is_container as is_container_at, is_sub_range as is_sub_range_at, is_number as is_number_at, held};
+ghost use Rattle.eds_read_types.specs.Places.{element as element_of, is_element as is_named, attribute as attribute_of, own_name as own_name_of, is_container as is_container_at, is_sub_range as is_sub_range_at, is_number as is_number_at, is_index as is_index_at, is_array as is_array_at, held};
 ghost use Rattle.eds_read_types.specs.Held.{child_named, number_at};
 
 use eds_base::{Memory, Place};
@@ -71,6 +71,22 @@ pub(crate) fn is_number(trees: &[Tree], at: Place) -> bool
     ensures { result ≡ is_number_at trees.now at }
 {
     is_element(trees, "IntegerDataType", at) || is_sub_range(trees, at)
+}
+
+/// Whether it is an integer type, a sub-range, or an enumerated or boolean type.
+pub(crate) fn is_index(trees: &[Tree], at: Place) -> bool
+    ensures { result ≡ is_index_at trees.now at }
+{
+    is_number(trees, at)
+        || is_element(trees, "EnumeratedDataType", at)
+        || is_element(trees, "BooleanDataType", at)
+}
+
+/// Whether it is an array.
+pub(crate) fn is_array(trees: &[Tree], at: Place) -> bool
+    ensures { result ≡ is_array_at trees.now at }
+{
+    is_element(trees, "ArrayDataType", at)
 }
 
 /// The text of an attribute of it.

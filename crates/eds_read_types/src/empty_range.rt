@@ -67,7 +67,7 @@ impl PlaceRule for EmptyRange {
 // ---- sub-ranges
 
 /// Whether the type at a place has no form.
-fn lacks_form_at(trees: &[Tree], at: Option<Place>) -> bool
+pub(crate) fn lacks_form_at(trees: &[Tree], at: Option<Place>) -> bool
     ensures { result ≡ lacks_form_in trees.now at }
 {
     let at = match at {

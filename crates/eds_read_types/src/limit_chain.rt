@@ -32,7 +32,7 @@ fn bases_meet_cycle(graph: &BaseGraph, most: usize, id: usize) -> bool
 }
 
 /// Whether a type or one of its bases is its own base.
-fn meets_cycle(graph: &BaseGraph, id: usize) -> bool
+pub(crate) fn meets_cycle(graph: &BaseGraph, id: usize) -> bool
     ensures { result ≡ meets_cycle_of graph.now.bases.now id }
 {
     is_cyclic(graph, id) || bases_meet_cycle(graph, graph.bases.len(), id)

@@ -108,7 +108,7 @@ fn labels_differ(alloc: Global, entries: &[(Text, i128)]) -> Result<bool, Memory
 }
 
 /// Puts a value among those before it, and answers whether it is a new one.
-fn add_value(before: &mut IndexSet<i128>, value: i128) -> Result<bool, Memory>
+pub(crate) fn add_value(before: &mut IndexSet<i128>, value: i128) -> Result<bool, Memory>
     ensures fresh { IfOk result (λ b. b ≡ not (list_any (int_eq value) before.old.keys)) }
     ensures before { OnOk result ((q : ℤ) → list_any (int_eq q) before.new.keys ≡ list_any (int_eq q) (value ∷ before.old.keys)) }
 {

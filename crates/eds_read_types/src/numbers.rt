@@ -97,7 +97,11 @@ fn own_numbers(alloc: Global, tree: &Tree, node: u32) -> Result<FormAndDomain, M
 }
 
 /// The numbers of the integer type at a place.
-fn own_numbers_at(alloc: Global, trees: &[Tree], at: Option<Place>) -> Result<FormAndDomain, Memory>
+pub(crate) fn own_numbers_at(
+    alloc: Global,
+    trees: &[Tree],
+    at: Option<Place>,
+) -> Result<FormAndDomain, Memory>
     ensures { IfOk result (λ n. n ≡ own_numbers_in trees.now at) }
 {
     let at = match at {
@@ -111,7 +115,7 @@ fn own_numbers_at(alloc: Global, trees: &[Tree], at: Option<Place>) -> Result<Fo
 }
 
 /// The range of the type at a place.
-fn range_at(trees: &[Tree], at: Option<Place>) -> Range
+pub(crate) fn range_at(trees: &[Tree], at: Option<Place>) -> Range
     ensures { result ≡ range_in_tree trees.now at }
 {
     let at = match at {
@@ -125,7 +129,7 @@ fn range_at(trees: &[Tree], at: Option<Place>) -> Range
 }
 
 /// The numbers of a sub-range, from those of its base.
-fn narrowed_numbers(
+pub(crate) fn narrowed_numbers(
     alloc: Global,
     range: Range,
     base: FormAndDomain,

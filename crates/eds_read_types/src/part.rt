@@ -1,7 +1,7 @@
 //! The parts of containers as rows hold them.
 
 ghost use Rattle.std.specs.Prelude.{◌≡◌, IfOk, option_map};
-ghost use Rattle.eds_read_types.specs.PartRows.{entry_type as entry_type_of, entry_id as entry_id_of, padding_size as padding_size_of, padding_size_in, padding_bits as padding_bits_of, unread as unread_part, plain_part as plain_part_of, list_part as list_part_of, part_at as part_of};
+ghost use Rattle.eds_read_types.specs.PartRows.{entry_type as entry_type_of, id_or_first as id_or_first_of, entry_id as entry_id_of, padding_size as padding_size_of, padding_size_in, padding_bits as padding_bits_of, unread as unread_part, plain_part as plain_part_of, list_part as list_part_of, part_at as part_of};
 
 use crate::element::{attribute, own_name};
 use crate::entry::{sort_at, type_named};
@@ -22,15 +22,22 @@ fn entry_type(alloc: Global, sheet: &NamedTrees, at: Place) -> Result<Option<Typ
     id_found(alloc, sheet, at, type_named(sheet.trees, at))
 }
 
-/// The same, the first type's where it names none.
+/// A number of a type, the first type's where there is none.
+pub(crate) fn id_or_first(id: Option<TypeId>) -> TypeId
+    ensures { result ≡ id_or_first_of id }
+{
+    match id {
+        None => TypeId(0),
+        Some(id) => id,
+    }
+}
+
+/// The number of the type that a part names, the first type's where it names none.
 fn entry_id(alloc: Global, sheet: &NamedTrees, at: Place) -> Result<TypeId, Memory>
     ensures { IfOk result (λ id. id ≡ entry_id_of sheet.now.trees.now sheet.now.space.now at) }
 {
     let found = entry_type(alloc, sheet, at)?;
-    match found {
-        None => Ok(TypeId(0)),
-        Some(id) => Ok(id),
-    }
+    Ok(id_or_first(found))
 }
 
 /// An entry by its name and its type.

@@ -8,11 +8,11 @@ ghost use Rattle.eds_base.specs.Refusals.{least};
 ghost use Rattle.eds_tree.specs.declared.tree.Node.{Node as node};
 ghost use Rattle.eds_names.specs.LookUp.{Names};
 ghost use Rattle.eds_read_types.specs.declared.reference_row.Wanted.{Wanted as wanted_type};
-ghost use Rattle.eds_read_types.specs.References.{type_of as type_of_item, type_found as type_found_by, admits as admits_type, judged_text, at_references};
+ghost use Rattle.eds_read_types.specs.References.{type_of as type_of_item, type_found as type_found_by, admits as admits_type, text_by as text_by_wanted, judged_text, at_references};
 ghost use Rattle.eds_read_types.specs.ReadTypes.{id_of, id_found as id_found_by, word_type as word_type_of};
 
 use crate::breaks::{PlaceRule, least_over};
-use crate::element::{attribute, is_container, is_number, name_at};
+use crate::element::{attribute, is_container, is_index, is_number, name_at};
 use crate::named_trees::NamedTrees;
 use crate::reference_row::{Wanted, row_for};
 use eds_base::{Memory, Place, Refusal, TypeId};
@@ -92,6 +92,7 @@ pub(crate) fn admits(trees: &[Tree], wanted: Wanted, found: Place) -> bool
         Wanted::AnyType => true,
         Wanted::NumberType => is_number(trees, found),
         Wanted::ContainerType => is_container(trees, found),
+        Wanted::IndexType => is_index(trees, found),
     }
 }
 
@@ -128,6 +129,21 @@ fn least_by_text<R: ReferenceRule>(
     }
 }
 
+/// The text by which an element refers: a dimension that has a size refers to no index type.
+fn text_by<'a>(wanted: Wanted, size: Option<&str>, reference: Option<&'a str>) -> Option<&'a str>
+    ensures { option_map (λ t. t.now) result ≡ text_by_wanted wanted (option_map (λ t. t.now) size.entry) (option_map (λ t. t.now) reference.entry) }
+{
+    match wanted {
+        Wanted::AnyType => reference,
+        Wanted::NumberType => reference,
+        Wanted::ContainerType => reference,
+        Wanted::IndexType => match size {
+            None => reference,
+            Some(_) => None,
+        },
+    }
+}
+
 /// A rule that is judged at the reference of an element.
 struct AtElement<R>(PhantomData<R>);
 
@@ -140,7 +156,8 @@ impl<R: ReferenceRule> PlaceRule for AtElement<R> {
         match row_for(name_at(sheet.trees, at)) {
             None => Ok(None),
             Some(row) => {
-                let text = attribute(sheet.trees, row.attribute, at);
+                let size = attribute(sheet.trees, "size", at);
+                let text = text_by(row.wanted, size, attribute(sheet.trees, row.attribute, at));
                 least_by_text::<R>(alloc, sheet, at, row.wanted, text)
             }
         }

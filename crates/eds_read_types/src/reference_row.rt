@@ -10,6 +10,8 @@ pub(crate) enum Wanted {
     /// An integer type or a sub-range.
     NumberType,
     ContainerType,
+    /// An integer type, a sub-range, or an enumerated or boolean type, where no size stands in its place.
+    IndexType,
 }
 
 /// An element, the attribute by which it refers, and what it is to find.
@@ -20,7 +22,7 @@ pub(crate) struct ReferenceRow {
     pub(crate) wanted: Wanted,
 }
 
-static ROWS: [ReferenceRow; 9] = [
+static ROWS: [ReferenceRow; 10] = [
     ReferenceRow {
         element: "Entry",
         attribute: "type",
@@ -55,6 +57,11 @@ static ROWS: [ReferenceRow; 9] = [
         element: "ArrayDataType",
         attribute: "dataTypeRef",
         wanted: Wanted::AnyType,
+    },
+    ReferenceRow {
+        element: "Dimension",
+        attribute: "indexTypeRef",
+        wanted: Wanted::IndexType,
     },
     ReferenceRow {
         element: "SubRangeDataType",

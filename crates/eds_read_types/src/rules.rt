@@ -18,6 +18,7 @@ use crate::face_rules::{AtFaces, OpenInFace, UnresolvedInFace, WrongKindInFace};
 use crate::length_field::LengthField;
 use crate::limit_chain::LimitChain;
 use crate::limit_family::LimitFamily;
+use crate::limit_items::LimitItems;
 use crate::limit_nesting::LimitNesting;
 use crate::reference::{ReferenceRule, least_over_references};
 use crate::rule_list_field::ListField;
@@ -155,7 +156,10 @@ type Bases = And<
     AtNumbers<BaseCycle>,
     And<
         AtNumbers<LimitChain>,
-        And<AtRows<TypeCycle>, And<AtRows<LimitFamily>, And<AtRows<LimitNesting>, NoRule>>>,
+        And<
+            AtRows<TypeCycle>,
+            And<AtRows<LimitFamily>, And<AtRows<LimitNesting>, And<AtRows<LimitItems>, NoRule>>>,
+        >,
     >,
 >;
 

@@ -8,17 +8,19 @@ ghost use Rattle.eds_read_types.specs.Seats.{seats_of as seats_in};
 ghost use Rattle.eds_read_types.specs.ListFields.{AreEnough};
 ghost use Rattle.eds_read_types.specs.PartRows.{part_at as part_with};
 ghost use Rattle.eds_read_types.specs.Numbers.{numbers_of as numbers_by_id};
-ghost use Rattle.eds_read_types.specs.TableRows.{part_in, is_abstract as is_abstract_at, container_at as container_by, binary_kind as binary_kind_of, scalar_kind as scalar_kind_of, scalar_kind_in as scalar_kind_by, kind_of as kind_by_id, table_row as table_row_of, rows_from, table_rows as table_rows_of};
+ghost use Rattle.eds_read_types.specs.TableRows.{part_in, is_abstract as is_abstract_at, container_at as container_by, binary_kind as binary_kind_of, scalar_kind as scalar_kind_of, scalar_kind_in as scalar_kind_by, array_kind as array_kind_of, kind_of as kind_by_id, table_row as table_row_of, rows_from, table_rows as table_rows_of};
 
 use crate::base_graph::{BaseGraph, base_found};
-use crate::element::{attribute, is_container, tree_at};
+use crate::element::{attribute, is_array, is_container, tree_at};
 use crate::entry::{entries_at, has_list, trailers_at};
 use crate::form::{bool_form_of, int_form_of};
+use crate::items::{ValueCounts, items_at, row_items, value_counts};
 use crate::list_field::Fields;
 use crate::listing::listing_of;
 use crate::named_trees::NamedTrees;
 use crate::numbers::{FormAndDomain, form_or_wide, numbers_of, text_or_octet, truth_or_octet};
-use crate::part::part_at;
+use crate::part::{id_or_first, part_at};
+use crate::reference::id_found;
 use crate::seat::{Seat, seats_of};
 use crate::sort::{Sort, sort_of};
 use crate::text_form::{binary_bits_of, is_open, text_form_of};
@@ -159,27 +161,44 @@ fn numbers_in_table(alloc: Global, graph: &BaseGraph, id: usize) -> Result<FormA
     numbers_of(alloc, graph, id)
 }
 
-/// What the type at a place is, of which the number among all types is given.
-fn kind_of(alloc: Global, graph: &BaseGraph, id: usize, at: Place) -> Result<Kind, Memory>
-    ensures { IfOk result (λ k. k ≡ kind_by_id graph.now.sheet.now.trees.now graph.now.sheet.now.space.now id at) }
+/// An array, by the type of its items and their number.
+fn array_kind(alloc: Global, first: &ValueCounts, at: Place) -> Result<Kind, Memory>
+    ensures { IfOk result (λ k. k ≡ array_kind_of first.now.graph.now.sheet.now.trees.now first.now.graph.now.sheet.now.space.now at) }
 {
-    let sheet = graph.sheet;
+    let sheet = first.graph.sheet;
+    let item = id_found(alloc, sheet, at, attribute(sheet.trees, "dataTypeRef", at))?;
+    let items = items_at(alloc, first, at)?;
+    Ok(Kind::Arr(id_or_first(item), row_items(items)))
+}
+
+/// What the type at a place is, of which the number among all types is given.
+fn kind_of(alloc: Global, first: &ValueCounts, id: usize, at: Place) -> Result<Kind, Memory>
+    ensures { IfOk result (λ k. k ≡ kind_by_id first.now.graph.now.sheet.now.trees.now first.now.graph.now.sheet.now.space.now id at) }
+{
+    let sheet = first.graph.sheet;
     if is_container(sheet.trees, at) {
-        let container = container_at(alloc, graph, id, at)?;
+        let container = container_at(alloc, first.graph, id, at)?;
         Ok(Kind::Con(container))
+    } else if is_array(sheet.trees, at) {
+        array_kind(alloc, first, at)
     } else {
-        let numbers = numbers_in_table(alloc, graph, id)?;
+        let numbers = numbers_in_table(alloc, first.graph, id)?;
         scalar_kind_in(alloc, sheet.trees, at, numbers)
     }
 }
 
 /// A declared type as a row.
-fn table_row(alloc: Global, graph: &BaseGraph, id: usize, one: &Declared) -> Result<TypeRow, Memory>
-    ensures { IfOk result (λ row. row ≡ table_row_of graph.now.sheet.now.trees.now graph.now.sheet.now.space.now id one.now) }
+fn table_row(
+    alloc: Global,
+    first: &ValueCounts,
+    id: usize,
+    one: &Declared,
+) -> Result<TypeRow, Memory>
+    ensures { IfOk result (λ row. row ≡ table_row_of first.now.graph.now.sheet.now.trees.now first.now.graph.now.sheet.now.space.now id one.now) }
 {
     let name = Text::of(alloc, one.name.as_str())?;
-    let base = base_found(alloc, graph.sheet, one.place)?;
-    let kind = kind_of(alloc, graph, id, one.place)?;
+    let base = base_found(alloc, first.graph.sheet, one.place)?;
+    let kind = kind_of(alloc, first, id, one.place)?;
     Ok(TypeRow { name, base, kind })
 }
 
@@ -187,25 +206,25 @@ fn table_row(alloc: Global, graph: &BaseGraph, id: usize, one: &Declared) -> Res
 fn push_row(
     alloc: Global,
     rows: &mut TypeRows,
-    graph: &BaseGraph,
+    first: &ValueCounts,
     one: &Declared,
 ) -> Result<(), Memory>
-    ensures { OnOk result (rows.new ≡ rows.old ++ rows_from graph.now.sheet.now.trees.now graph.now.sheet.now.space.now (length rows.old) (filter is_type (one.now ∷ []))) }
+    ensures { OnOk result (rows.new ≡ rows.old ++ rows_from first.now.graph.now.sheet.now.trees.now first.now.graph.now.sheet.now.space.now (length rows.old) (filter is_type (one.now ∷ []))) }
 {
     if one.item.is_sort() {
-        let row = table_row(alloc, graph, rows.len(), one)?;
+        let row = table_row(alloc, first, rows.len(), one)?;
         rows.push(row)?;
     }
     Ok(())
 }
 
 /// A row for each type of what is declared, in order.
-fn rows_among(alloc: Global, graph: &BaseGraph, declared: &[Declared]) -> Result<TypeRows, Memory>
-    ensures { IfOk result (λ rows. rows ≡ rows_from graph.now.sheet.now.trees.now graph.now.sheet.now.space.now 0 (filter is_type declared.now)) }
+fn rows_among(alloc: Global, first: &ValueCounts, declared: &[Declared]) -> Result<TypeRows, Memory>
+    ensures { IfOk result (λ rows. rows ≡ rows_from first.now.graph.now.sheet.now.trees.now first.now.graph.now.sheet.now.space.now 0 (filter is_type declared.now)) }
 {
     let mut rows = TypeRows::new(alloc);
     for one in declared {
-        push_row(alloc, &mut rows, graph, one)?;
+        push_row(alloc, &mut rows, first, one)?;
     }
     Ok(rows)
 }
@@ -214,5 +233,10 @@ fn rows_among(alloc: Global, graph: &BaseGraph, declared: &[Declared]) -> Result
 pub(crate) fn table_rows(alloc: Global, graph: &BaseGraph) -> Result<TypeRows, Memory>
     ensures { IfOk result (λ rows. rows ≡ table_rows_of graph.now.sheet.now.trees.now graph.now.sheet.now.space.now) }
 {
-    rows_among(alloc, graph, graph.sheet.space.declared())
+    let known = value_counts(alloc, graph)?;
+    let first = ValueCounts {
+        graph,
+        known: &known,
+    };
+    rows_among(alloc, &first, graph.sheet.space.declared())
 }

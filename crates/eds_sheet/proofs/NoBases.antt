@@ -19,13 +19,13 @@ use Rattle.eds_types.specs.declared.row.TypeRow.{TypeRow}
 use Rattle.eds_types.specs.Rows.{base_in, base_of, container_by, container_in, number_of_id}
 use Rattle.eds_overlap.specs.Underived.{HasNoBases}
 use Rattle.eds_read_types.specs.Places.{is_container, attribute, elements, types, type_places}
-use Rattle.eds_read_types.specs.Bases.{base_found, bases_of}
+use Rattle.eds_read_types.specs.Bases.{base_found}
 use Rattle.eds_read_types.specs.ReadTypes.{id_found}
-use Rattle.eds_read_types.specs.Numbers.{numbers_of}
 use Rattle.eds_read_types.specs.TableRows.{kind_of, table_rows}
 use Rattle.eds_read_types.proofs.NoBreaks.{least-none}
 use Rattle.eds_read_types.proofs.SheetPlaces.{at_elements, at_one, of_types}
-use Rattle.eds_read_types.proofs.TableRules.{row_at, scalar_by, place_there}
+use Rattle.eds_read_types.proofs.TableRules.{row_at, place_there}
+use Rattle.eds_read_types.proofs.Limits.{no_container}
 use Rattle.eds_sheet.specs.Pending.{is_pending, word_or, pending_of_container, pending_attribute, breaks_pending, pending_breaks, pending_verdict}
 
 -- ---- elements
@@ -83,7 +83,7 @@ no_bases trees names named built id is = go (slice_get (table_rows trees names) 
         by_name : (b : Bool) → is_container trees at ≡ b → is_container trees at ≡ true
         by_name true e = e
         by_name false e =
-            let none : container_by (kind_of trees names id at) ≡ None = rw e (scalar_by (slice_get trees at.file) at.node (numbers_of trees (type_places names) (bases_of trees names) id)) in
+            let none : container_by (kind_of trees names id at) ≡ None = no_container trees names id at e in
             absurd (never (subst IsSome none h))
 
     go : (o : Option TypeRow) → slice_get (table_rows trees names) id ≡ o → IsSome (container_in o) → base_of (table_rows trees names) id ≡ None

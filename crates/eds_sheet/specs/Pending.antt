@@ -19,8 +19,7 @@ use Rattle.eds_tree.specs.ShapeCheck.{unless_broken}
 -- components and state machines
 abbrev pub pending_names : List (List ℕ)
 pending_names = map codes (
-    "ArrayDataType"
-    ∷ "FixedValueEntry" ∷ "LengthEntry" ∷ "ErrorControlEntry"
+    "FixedValueEntry" ∷ "LengthEntry" ∷ "ErrorControlEntry"
     ∷ "ConstraintSet" ∷ "TrailerEntryList" ∷ "ComponentSet" ∷ "StateMachineSet" ∷ [])
 
 -- the element is one of these
