@@ -62,6 +62,14 @@ def base(of, *maps):
     return ["Base", {"type": of}, *held]
 
 
+def ends(count, parameters):
+    """A component with many ends of one interface."""
+    held = [["Interface", {"name": f"e{i}", "type": "X"}] for i in range(count)]
+    package = interfaces(interface("X", parameters=parameters))
+    package[1].append(["ComponentSet", ["Component", {"name": "C"}, ["RequiredInterfaceSet", *held]]])
+    return package
+
+
 def diamonds(levels):
     """Each interface has the one before it as a base twice: 2^levels ways to the first."""
     yield interface("X0", parameters=[("p", "U4")])
@@ -104,6 +112,15 @@ def inputs():
         1, "refused 18 DuplicateEntry at 0:8 e\n")  # fmt: skip
     yield "a container of 32,768 entries", "check s", {"s": sheet(U4, container("C", *(entry(f"e{i}", "U4") for i in range(32768))))}, (
         1, "refused 8 Limit at 0:32774 children\n")  # fmt: skip
+    yield "32,767 length entries in a container", "check s", {"s": sheet(U4, container("C", *(["LengthEntry", {"name": f"n{i}", "type": "U4"}] for i in range(32767))))}, (
+        1, "refused 20 LengthField at 0:8\n")
+    yield "a length entry with 32,767 terms", "check s", {
+        "s": sheet(U4, container("C", ["LengthEntry", {"name": "n", "type": "U4"}, ["PolynomialCalibrator", *(["Term", {"coefficient": "1", "exponent": str(int(i > 0))}] for i in range(32767))]]))
+    }, (1, "refused 20 LengthField at 0:7\n")
+    yield "20,000 error controls", "check s", {
+        "s": sheet(["IntegerDataType", {"name": "U8"}, ["IntegerDataEncoding", {"sizeInBits": "8", "encoding": "unsigned"}]],
+                   container("C", *(["ErrorControlEntry", {"name": f"c{i}", "type": "U8", "errorControlType": "CRC8"}] for i in range(20000))))
+    }, (0, "accepted types 2 containers 1 interfaces 0 components 0\n")
     yield "an enumeration of 32,767 labels", "check s", {
         "s": sheet(["EnumeratedDataType", {"name": "E"}, ["EnumerationList", *(["Enumeration", {"label": f"L{i}", "value": str(i)}] for i in range(32767))]])
     }, (0, "accepted types 1 containers 0 interfaces 0 components 0\n")
@@ -129,6 +146,9 @@ def inputs():
     yield "a map of 8,000 generic names", "check s", {
         "s": interfaces(interface("X", generics=[f"T{i}" for i in range(8000)]), interface("Top", [base("X", *((f"T{i}", "U4") for i in range(8000)))]))
     }, (0, good % 2)
+    yield "32,000 ends of an interface with 1,000 members", "check s", {"s": ends(32000, [("p%d" % i, "U4") for i in range(1000)])}, (6, "")
+    yield "32,000 ends of an interface with 100 members", "check s", {"s": ends(32000, [("p%d" % i, "U4") for i in range(100)])}, (
+        0, "accepted types 2 containers 0 interfaces 1 components 1\n")  # fmt: skip
     yield "20,000 members", "check s", {"s": interfaces(interface("X", parameters=[(f"p{i}", "U4") for i in range(20000)]))}, (
         1, "refused 8 Limit at 0:8 members\n")  # fmt: skip
     yield "20,000 parameters of generic types", "check s", {

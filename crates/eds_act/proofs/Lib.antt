@@ -13,3 +13,5 @@ pub mod Starting
 pub mod Whole
 pub mod Working
 pub mod Telling
+pub mod Parts
+pub mod Equal

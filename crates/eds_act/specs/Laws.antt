@@ -1,5 +1,5 @@
 -- Laws of activities.
-use Rattle.std.specs.Prelude.{◌≡◌, ℕ, ◌-◌, List}
+use Rattle.std.specs.Prelude.{◌≡◌, ◌≤◌, ◌↔◌, ℕ, true, ◌-◌, List, ◌++◌, Bool}
 use Rattle.eds_types.specs.Rows.{Table}
 use Rattle.eds_types.specs.Plain.{Plain}
 use Rattle.eds_plan.specs.declared.component.ComponentPlan.{ComponentPlan}
@@ -7,7 +7,8 @@ use Rattle.eds_plan.specs.declared.run.Outstanding.{Outstanding}
 use Rattle.eds_plan.specs.Sends.{Sent}
 use Rattle.eds_plan.specs.Statements.{Stmt}
 use Rattle.eds_act.specs.declared.ending.ActEnd.{ActEnd}
-use Rattle.eds_act.specs.Does.{Does, budget}
+use Rattle.eds_act.specs.declared.ending.ActEnd.TheVariants.{Done, Halted}
+use Rattle.eds_act.specs.Does.{Does, budget, Ended, Item, World, exec, items_of, same_value}
 
 -- a body does one thing
 abbrev pub OneOutcome : Type 0
@@ -15,3 +16,26 @@ OneOutcome = (t : Table) (number : ℕ) (c : ComponentPlan) (body : List Stmt) (
     (one two : List Plain) (here there : List Outstanding) (out sent : List Sent) (m k : ℕ) (end stop : ActEnd)
     → Does t number c body args vars waiting n one here out m end → Does t number c body args vars waiting n two there sent k stop
     → (one ≡ two) × (here ≡ there) × (out ≡ sent) × (budget - m ≡ budget - k) × (end ≡ stop)
+
+-- where it was done to the end, further items go on from there; a halt ends these too
+abbrev pub going_on : ActEnd → Ended → Ended → Ended
+going_on Done done next = next
+going_on (Halted h) done next = done
+
+-- a body in two parts is the first and then, unless that halted, the second
+abbrev pub BodyInParts : Type 0
+BodyInParts = (packs : ℕ → Plain → Bool) (t : Table) (c : ComponentPlan) (left : ℕ) (args : List Plain) (one two : List Stmt) (w : World) →
+    let r : Ended = exec packs t c left (items_of args one) w in
+    exec packs t c left (items_of args (one ++ two)) w ≡ going_on r.end r (exec packs t c r.left (items_of args two) r.world)
+
+-- no more statements and turns may start than before: the count of those that started never falls, nor passes its bound
+abbrev pub CountNeverFalls : Type 0
+CountNeverFalls = (packs : ℕ → Plain → Bool) (t : Table) (c : ComponentPlan) (left : ℕ) (items : List Item) (w : World) → (exec packs t c left items w).left ≤ left
+
+-- what was sent stays, however it ends
+abbrev pub SendsAreKept : Type 0
+SendsAreKept = (packs : ℕ → Plain → Bool) (t : Table) (c : ComponentPlan) (left : ℕ) (items : List Item) (w : World) → (out : List Sent) × ((exec packs t c left items w).world.sent ≡ w.sent ++ out)
+
+-- two values are the same exactly where they are equal, the containers that they name included
+abbrev pub SameIsEqual : Type 0
+SameIsEqual = (v w : Plain) → (same_value v w ≡ true) ↔ (v ≡ w)

@@ -21,6 +21,7 @@ graph_of faces = map (λ x. base_numbers x.bases) faces
 abbrev pub is_own_base : List Face → ℕ → Bool
 is_own_base faces f = is_on_circle (graph_of faces) f
 
+-- the refusal of an interface that is its own base
 abbrev pub cycle_of : Place → Refusal
 cycle_of at = record { rule = InterfaceCycle; place = at; kept = Nothing }
 
@@ -51,6 +52,7 @@ circular_by (Some c) = is_circular c
 abbrev pub circular_at : List Course → ℕ → Bool
 circular_at courses f = circular_by (slice_get courses f)
 
+-- a mark, false where there is none
 abbrev pub marked_by : Option Bool → Bool
 marked_by None = false
 marked_by (Some b) = b

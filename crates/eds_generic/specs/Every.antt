@@ -18,6 +18,7 @@ over_from breaks g (x ∷ xs) = breaks g x ++ over_from breaks (g + 1) xs
 abbrev pub own_cycle_at : List Face → ℕ → Face → List Refusal
 own_cycle_at faces g x = cycle_if (is_own_base faces g) x.place
 
+-- each interface that is its own base, in document order
 abbrev pub own_cycles : List Face → List Refusal
 own_cycles faces = over_from (own_cycle_at faces) 0 faces
 
@@ -26,9 +27,11 @@ abbrev pub pair_at : List Face → ℕ → List (Option TypeId) → Place → Li
 pair_at faces g types at [] = pair_breaks faces types at (under faces (record { 0 = g }) [])
 pair_at faces g types at (x ∷ xs) = []
 
+-- what an interface without own generic names breaks under the empty map, at its place
 abbrev pub alone_at : List Face → List (Option TypeId) → ℕ → Face → List Refusal
 alone_at faces types g x = pair_at faces g types x.place x.generics
 
+-- the same of all interfaces
 abbrev pub alone_breaks : List Face → List (Option TypeId) → List Refusal
 alone_breaks faces types = over_from (alone_at faces types) 0 faces
 

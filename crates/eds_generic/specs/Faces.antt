@@ -8,6 +8,7 @@ use Rattle.eds_generic.specs.declared.face.Mapped.{Mapped}
 use Rattle.eds_generic.specs.declared.face.Source.{Source}
 use Rattle.eds_generic.specs.declared.face.OwnMember.{OwnMember}
 
+-- the generic names that an interface declares, none where there is no interface
 abbrev pub generics_by : Option Face → List Generic
 generics_by None = []
 generics_by (Some f) = f.generics
@@ -16,6 +17,7 @@ generics_by (Some f) = f.generics
 abbrev pub generics : List Face → ℕ → List Generic
 generics faces f = generics_by (slice_get faces f)
 
+-- the bases that an interface names, none where there is no interface
 abbrev pub bases_by : Option Face → List Base
 bases_by None = []
 bases_by (Some f) = f.bases
@@ -24,6 +26,7 @@ bases_by (Some f) = f.bases
 abbrev pub bases : List Face → ℕ → List Base
 bases faces f = bases_by (slice_get faces f)
 
+-- the members that an interface declares itself, none where there is no interface
 abbrev pub own_by : Option Face → List OwnMember
 own_by None = []
 own_by (Some f) = f.members
@@ -41,9 +44,11 @@ abbrev pub place_from : ℕ → List (List ℕ) → List ℕ → Option ℕ
 place_from k [] name = None
 place_from k (n ∷ ns) name = if same n name then Some k else place_from (k + 1) ns name
 
+-- the position of a name among some, of several of one name the first
 abbrev pub place_among : List (List ℕ) → List ℕ → Option ℕ
 place_among names name = place_from 0 names name
 
+-- a position that is known, and is the one asked for
 abbrev pub is_at : Option ℕ → ℕ → Bool
 is_at None k = false
 is_at (Some g) k = g == k

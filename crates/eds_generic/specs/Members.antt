@@ -29,12 +29,15 @@ id_or_first bound.Unmapped = record { 0 = 0 }
 id_or_first bound.Unknown = record { 0 = 0 }
 id_or_first (bound.Sort id) = id
 
+-- the type of a source under a map
 abbrev pub type_in : List Bound → Source → TypeId
 type_in types s = id_or_first (meant types s)
 
+-- an argument, its type being that under a map
 abbrev pub argument_of : List Bound → OwnArgument → Argument
 argument_of types a = record { name = a.name; id = type_in types a.source; mode = a.mode }
 
+-- a member, each of its types being that under a map
 abbrev pub member_of : List Bound → OwnMember → Member
 member_of types (own_member.Parameter name s read_only) = member.Parameter name (type_in types s) read_only
 member_of types (own_member.Command name arguments) = member.Command name (map (argument_of types) arguments)
@@ -60,6 +63,7 @@ declared_count faces ps = length (flat_map (members_of faces) ps)
 
 -- ---- an interface under a given map
 
+-- one name of a given map: its position among the own generic names, where it is one, and its type
 abbrev pub mapped_given : List (List ℕ) → (List ℕ × TypeId) → Mapped
 mapped_given own m = record { name = m.0; generic = place_among own m.0; source = source.Sort m.1 }
 
@@ -67,15 +71,18 @@ mapped_given own m = record { name = m.0; generic = place_among own m.0; source 
 abbrev pub base_given : List Face → FaceId → List (List ℕ × TypeId) → Base
 base_given faces face ms = record { face = face; maps = map (mapped_given (names_of (generics faces face.0))) ms }
 
+-- an interface under a given map
 abbrev pub under : List Face → FaceId → List (List ℕ × TypeId) → Pair
 under faces face ms = below_by faces [] (base_given faces face ms)
 
 -- ---- names of members
 
+-- the name of a member
 abbrev pub name_of : Member → List ℕ
 name_of (member.Parameter name id read_only) = name
 name_of (member.Command name arguments) = name
 
+-- a member has the name
 abbrev pub is_name_of : List ℕ → Member → Bool
 is_name_of name m = same (name_of m) name
 

@@ -17,6 +17,7 @@ use Rattle.eds_generic.specs.Faces.{generics}
 use Rattle.eds_generic.specs.Pairs.{reached, most, is_among, same_pair}
 use Rattle.eds_generic.specs.Members.{repeated}
 
+-- a refusal that keeps a name
 abbrev pub keeping : Rule → Place → List ℕ → Refusal
 keeping rule at word = record { rule = rule; place = at; kept = Word word }
 
@@ -27,26 +28,31 @@ first (x ∷ xs) = Some x
 
 -- ---- a generic name is in no map
 
+-- a generic name that no map gives a type
 abbrev pub is_unmapped : Bound → Bool
 is_unmapped bound.Unmapped = true
 is_unmapped bound.Unknown = false
 is_unmapped (bound.Sort id) = false
 
+-- the generic names, each with what it stands for, that no map gives a type
 abbrev pub unmapped_of : List Generic → List Bound → List (List ℕ)
 unmapped_of [] bounds = []
 unmapped_of (g ∷ gs) [] = []
 unmapped_of (g ∷ gs) (b ∷ bs) = (if is_unmapped b then g.name ∷ [] else []) ++ unmapped_of gs bs
 
+-- the own generic names of a pair that its map leaves out, in document order
 abbrev pub unmapped_at : List Face → List (Option TypeId) → Pair → List (List ℕ)
 unmapped_at faces types p = unmapped_of (generics faces p.face.0) p.types
 
 -- ---- a map names what is no generic name of its interface
 
+-- the names of a map that are no generic names of its interface, in the order of the map
 abbrev pub unknown_at : List Face → List (Option TypeId) → Pair → List (List ℕ)
 unknown_at faces types p = map (λ f. f.name) p.further
 
 -- ---- a type is not admitted by the type that its generic name is to derive from
 
+-- what a type derives from, where there is such a type
 abbrev pub base_by : Option (Option TypeId) → Option TypeId
 base_by None = None
 base_by (Some base) = base
@@ -55,6 +61,7 @@ base_by (Some base) = base
 abbrev pub base_of : List (Option TypeId) → ℕ → Option TypeId
 base_of types id = base_by (slice_get types id)
 
+-- a test of the type that a type derives from, false where it derives from none
 abbrev pub derived_by : (ℕ → Bool) → Option TypeId → Bool
 derived_by up None = false
 derived_by up (Some base) = up base.0
@@ -71,11 +78,13 @@ refuses types (Some from) bound.Unmapped = false
 refuses types (Some from) bound.Unknown = false
 refuses types None b = false
 
+-- the generic names, each with what it stands for, that stand for a type which they do not admit
 abbrev pub refused_of : List (Option TypeId) → List Generic → List Bound → List (List ℕ)
 refused_of types [] bounds = []
 refused_of types (g ∷ gs) [] = []
 refused_of types (g ∷ gs) (b ∷ bs) = (if refuses types g.base b then g.name ∷ [] else []) ++ refused_of types gs bs
 
+-- the same of a pair, in document order
 abbrev pub refused_at : List Face → List (Option TypeId) → Pair → List (List ℕ)
 refused_at faces types p = refused_of types (generics faces p.face.0) p.types
 
@@ -85,12 +94,15 @@ refused_at faces types p = refused_of types (generics faces p.face.0) p.types
 abbrev pub names_under : (List Face → List (Option TypeId) → Pair → List (List ℕ)) → List Face → List (Option TypeId) → Pair → List (List ℕ)
 names_under names faces types p = flat_map (names faces types) (reached (most faces) faces p)
 
+-- a generic name of an interface that is reached has no type
 abbrev pub breaks_unmapped : List Face → List (Option TypeId) → Place → Pair → List Refusal
 breaks_unmapped faces types at p = map (keeping Unmapped at) (names_under unmapped_at faces types p)
 
+-- a map that is reached names what is no generic name of its interface
 abbrev pub breaks_unknown : List Face → List (Option TypeId) → Place → Pair → List Refusal
 breaks_unknown faces types at p = map (keeping UnknownGeneric at) (names_under unknown_at faces types p)
 
+-- a map that is reached gives a generic name a type that it does not admit
 abbrev pub breaks_generic_base : List Face → List (Option TypeId) → Place → Pair → List Refusal
 breaks_generic_base faces types at p = map (keeping GenericBase at) (names_under refused_at faces types p)
 

@@ -31,6 +31,7 @@ abbrev pub meant : List Bound → Source → Bound
 meant types (source.Generic k) = handed (bound_by (slice_get types k))
 meant types (source.Sort id) = bound.Sort id
 
+-- what an own generic name stands for by what the map of a base says of it, which may be nothing
 abbrev pub meant_by : List Bound → Option Source → Bound
 meant_by types None = bound.Unmapped
 meant_by types (Some s) = meant types s
@@ -46,6 +47,7 @@ abbrev pub further_by : Option ℕ → Further → List Further
 further_by None f = f ∷ []
 further_by (Some k) f = []
 
+-- a name of a map, where it is no generic name of its interface, with what it stands for
 abbrev pub further_of : List Bound → Mapped → List Further
 further_of types m = further_by m.generic (record { name = m.name; bound = meant types m.source })
 
@@ -92,14 +94,17 @@ same_bound bound.Unknown bound.Unknown = true
 same_bound (bound.Sort a) (bound.Sort b) = a.0 == b.0
 same_bound _ _ = false
 
+-- two lists of what generic names stand for are equal
 abbrev pub same_types : List Bound → List Bound → Bool
 same_types [] [] = true
 same_types (a ∷ xs) (b ∷ ys) = same_bound a b && same_types xs ys
 same_types _ _ = false
 
+-- two further names of maps are equal and stand for the same
 abbrev pub same_further : Further → Further → Bool
 same_further a b = same a.name b.name && same_bound a.bound b.bound
 
+-- each of the second names stands among the first
 abbrev pub all_within : List Further → List Further → Bool
 all_within more less = list_all (λ f. list_any (same_further f) more) less
 

@@ -43,10 +43,12 @@ own_name t n = unwrap_or (attribute_at t n (codes "name")) []
 abbrev pub generic_nodes : List Node → ℕ → List ℕ
 generic_nodes t n = held_in t (codes "GenericTypeSet") (codes "GenericType") n
 
+-- the generic names that the element of an interface declares, in document order
 abbrev pub names_in : Option (List Node) → ℕ → List (List ℕ)
 names_in None n = []
 names_in (Some t) n = map (own_name t) (generic_nodes t n)
 
+-- the generic names of the interface at a place
 abbrev pub names_at : List (List Node) → Place → List (List ℕ)
 names_at trees at = names_in (slice_get trees at.file) at.node
 
@@ -61,14 +63,17 @@ type_of (item.Sort id) = Some id
 type_of (item.Face id) = None
 type_of (item.Comp id) = None
 
+-- the interface among items of all kinds
 abbrev pub face_of : Item → Option FaceId
 face_of (item.Sort id) = None
 face_of (item.Face id) = Some id
 face_of (item.Comp id) = None
 
+-- the type that a reference at a place finds
 abbrev pub type_found : Names → Place → List ℕ → Option TypeId
 type_found names at text = look_up names at text >>= type_of
 
+-- the interface that a reference at a place finds
 abbrev pub face_found : Names → Place → List ℕ → Option FaceId
 face_found names at text = look_up names at text >>= face_of
 
@@ -76,6 +81,7 @@ face_found names at text = look_up names at text >>= face_of
 abbrev pub type_or_first : Option TypeId → TypeId
 type_or_first id = unwrap_or id (record { 0 = 0 })
 
+-- an interface, the first where there is none; in a sheet whose references find what they name there is one
 abbrev pub face_or_first : Option FaceId → FaceId
 face_or_first id = unwrap_or id (record { 0 = 0 })
 
@@ -85,19 +91,24 @@ abbrev pub source_by : Option ℕ → TypeId → Source
 source_by None id = source.Sort id
 source_by (Some k) id = source.Generic k
 
+-- a flag that is set
 abbrev pub is_yes : List ℕ → Bool
 is_yes text = same text (codes "true") || same text (codes "1")
 
+-- which way an argument goes, by the word of its mode
 abbrev pub mode_named : List ℕ → Mode
 mode_named text = if same text (codes "out") then mode.Out else if same text (codes "inout") then mode.InOut else if same text (codes "notify") then mode.Notify else mode.In
 
 module _ (t : List Node) (names : Names) (file : ℕ) where
+  -- the place of an element of this file
   abbrev pub here : ℕ → Place
   here n = record { file = file; node = n }
 
+  -- the type that a generic name may be given: itself, or one that derives from it
   abbrev pub base_type : ℕ → Option TypeId
   base_type n = attribute_at t n (codes "baseType") >>= type_found names (here n)
 
+  -- a generic name as its element declares it
   abbrev pub generic_of : ℕ → Generic
   generic_of n = record { name = own_name t n; base = base_type n }
 
@@ -105,6 +116,7 @@ module _ (t : List Node) (names : Names) (file : ℕ) where
   abbrev pub source_named : List (List ℕ) → ℕ → List ℕ → Source
   source_named own n text = source_by (place_among own text) (type_or_first (type_found names (here n) text))
 
+  -- what the type of a parameter, an argument or a map names: an own generic name, or a type
   abbrev pub source_of : List (List ℕ) → ℕ → Source
   source_of own n = source_named own n (unwrap_or (attribute_at t n (codes "type")) [])
 
@@ -112,6 +124,7 @@ module _ (t : List Node) (names : Names) (file : ℕ) where
   abbrev pub mapped_of : (own base : List (List ℕ)) → ℕ → Mapped
   mapped_of own base n = record { name = own_name t n; generic = place_among base (own_name t n); source = source_of own n }
 
+  -- the interface that a base names
   abbrev pub base_face : ℕ → FaceId
   base_face n = face_or_first (face_found names (here n) (unwrap_or (attribute_at t n (codes "type")) []))
 
@@ -124,15 +137,19 @@ module _ (t : List Node) (names : Names) (file : ℕ) where
   abbrev pub read_only : ℕ → Bool
   read_only n = is_yes (unwrap_or (attribute_at t n (codes "readOnly")) [])
 
+  -- a parameter as its element declares it
   abbrev pub parameter_of : List (List ℕ) → ℕ → OwnMember
   parameter_of own n = own_member.Parameter (own_name t n) (source_of own n) (read_only n)
 
+  -- an argument as its element declares it
   abbrev pub argument_of : List (List ℕ) → ℕ → OwnArgument
   argument_of own n = record { name = own_name t n; source = source_of own n; mode = mode_named (unwrap_or (attribute_at t n (codes "mode")) []) }
 
+  -- a command as its element declares it
   abbrev pub command_of : List (List ℕ) → ℕ → OwnMember
   command_of own n = own_member.Command (own_name t n) (map (argument_of own) (held t (codes "Argument") n))
 
+  -- the own members of an interface: its parameters and then its commands, each in document order
   abbrev pub members_of : List (List ℕ) → ℕ → List OwnMember
   members_of own n = map (parameter_of own) (held_in t (codes "ParameterSet") (codes "Parameter") n) ++ map (command_of own) (held_in t (codes "CommandSet") (codes "Command") n)
 
@@ -148,6 +165,7 @@ module _ (t : List Node) (names : Names) (file : ℕ) where
         members = members_of own n;
       }
 
+  -- what the element of an interface says
   abbrev pub face_at : (all : List (List (List ℕ))) → ℕ → Face
   face_at all n = face_by all (generic_nodes t n) n
 
@@ -164,10 +182,12 @@ face_places names = map (λ d. d.place) (filter is_face_of names.declared)
 abbrev pub all_names : List (List Node) → Names → List (List (List ℕ))
 all_names trees names = map (names_at trees) (face_places names)
 
+-- what the element at a place says, where there is such a file
 abbrev pub face_in : Names → (all : List (List (List ℕ))) → Place → Option (List Node) → List Face
 face_in names all at None = []
 face_in names all at (Some t) = face_at t names at.file all at.node ∷ []
 
+-- what the interface declared at a place says
 abbrev pub face_of_place : List (List Node) → Names → (all : List (List (List ℕ))) → Place → List Face
 face_of_place trees names all at = face_in names all at (slice_get trees at.file)
 

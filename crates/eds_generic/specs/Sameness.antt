@@ -59,6 +59,7 @@ within-more (f ∷ fs) more h =
     and-both (list_any (same_further f) more) (all_within more fs) (h f (or-left (same_further f f) (list_any (same_further f) fs) (further-itself f)))
     (within-more fs more (λ g k. h g (or-right (same_further g f) (list_any (same_further g) fs) k)))
 
+-- a pair is the same as itself
 pub pair-itself : (p : Pair) → same_pair p p ≡ true
 pair-itself p =
     let within : all_within p.further p.further ≡ true = within-more p.further p.further (λ f k. k) in
@@ -77,6 +78,7 @@ bound-equal (bound.Sort a) bound.Unmapped e = cc
 bound-equal (bound.Sort a) bound.Unknown e = cc
 bound-equal (bound.Sort a) (bound.Sort b) e = let ids : a.0 ≡ b.0 = eqb-true a.0 b.0 e in let same_id : a ≡ b = ap (λ (n : ℕ). record { 0 = n }) ids in ap bound.Sort same_id
 
+-- what is found the same is equal
 pub types-equal : (xs ys : List Bound) → same_types xs ys ≡ true → xs ≡ ys
 types-equal [] [] e = refl
 types-equal [] (y ∷ ys) e = cc
@@ -86,9 +88,11 @@ types-equal (x ∷ xs) (y ∷ ys) e =
     let tail : xs ≡ ys = types-equal xs ys (and-right (same_bound x y) (same_types xs ys) e) in
     cc
 
+-- pairs that are the same have one interface
 pub pair-face : (p q : Pair) → same_pair p q ≡ true → p.face.0 ≡ q.face.0
 pair-face p q e = eqb-true p.face.0 q.face.0 (and-left (p.face.0 == q.face.0) _ e)
 
+-- and give its generic names the same types
 pub pair-types : (p q : Pair) → same_pair p q ≡ true → p.types ≡ q.types
 pair-types p q e = types-equal p.types q.types (and-left (same_types p.types q.types) _ (and-right (p.face.0 == q.face.0) _ e))
 
@@ -140,6 +144,7 @@ on p q r d e =
     let w = within-parts q r e in
     of-parts p r (pair-face p q d ∙ pair-face q r e) (pair-types p q d ∙ pair-types q r e) (within-on p.further q.further r.further v.0 w.0) (within-on r.further q.further p.further w.1 v.1)
 
+-- to be the same pair is an equivalence
 pub same_pair-is : IsEquivalence same_pair
 same_pair-is = record {
   refl = pair-itself;
@@ -147,6 +152,7 @@ same_pair-is = record {
   congr = λ p q r e. both_ways (same_pair p r) (same_pair q r) (λ h. on q p r (flip p q e) h) (λ h. on p q r e h);
 }
 
+-- the same, as the library asks for it
 pub same_pair-partial : IsPartialEquivalence same_pair
 same_pair-partial = partial_equiv_from_equiv same_pair-is
 
@@ -161,5 +167,6 @@ bound_input (bound.Sort id) = fed.u8 2 ++ fed.u32 id.0
 abbrev pub pair_input : Pair → HashWrites
 pair_input p = fed.u32 p.face.0 ++ fed.slice bound_input p.types
 
+-- pairs that are the same have one hash
 pub pairs_alike : (p q : Pair) → same_pair p q ≡ true → pair_input p ≡ pair_input q
 pairs_alike p q e = rw (pair-face p q e, pair-types p q e) refl

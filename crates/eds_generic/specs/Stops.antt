@@ -3,6 +3,7 @@ use Rattle.std.specs.Prelude.{Result, Ok, Err, ⊤}
 use Rattle.eds_base.specs.declared.fail.Fail.{Fail}
 use Rattle.eds_base.specs.declared.fail.Fail.TheVariants.{Named, Memory}
 
+-- what a named refusal says; want of memory says nothing
 abbrev pub IsWhereNamed : {E : Type 0} → Type 0 → Fail E → Type 0
 IsWhereNamed P (Named e) = P
 IsWhereNamed P Memory = ⊤

@@ -17,6 +17,9 @@ use eds_base::{FaceId, Items, Memory, Place, Refusal, TypeId};
 use eds_plan::{Instance, TypeMap};
 use std::alloc::Global;
 
+/// How many interfaces, bases and members may be met for all that is used: past these no memory is found.
+const STEPS: usize = 4194304;
+
 /// An interface that is used under a map of its generic names, and the element that uses it.
 #[derive(Drop)]
 pub struct FaceUse {
@@ -62,8 +65,30 @@ fn least_used(
     Ok(found)
 }
 
+fn less(left: Option<usize>, count: usize) -> Option<usize> {
+    match left {
+        None => None,
+        Some(left) => left.checked_sub(count),
+    }
+}
+
+/// Whether so many uses can be judged, each of which may meet every interface with its bases and members.
+fn is_little(faces: &[Face], uses: usize) -> bool {
+    if uses == 0 {
+        return true;
+    }
+    let mut left = Some(STEPS / uses);
+    for face in faces {
+        left = less(left, 1);
+        left = less(left, face.bases.len());
+        left = less(left, face.members.len());
+    }
+    left.is_some()
+}
+
 /// The first rule that the interfaces of a sheet break: one of them is its own base; or, where none is, one without own generic
 /// names breaks a rule under the empty map, or one that is used breaks it under its map, and the refusal stands where it is used.
+/// No memory is found where all that is used may meet more than 4,194,304 interfaces, bases and members.
 pub fn judge_uses(
     alloc: Global,
     faces: &[Face],
@@ -72,7 +97,7 @@ pub fn judge_uses(
 ) -> Result<Option<Refusal>, Memory>
     ensures { IfOk result (λ r. r ≡ least (breaks_with_uses faces.now types.now uses.now)) }
 {
-    if faces.len() > u32::MAX as usize {
+    if faces.len() > u32::MAX as usize || !is_little(faces, uses.len()) {
         return Err(Memory);
     }
     match least_own_cycle(alloc, faces)? {

@@ -22,3 +22,8 @@ Begins-more (Some file) octets room n begins piece =
 pub piece-past : (file : Option (List ℕ)) (room : List ℕ) (from n most : ℕ) → IsSomeAnd file (λ f. IsPiece f from n room) → from ≤ most → most < from + n → IsSomeAnd file (λ f. most < length f)
 piece-past None room from n most piece start past = absurd piece
 piece-past (Some file) room from n most piece start past = omega (arith, piece.within, length-drop from file)
+
+-- no piece came of a file that is not there
+pub no-piece : (file : Option (List ℕ)) (from n : ℕ) (room : List ℕ) → file ≡ None → IsSomeAnd file (λ octets. IsPiece octets from n room) → ⊥
+no-piece None from n room lacks came = came
+no-piece (Some octets) from n room lacks came = cc

@@ -5,6 +5,8 @@ use Rattle.eds_base.specs.declared.fail.Fail.{Fail}
 use Rattle.eds_base.specs.declared.fail.Fail.TheVariants.{Named, Memory}
 use Rattle.eds_io.specs.declared.shelf.Got.{Got}
 use Rattle.eds_io.specs.declared.shelf.Got.TheVariants as got
+use Rattle.eds_io.specs.declared.piece.PieceEnd.{PieceEnd}
+use Rattle.eds_io.specs.declared.piece.PieceEnd.TheVariants as piece
 use Rattle.eds_io.specs.declared.whole.ReadEnd.{ReadEnd}
 use Rattle.eds_io.specs.declared.whole.ReadEnd.TheVariants.{NoFile, ReadFault, TooBig}
 
@@ -40,3 +42,9 @@ EndsBy most came (Err (Named TooBig)) = most < length came
 EndsBy most came (Err (Named NoFile)) = length came ≤ most
 EndsBy most came (Err (Named ReadFault)) = length came ≤ most
 EndsBy most came (Err Memory) = ⊤
+
+-- what the read gave by which a piece was read, or was not
+abbrev pub got_of_piece : Result ℕ PieceEnd → Got
+got_of_piece (Ok n) = got.Bytes n
+got_of_piece (Err piece.NoFile) = got.NoFile
+got_of_piece (Err piece.ReadFault) = got.Failed

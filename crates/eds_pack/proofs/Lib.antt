@@ -1,3 +1,4 @@
+pub mod Asking
 pub mod Plains
 pub mod Scalars
 pub mod Seeking
@@ -8,6 +9,14 @@ pub mod LengthEntries
 pub mod LengthNumbers
 pub mod OwnSizes
 pub mod Chains
+pub mod Builds
+pub mod Deeper
+pub mod ByKinds
+pub mod Entries
+pub mod OneDefault
+pub mod Turns
+pub mod Leasts
+pub mod Zeros
 pub mod Listing
 pub mod Paths
 pub mod Nested

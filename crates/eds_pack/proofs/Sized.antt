@@ -95,7 +95,7 @@ own_of t size id k f n = go (is_some (container_of t k) && length f == valued (s
     go false b c e = not_ok (pack_fault_here reason.WrongKind) e
 
 -- what is known of the table, with the ranks that its rules give
-item_ranked : (t : Table) (rank : ℕ → ℕ) (id : ℕ) (k : Kind) → ItemsNest t rank id k → IsItemType t rank id k
+pub item_ranked : (t : Table) (rank : ℕ → ℕ) (id : ℕ) (k : Kind) → ItemsNest t rank id k → IsItemType t rank id k
 item_ranked t rank id (kind.Int form spans) h = tt
 item_ranked t rank id (kind.Enum form listing) h = tt
 item_ranked t rank id (kind.Bool form) h = tt
@@ -104,7 +104,7 @@ item_ranked t rank id (kind.Bin n free) h = tt
 item_ranked t rank id (kind.Arr item n) h = ((h.0).1, (h.0).0, h.2)
 item_ranked t rank id (kind.Con c) h = tt
 
-abbrev ranked : (t : Table) → KeepsRules t → IsTable t
+abbrev pub ranked : (t : Table) → KeepsRules t → IsTable t
 ranked t rules = record (table_of t rules) {
   rank = rules.rank;
   nested = rules.nesting;

@@ -67,15 +67,23 @@ module _ (t : Table) (DefaultsInner : ℕ → Plain → Type 0) where
   PartsDefault cs [] f = f ≡ []
   PartsDefault cs (p ∷ ps) f = (g : List Plain) × (h : List Plain) × (f ≡ g ++ h) × PartDefaults cs p p.part g × PartsDefault cs ps h
 
-  -- by the kind of the type: an abstract container has none
+  -- so many items, each the default of their type
+  abbrev pub ItemsDefault : ℕ → ℕ → Plain → Type 0
+  ItemsDefault id n v = (w : Plain) × DefaultsInner id w × (v ≡ items (plains_of (replicate n w)))
+
+  -- the container with the values of its parts; an abstract one has none
+  abbrev pub FieldsDefault : ℕ → Plain → Type 0
+  FieldsDefault id v = IsTrue (is_concrete t id) × ((f : List Plain) × PartsDefault (constraints_along t id) (sequence t id) f × (v ≡ fields id (plains_of f)))
+
+  -- by the kind of the type
   abbrev pub KindDefaults : ℕ → Kind → Plain → Type 0
   KindDefaults id (kind.Int form spans) v = (n : ℤ) × (v ≡ num n) × IsFirst spans n
   KindDefaults id (kind.Enum form listing) v = (l : List ℕ) × (n : ℤ) × (others : List (List ℕ × ℤ)) × (listing ≡ (l, n) ∷ others) × (v ≡ label l)
   KindDefaults id (kind.Bool form) v = v ≡ truth false
   KindDefaults id (kind.Str form) v = v ≡ text []
   KindDefaults id (kind.Bin n free) v = v ≡ zero_bits (cond free 0 n)
-  KindDefaults id (kind.Arr item n) v = (w : Plain) × DefaultsInner item.0 w × (v ≡ items (plains_of (replicate n w)))
-  KindDefaults id (kind.Con c) v = IsTrue (is_concrete t id) × ((f : List Plain) × PartsDefault (constraints_along t id) (sequence t id) f × (v ≡ fields id (plains_of f)))
+  KindDefaults id (kind.Arr item n) v = ItemsDefault item.0 n v
+  KindDefaults id (kind.Con c) v = FieldsDefault id v
 
 -- where at most n types are nested in each other
 unfoldable pub DefaultsWithin : ℕ → Table → ℕ → Plain → Type 0

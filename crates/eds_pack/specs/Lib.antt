@@ -1,6 +1,8 @@
+pub mod Building
 pub mod Choices
 pub mod Counting
 pub mod Defaults
+pub mod Laws
 pub mod Lengths
 pub mod Nesting
 pub mod Packs

@@ -1,11 +1,15 @@
 //! Packing: the canonical bits of a value, or where and why it has none.
 #![tactic(auto)]
 
+mod asked;
 mod choice;
 mod constraint;
+mod defaults;
 mod fail;
 mod fields;
+pub mod law;
 mod leaf;
+mod least;
 mod length;
 mod octets;
 mod plain;
@@ -17,6 +21,7 @@ mod told;
 mod whole;
 mod write;
 
+pub use defaults::default_of;
 pub use eds_types::PackReason;
 pub use fail::PackFail;
 pub use octets::pack;

@@ -19,9 +19,13 @@ pub mod NestingFacts
 mod Unbroken
 pub mod EmptyFacts
 pub mod ListPlaces
+mod LengthSteps
 pub mod ListFieldFacts
 pub mod TableFacts
+pub mod TailFacts
+pub mod LengthFacts
 pub mod PlainRules
+pub mod MeasureFacts
 pub mod PartFacts
 pub mod PartNames
 pub mod FaceFacts
@@ -30,6 +34,7 @@ pub mod Found
 pub mod ChainFacts
 pub mod Circles
 pub mod NumberFacts
+pub mod CheckFacts
 pub mod TableRules
 pub mod Limits
 pub mod SequenceFacts

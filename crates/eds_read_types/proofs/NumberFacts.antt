@@ -40,7 +40,7 @@ some_numbers form (s ∷ spans) d = refl
 -- ---- numbers over bases
 
 module _ (trees : List (List Node)) (places : List Place) (bases : List (Option TypeId)) where
-  own_within : (n id : ℕ) → base_at bases id ≡ None → numbers_within n trees places bases id ≡ own_numbers_at trees (slice_get places id)
+  pub own_within : (n id : ℕ) → base_at bases id ≡ None → numbers_within n trees places bases id ≡ own_numbers_at trees (slice_get places id)
   unfolding numbers_within
   own_within zero id e = refl
   own_within (suc n) id e = ap (numbers_by (numbers_within n trees places bases) (range_at trees (slice_get places id)) (own_numbers_at trees (slice_get places id))) e

@@ -51,8 +51,8 @@ module _ (trees : List (List Node)) (names : Names) (container : ℕ) (seats : L
       go (Some sort.FixedValue) e = tt
       go (Some sort.Padding) e = tt
       go (Some sort.List) e = (refl, ap (has_name_by (is_some (attribute trees (codes "name") at))) e)
-      go (Some sort.Length) e = tt
-      go (Some sort.ErrorControl) e = tt
+      go (Some sort.Length) e = (refl, ap (has_name_by (is_some (attribute trees (codes "name") at))) e)
+      go (Some sort.ErrorControl) e = (refl, ap (has_name_by (is_some (attribute trees (codes "name") at))) e)
 
   abbrev pub element_names : List Place → List (List ℕ)
   element_names ats = map (own_name trees) (named_among trees ats)

@@ -1,34 +1,35 @@
 -- Types whose rows keep the rules one by one make a table that keeps them all.
-use Rattle.std.proofs.Common.{◌≡◌, ℕ, ◌+◌, ◌<◌, ◌≤◌, false, List, [], ◌∷◌, ◌++◌, map, length, slice_get, Option, Some, None, refl, sym, ap, subst, ◌∙◌, arith}
-use Rattle.std.specs.Prelude.{IfSome}
-use Rattle.std.specs.List.{AllByRecursion, filter_map}
+use Rattle.std.proofs.Common.{◌≡◌, ℕ, zero, suc, ◌+◌, ◌<◌, ◌≤◌, false, List, [], ◌∷◌, ◌++◌, map, length, reverse, slice_get, Option, Some, None, refl, sym, ap, subst, ◌∙◌, ◌⊎◌, inl, inr, arith, lit≤}
+use Rattle.std.specs.Prelude.{is_some, IsSome, IfSome, IsTrue}
+use Rattle.std.specs.List.{AllByRecursion, filter_map, flat_map}
+use Rattle.eds_bits.specs.Lists.{Has}
 use Rattle.eds_types.specs.declared.row.TypeRow.{TypeRow}
 use Rattle.eds_types.specs.declared.row.Container.{Container}
 use Rattle.eds_types.specs.declared.row.Part.{Part}
 use Rattle.eds_types.specs.declared.row.Part.TheVariants as part
 use Rattle.eds_types.specs.declared.row.Kind.{Kind}
 use Rattle.eds_types.specs.declared.row.Kind.TheVariants as kind
-use Rattle.eds_types.specs.Fields.{type_by}
+use Rattle.eds_types.specs.Fields.{type_by, IsAtOrUnder}
 use Rattle.eds_types.specs.Plain.{plain}
 use Rattle.eds_types.specs.Sizes.{open_of}
-use Rattle.eds_types.specs.Rows.{Table, base_in, base_of, container_by, container_in, container_of, entries_in, trailers_in, constraints_in, constraints_of, own_parts, Placed, placed_from}
-use Rattle.eds_types.specs.Rules.{AreDistinct, KindKeeps, HasKind, IsContainer, IsHollow, IsValueOf, IsCounted, DerivesFrom, IsNested, ItemsNest, TailKeeps, PartKeeps, is_length, ConstraintKeeps, KeepsRules}
+use Rattle.eds_types.specs.Rows.{Table, base_in, base_of, container_by, container_in, container_of, concrete_in, entries_in, trailers_in, constraints_in, constraints_of, own_parts, Placed, placed_from, placed_entries, placed_trailers, chain, chain_before, chain_within}
+use Rattle.eds_types.specs.Rules.{AreDistinct, KindKeeps, HasKind, IsContainer, IsHollow, IsValueOf, IsInt, IsScale, HoldsCheck, IsCounted, DerivesFrom, IsNested, ItemsNest, TailKeeps, PartKeeps, name_of, is_length, ConstraintKeeps, KeepsRules}
 use Rattle.eds_nesting.specs.Families.{families, family, containers}
-use Rattle.eds_read_types.proofs.SequenceFacts.{OwnDiffer, AreDisjoint, name_mark, length_mark, parts_above}
+use Rattle.eds_read_types.proofs.SequenceFacts.{OwnDiffer, AreDisjoint, name_mark, length_mark, parts_above, has-cases, has-parts}
 use Rattle.eds_read_types.proofs.RowRules.{AreLeveled, AreRows, keeps_all}
 
 -- the type is spelled by some bits where it is a container
 abbrev pub IsSolid : Table → ℕ → Type 0
 IsSolid t id = IsHollow t id → ⊥
 
--- what an entry of a container keeps; length entries and error controls are none yet
+-- what a part of a container keeps
 abbrev pub PartFits : Table → Placed → Part → Type 0
-PartFits t p (part.Plain name id) = IsSolid t id.0 × (open_of t id.0 ≡ None)
+PartFits t p (part.Plain name id) = IsSolid t id.0 × IfSome (open_of t id.0) (λ n. TailKeeps t p)
 PartFits t p (part.Fixed name id v) = HasKind t id.0 (λ k. IsValueOf k (plain v)) × (open_of t id.0 ≡ None)
 PartFits t p (part.Pad n) = (1 ≤ n) × (n ≤ 524288)
 PartFits t p (part.List name id y i) = IsSolid t id.0 × (open_of t id.0 ≡ None) × IsCounted t p y.0 i
-PartFits t p (part.Length name id c0 c1) = ⊥
-PartFits t p (part.Check name id check) = ⊥
+PartFits t p (part.Length name id c0 c1) = IsInt t id.0 (λ form spans. Unit {0}) × IsScale c0 c1
+PartFits t p (part.Check name id check) = IsInt t id.0 (HoldsCheck check) × (base_of t id.0 ≡ None)
 
 -- and its type is nested less deep
 pub record EntryKeeps (t : Table) (rank : ℕ → ℕ) (p : Placed) : Type 0 where
@@ -73,6 +74,7 @@ pub record ArePlainRows (t : Table) : Type 0 where
   pub base_rank : (id base : ℕ) → base_of t id ≡ Some base → rank id ≡ rank base
   pub rows : (id : ℕ) (row : TypeRow) → slice_get t id ≡ Some row → KeepsRow t rank id row
   pub named : (k : ℕ) → OwnDiffer t levels.level levels.low levels.base_level name_mark k
+  pub measured : (k : ℕ) → OwnDiffer t levels.level levels.low levels.base_level length_mark k
 
 placed_append : (y i : ℕ) (ps qs : List Part) → placed_from y i (ps ++ qs) ≡ placed_from y i ps ++ placed_from y (i + length ps) qs
 placed_append y i [] qs = ap (λ n. placed_from y n qs) (omega arith)
@@ -81,6 +83,42 @@ placed_append y i (p ∷ ps) qs = ap (λ rest. record { container = y; place = i
 -- the parts of a container, each at its place among its entries and then its trailers
 pub own_placed : (t : Table) (y : ℕ) → own_parts t y ≡ placed_from y 0 (entries_in (container_of t y) ++ trailers_in (container_of t y))
 own_placed t y = ap (λ n. placed_from y 0 (entries_in (container_of t y)) ++ placed_from y n (trailers_in (container_of t y))) (omega arith) ∙ sym (placed_append y 0 (entries_in (container_of t y)) (trailers_in (container_of t y)))
+
+-- a type that is no container, and of which none derives, is not hollow
+pub solid_other : (t : Table) → ((id base : ℕ) → base_of t id ≡ Some base → is_some (container_of t base) ≡ is_some (container_of t id)) → (id : ℕ) → container_of t id ≡ None → IsSolid t id
+unfolding chain_within
+solid_other t alike id none h = clash (container_of t h.hollow) h.concrete (same 16 h.hollow h.under ∙ ap is_some none)
+  where
+    clash : (o : Option Container) → IsTrue (concrete_in o) → is_some o ≡ false → ⊥
+    clash None c e = absurd cc
+    clash (Some c) k e = absurd cc
+
+    same : (n k : ℕ) → Has (chain_within n t k) id → is_some (container_of t k) ≡ is_some (container_of t id)
+    same zero k has = absurd (no_item has)
+      where
+        no_item : Has [] id → ⊥
+        no_item has = go has.before has.is
+          where
+            go : (before : List ℕ) → [] ≡ before ++ id ∷ has.after → ⊥
+            go [] e = cc
+            go (b ∷ before) e = cc
+    same (suc n) k has = elim (has-parts (chain_before (chain_within n t) (base_of t k)) (k ∷ []) id has) [
+      | inl l ↦ above (same n) (base_of t k) refl l
+      | inr r ↦ ap (λ m. is_some (container_of t m)) (only r.before r.after r.is)
+    ]
+      where
+        above : ((k : ℕ) → Has (chain_within n t k) id → is_some (container_of t k) ≡ is_some (container_of t id)) → (o : Option ℕ) → base_of t k ≡ o → Has (chain_before (chain_within n t) o) id → is_some (container_of t k) ≡ is_some (container_of t id)
+        above up None e l = absurd (go l.before l.is)
+          where
+            go : (before : List ℕ) → [] ≡ before ++ id ∷ l.after → ⊥
+            go [] e = cc
+            go (b ∷ before) e = cc
+        above up (Some base) e l = sym (alike k base e) ∙ up base l
+
+        only : (before after : List ℕ) → k ∷ [] ≡ before ++ id ∷ after → k ≡ id
+        only [] after e = cc
+        only (b ∷ []) after e = absurd cc
+        only (b ∷ c ∷ before) after e = absurd cc
 
 container_by_kind : (t : Table) (rank : ℕ → ℕ) (id : ℕ) (k : Kind) → IsPlainKind t rank id k → (c : Container) → container_by k ≡ Some c → IsPlainContainer t rank id c
 container_by_kind t rank id (kind.Int form spans) plain c e = absurd cc
@@ -130,17 +168,13 @@ module _ (t : Table) (f : ArePlainRows t) where
       go None e = tt
       go (Some c) e = owned y 0 (c.entries ++ c.trailers) (nested (placed_from y 0 (c.entries ++ c.trailers)) (container_is y c e).parts)
 
-  no_tail : (p : Placed) (o : Option ℕ) → o ≡ None → IfSome o (λ n. TailKeeps t p)
-  no_tail p None e = tt
-  no_tail p (Some n) e = absurd cc
-
   part_keeps : (p : Placed) (q : Part) → PartFits t p q → PartKeeps t p q
-  part_keeps p (part.Plain name id) h = (h.0, no_tail p (open_of t id.0) h.1)
+  part_keeps p (part.Plain name id) h = h
   part_keeps p (part.Fixed name id v) h = h
   part_keeps p (part.Pad n) h = h
   part_keeps p (part.List name id y i) h = h
-  part_keeps p (part.Length name id c0 c1) h = absurd h
-  part_keeps p (part.Check name id check) h = absurd h
+  part_keeps p (part.Length name id c0 c1) h = h
+  part_keeps p (part.Check name id check) h = h
 
   keep : (ps : List Placed) → AllByRecursion (EntryKeeps t f.rank) ps → AllByRecursion (λ (p : Placed). PartKeeps t p p.part) ps
   keep [] h = tt
@@ -148,33 +182,6 @@ module _ (t : Table) (f : ArePlainRows t) where
 
   parts : (y : ℕ) → AllByRecursion (λ (p : Placed). PartKeeps t p p.part) (own_parts t y)
   parts y = over_parts (λ (p : Placed). PartKeeps t p p.part) y keep
-
-  -- ---- length entries
-
-  no_mark : (p : Placed) (q : Part) → PartFits t p q → is_length q ≡ false
-  no_mark p (part.Plain name id) h = refl
-  no_mark p (part.Fixed name id v) h = refl
-  no_mark p (part.Pad n) h = refl
-  no_mark p (part.List name id y i) h = refl
-  no_mark p (part.Length name id c0 c1) h = absurd h
-  no_mark p (part.Check name id check) h = absurd h
-
-  abbrev NoLength : Placed → Type 0
-  NoLength p = is_length p.part ≡ false
-
-  no_marks : (ps : List Placed) → AllByRecursion (EntryKeeps t f.rank) ps → AllByRecursion NoLength ps
-  no_marks [] h = tt
-  no_marks (p ∷ ps) h = (no_mark p p.part (h.0).fits, no_marks ps h.1)
-
-  unmarked : (ps : List Placed) → AllByRecursion NoLength ps → filter_map length_mark ps ≡ []
-  unmarked [] h = refl
-  unmarked (p ∷ ps) h = rw (h.0) (unmarked ps h.1)
-
-  measured : (k : ℕ) → OwnDiffer t f.levels.level f.levels.low f.levels.base_level length_mark k
-  measured k = record { own = subst AreDistinct (sym none) tt; apart = subst (λ (xs : List (Unit {0})). AreDisjoint xs (filter_map length_mark (parts_above t f.levels.level f.levels.low f.levels.base_level k))) (sym none) tt }
-    where
-      none : filter_map length_mark (own_parts t k) ≡ []
-      none = unmarked (own_parts t k) (over_parts NoLength k no_marks)
 
   -- ---- items
 
@@ -204,7 +211,7 @@ module _ (t : Table) (f : ArePlainRows t) where
     items_nest = λ id row e. items_by_kind id row.kind (f.rows id row e).plain;
     parts = parts;
     named = f.named;
-    measured = measured;
+    measured = f.measured;
     root_constraints = λ k e. no_constraints k;
     constraints = λ k base e. subst (AllByRecursion (ConstraintKeeps t base k)) (sym (no_constraints k)) tt;
   }

@@ -215,7 +215,7 @@ one_mark [] h = lit≤ tt
 one_mark (x ∷ []) h = lit≤ tt
 one_mark (x ∷ y ∷ xs) h = absurd (h.0 (has-first tt xs))
 
-marked : (ps : List Placed) → length (filter_map length_mark ps) ≡ length (filter (λ (p : Placed). is_length p.part) ps)
+pub marked : (ps : List Placed) → length (filter_map length_mark ps) ≡ length (filter (λ (p : Placed). is_length p.part) ps)
 marked [] = refl
 marked (p ∷ ps) = go (marked ps) (is_length p.part) refl
   where

@@ -1,6 +1,6 @@
 -- The rows of a sheet that breaks no rule on types keep the rules of a table.
-use Rattle.std.proofs.Common.{◌≡◌, ℕ, zero, suc, ◌+◌, ◌<◌, ◌≤◌, Bool, true, false, ◌||◌, ◌&&◌, List, [], ◌∷◌, ◌++◌, length, map, slice_get, option_map, Option, Some, None, refl, sym, ap, subst, ◌∙◌, ◌⊎◌, inl, inr, arith, lit≤}
-use Rattle.std.specs.Prelude.{nat_le, nat_lt, is_some, IsSome, option_to_list, codes, not, Ok, if◌then◌else◌}
+use Rattle.std.proofs.Common.{◌≡◌, ℕ, zero, suc, ◌+◌, ◌<◌, ◌≤◌, Bool, true, false, ◌||◌, ◌&&◌, List, [], ◌∷◌, ◌++◌, length, map, filter, slice_get, option_map, Option, Some, None, refl, sym, ap, subst, ◌∙◌, ◌⊎◌, inl, inr, arith, lit≤}
+use Rattle.std.specs.Prelude.{nat_le, nat_lt, is_some, IsSome, IfSome, unwrap_or, option_to_list, codes, not, Ok, if◌then◌else◌}
 use Rattle.std.specs.List.{AllByRecursion, filter_map, flat_map, list_all}
 use Rattle.std.proofs.Common.{leb-true}
 use Rattle.std.proofs.lemmas.Bool.{and_parts, leb-false, ltb-false}
@@ -26,15 +26,16 @@ use Rattle.eds_names.specs.Repeats.{is_among}
 use Rattle.eds_names.specs.LookUp.{Names, AreApart, NamesDiffer, look_up, names_in}
 use Rattle.eds_names.proofs.Differing.{differ}
 use Rattle.eds_types.specs.declared.row.TypeRow.{TypeRow}
+use Rattle.eds_types.specs.declared.row.Kind.{Kind}
 use Rattle.eds_types.specs.declared.row.Kind.TheVariants as kind
 use Rattle.eds_types.specs.declared.row.Part.{Part}
 use Rattle.eds_types.specs.declared.row.Part.TheVariants as part
-use Rattle.eds_types.specs.Rows.{base_in, base_of, own_parts, placed_from, chain_before, chain_within, container_by, container_in, container_of, number_of_id}
-use Rattle.eds_types.specs.Sizes.{open_of}
+use Rattle.eds_types.specs.Rows.{Table, base_in, base_of, own_parts, placed_from, chain_before, chain_within, container_by, container_in, container_of, number_of_id, entries_in, Placed}
+use Rattle.eds_types.specs.Sizes.{open_by, open_in, open_of}
 use Rattle.eds_types.specs.Fields.{type_by}
 use Rattle.eds_graph.specs.Ways.{is_circular, is_endless}
 use Rattle.eds_graph.specs.Search.{Has as is_one_of}
-use Rattle.eds_types.specs.Rules.{AreDistinct, IsContainer, IsListing, KindKeeps, HasKind, DerivesFrom, IsNested, IsCounted, name_of, KeepsRules}
+use Rattle.eds_types.specs.Rules.{AreDistinct, IsContainer, IsListing, KindKeeps, HasKind, IsInt, IsIntBy, HoldsCheck, DerivesFrom, IsNested, IsCounted, TailKeeps, name_of, is_length, KeepsRules}
 use Rattle.eds_read_types.specs.declared.numbers.FormAndDomain.{FormAndDomain}
 use Rattle.eds_read_types.specs.Places.{element, is_element, is_container, is_array, is_sub_range, is_number, attribute, elements, types, type_places}
 use Rattle.eds_read_types.specs.References.{references, row_for, judged_text, judged_by, judged_at}
@@ -42,10 +43,11 @@ use Rattle.eds_read_types.specs.ReadTypes.{id_of, id_found}
 use Rattle.eds_read_types.specs.declared.part_sort.PartSort.{PartSort}
 use Rattle.eds_read_types.specs.declared.part_sort.PartSort.TheVariants as sorts
 use Rattle.eds_read_types.specs.Entries.{sort_at, entries_at, trailers_at, own_parts_at, parts_at, named_among}
-use Rattle.eds_read_types.specs.Parts.{parts_in}
+use Rattle.eds_read_types.specs.Parts.{PartJudgement, at_parts, parts_in}
 use Rattle.eds_read_types.specs.Seats.{seats_of}
 use Rattle.eds_read_types.specs.ListFields.{field_seat, field_container, field_place}
-use Rattle.eds_read_types.specs.PartRows.{entry_id, id_or_first, padding_bits, unread, plain_part, list_part, part_by}
+use Rattle.eds_read_types.specs.PartRows.{entry_id, id_or_first, padding_bits, unread, plain_part, list_part, length_part, check_part, part_by}
+use Rattle.eds_read_types.specs.Forms.{int_form_of, bool_form_of}
 use Rattle.eds_read_types.specs.Listings.{listing_of}
 use Rattle.eds_read_types.specs.Bases.{base_named, base_found, bases_of, base_at}
 use Rattle.eds_read_types.specs.Numbers.{form_or_wide, numbers_of}
@@ -67,17 +69,20 @@ use Rattle.eds_read_types.specs.Items.{items_at, row_items}
 use Rattle.eds_read_types.specs.LimitItems.{is_too_large, items_limit_at}
 use Rattle.eds_read_types.proofs.ItemFacts.{row_some}
 use Rattle.eds_read_types.specs.ListField.{is_told, list_field_at}
-use Rattle.eds_read_types.specs.LengthField.{untold_by, length_field_at}
+use Rattle.eds_read_types.specs.LengthField.{is_int, is_tail, lengths_at, has_length_above, length_field_at, second_length_at}
+use Rattle.eds_read_types.specs.Checks.{check_at}
+use Rattle.eds_read_types.specs.PartElements.{judged_elements}
+use Rattle.eds_read_types.specs.ErrorControl.{is_held, error_control_at}
 use Rattle.eds_read_types.specs.declared.reference_row.Wanted.TheVariants.{NumberType, ContainerType}
 use Rattle.eds_read_types.proofs.NoBreaks.{none_at, least-none, types-apart, no_repeats}
 use Rattle.eds_read_types.proofs.Unbroken.{IsUnbroken, unbroken}
 use Rattle.eds_read_types.proofs.SheetPlaces.{at_one, each-none as nowhere, of_types}
 use Rattle.eds_read_types.proofs.Limits.{few_types, length-rows, no_container}
 use Rattle.eds_read_types.proofs.LawFacts.{name_apart, enumerated_unbroken}
-use Rattle.eds_read_types.proofs.PlainRules.{IsSolid, EntryKeeps, IsPlainArray, IsPlainKind, KeepsRow, ArePlainRows, own_placed, keeps_by_rows}
+use Rattle.eds_read_types.proofs.PlainRules.{IsSolid, EntryKeeps, IsPlainArray, IsPlainKind, KeepsRow, ArePlainRows, solid_other, own_placed, keeps_by_rows}
 use Rattle.eds_read_types.proofs.PartOrder.{by_lists}
-use Rattle.eds_read_types.proofs.RowRules.{AreLeveled}
-use Rattle.eds_read_types.proofs.SequenceFacts.{OwnDiffer, AreDisjoint, name_mark, parts_above, has-parts, disjoint-by}
+use Rattle.eds_read_types.proofs.RowRules.{AreLeveled, alike_kinds}
+use Rattle.eds_read_types.proofs.SequenceFacts.{OwnDiffer, AreDisjoint, name_mark, length_mark, parts_above, has-parts, disjoint-by}
 use Rattle.eds_read_types.proofs.FamilyFacts.{size_is}
 use Rattle.eds_nesting.specs.Families.{families, family, containers, types_of, types_in}
 use Rattle.eds_read_types.specs.LimitFamily.{family_size, family_at}
@@ -86,6 +91,10 @@ use Rattle.eds_read_types.proofs.NestingFacts.{no_base_cycle, course-ends, rank 
 use Rattle.eds_read_types.proofs.EmptyFacts.{has_bits, closed}
 use Rattle.eds_read_types.proofs.HollowFacts.{solid}
 use Rattle.eds_read_types.proofs.ListFieldFacts.{counted}
+use Rattle.eds_read_types.proofs.TailFacts.{tail_kept}
+use Rattle.eds_read_types.proofs.LengthFacts.{part_sort_named, scaled, int_is, own_fewer, own_none}
+use Rattle.eds_read_types.proofs.MeasureFacts.{own_measured, further_none}
+use Rattle.eds_read_types.proofs.CheckFacts.{held}
 use Rattle.eds_read_types.proofs.PartFacts.{mapped_there, placed_all, no_item, part_none}
 use Rattle.eds_read_types.proofs.PartNames.{among_has, among_parts, element_names, row_names as parts_named, names_distinct, padding_keeps}
 use Rattle.eds_read_types.proofs.Found.{id_there, found_there, number_there}
@@ -327,6 +336,14 @@ module _ (trees : List (List Node)) (names : Names) (word : Option (List ℕ)) (
           let some = number_some (base_found trees names r.declared.place) base (sym (ap (λ (w : TypeRow). number_of_id w.base) r.is) ∙ h) in
           record { declared = r.declared; there = r.there; found = some.0; by_name = some.1; number = some.2 }
 
+  -- a container derives from a container, and nothing else does
+  base_alike : (id base : ℕ) → base_of (table_rows trees names) id ≡ Some base → is_some (container_of (table_rows trees names) base) ≡ is_some (container_of (table_rows trees names) id)
+  base_alike id base e =
+      let h = has_base id base e in
+      let k = derives id h.declared h.there h.found h.by_name in
+      subst (λ n. is_some (container_of (table_rows trees names) n) ≡ is_some (container_of (table_rows trees names) id)) h.number
+      (ap (λ o. is_some (container_in o)) k.1 ∙ alike_kinds (kind_of trees names id h.declared.place) (k.0).kind k.2 ∙ sym (ap (λ o. is_some (container_in o)) (row_of id h.declared h.there)))
+
   derives_number : (id : ℕ) (d : Declared) → slice_get (types names) id ≡ Some d → (base : ℕ) → number_of_id (base_found trees names d.place) ≡ Some base → HasKind (table_rows trees names) base (DerivesFrom (kind_of trees names id d.place))
   derives_number id d there base e = let some = number_some (base_found trees names d.place) base e in subst (λ n. HasKind (table_rows trees names) n (DerivesFrom (kind_of trees names id d.place))) some.2 (derives id d there some.0 some.1)
 
@@ -399,33 +416,60 @@ module _ (trees : List (List Node)) (names : Names) (word : Option (List ℕ)) (
   solid_type : (id : ℕ) → id < length (table_rows trees names) → open_of (table_rows trees names) id ≡ None → may_be_empty (table_rows trees names) id ≡ false → IsSolid (table_rows trees names) id × (open_of (table_rows trees names) id ≡ None)
   solid_type id lt closed_type bits = (solid (table_rows trees names) id lt (has_bits (table_rows trees names) id bits).0, closed_type)
 
-  no_open : (o : Option ℕ) (at : Place) → untold_by at o ≡ [] → o ≡ None
-  no_open None at h = refl
-  no_open (Some n) at h = absurd cc
+  none_open : (o : Option ℕ) → is_some o ≡ false → o ≡ None
+  none_open None h = refl
+  none_open (Some n) h = absurd cc
 
-  -- the type of an entry has bits, and is no open binary
+  -- the part of an element of a sort, where a rule on parts is broken nowhere
+  unbroken_part : (judge : PartJudgement) → at_parts judge trees names ≡ [] → (id : ℕ) (d : Declared) → slice_get (types names) id ≡ Some d → is_container trees d.place ≡ true → (k : ℕ) (q : Place) → slice_get (own_parts_at trees d.place) k ≡ Some q → (s : PartSort) → sort_at trees q ≡ Some s
+      → judge (table_rows trees names) (record { container = id; place = k; part = part_by (Some s) trees names id (seats_of trees names id) q }) q ≡ []
+  unbroken_part judge none id d there con k q e s is =
+      let part = part_there id d (container_is id d there con) k q e ∙ ap (λ s. Some (part_by s trees names id (seats_of trees names id) q)) is in
+      part_none judge trees names none id d.place (place_there (types names) id d there) k (part_by (Some s) trees names id (seats_of trees names id) q) part q e
+
+  -- the type of an entry has bits or is an open binary, which only the last entry of a told container is
   entry_solid : (id : ℕ) (d : Declared) → slice_get (types names) id ≡ Some d → is_container trees d.place ≡ true → (k : ℕ) (q : Place) → slice_get (own_parts_at trees d.place) k ≡ Some q → sort_at trees q ≡ Some sorts.Entry
-      → IsSolid (table_rows trees names) (entry_id trees names q).0 × (open_of (table_rows trees names) (entry_id trees names q).0 ≡ None)
+      → IsSolid (table_rows trees names) (entry_id trees names q).0 × IfSome (open_of (table_rows trees names) (entry_id trees names q).0) (λ n. TailKeeps (table_rows trees names) (record { container = id; place = k; part = plain_part trees names q }))
   entry_solid id d there con k q e s =
-      let place = place_there (types names) id d there in
+      let p : Placed = record { container = id; place = k; part = plain_part trees names q } in
       let part = part_there id d (container_is id d there con) k q e ∙ ap (λ s. Some (part_by s trees names id (seats_of trees names id) q)) s in
-      let open_none = no_open (open_of (table_rows trees names) (entry_id trees names q).0) q (part_none length_field_at trees names u.lengths id d.place place k (plain_part trees names q) part q e) in
-      let bits = full (open_of (table_rows trees names) (entry_id trees names q).0) (may_be_empty (table_rows trees names) (entry_id trees names q).0) open_none
-      (unmet (is_empty_entry (table_rows trees names) (entry_id trees names q).0) _ (part_none empty_part_at trees names u.empty_parts id d.place place k (plain_part trees names q) part q e)) in
-      solid_type (entry_id trees names q).0 (entry_there q id d there) open_none bits
+      let lengths = unmet (is_some (open_of (table_rows trees names) (entry_id trees names q).0) && not (is_tail (table_rows trees names) p)) _ (unbroken_part length_field_at u.lengths id d there con k q e sorts.Entry s) in
+      let bits = unmet (is_empty_entry (table_rows trees names) (entry_id trees names q).0) _ (unbroken_part empty_part_at u.empty_parts id d there con k q e sorts.Entry s) in
+      full (open_of (table_rows trees names) (entry_id trees names q).0) refl bits (λ h. tail_kept (table_rows trees names) id k (plain_part trees names q) part h) lengths
     where
-      full : (o : Option ℕ) (empty : Bool) → o ≡ None → (not (is_some o) && empty) ≡ false → empty ≡ false
-      full None empty e h = h
-      full (Some n) empty e h = cc
+      of_kind : (k : Kind) (n : ℕ) → open_by k ≡ Some n → container_by k ≡ None
+      of_kind (kind.Int form spans) n h = refl
+      of_kind (kind.Enum form listing) n h = refl
+      of_kind (kind.Bool form) n h = refl
+      of_kind (kind.Str form) n h = refl
+      of_kind (kind.Bin m free) n h = refl
+      of_kind (kind.Arr item m) n h = refl
+      of_kind (kind.Con c) n h = absurd cc
+
+      no_entries : (o : Option TypeRow) (n : ℕ) → open_in o ≡ Some n → container_in o ≡ None
+      no_entries None n h = absurd cc
+      no_entries (Some row) n h = of_kind row.kind n h
+
+      tail_of : (b : Bool) → not b ≡ false → b ≡ true
+      tail_of true h = refl
+      tail_of false h = absurd cc
+
+      full : (o : Option ℕ) → open_of (table_rows trees names) (entry_id trees names q).0 ≡ o → (not (is_some o) && may_be_empty (table_rows trees names) (entry_id trees names q).0) ≡ false
+          → (is_tail (table_rows trees names) (record { container = id; place = k; part = plain_part trees names q }) ≡ true → TailKeeps (table_rows trees names) (record { container = id; place = k; part = plain_part trees names q }))
+          → (is_some o && not (is_tail (table_rows trees names) (record { container = id; place = k; part = plain_part trees names q }))) ≡ false
+          → IsSolid (table_rows trees names) (entry_id trees names q).0 × IfSome o (λ n. TailKeeps (table_rows trees names) (record { container = id; place = k; part = plain_part trees names q }))
+      full None none empty keep lengths = ((solid_type (entry_id trees names q).0 (entry_there q id d there) none empty).0, tt)
+      full (Some n) is empty keep lengths = (
+        solid_other (table_rows trees names) base_alike (entry_id trees names q).0 (no_entries (slice_get (table_rows trees names) (entry_id trees names q).0) n is),
+        keep (tail_of (is_tail (table_rows trees names) (record { container = id; place = k; part = plain_part trees names q })) lengths),
+      )
 
   -- and the type of a list's items
   list_solid : (id : ℕ) (d : Declared) → slice_get (types names) id ≡ Some d → is_container trees d.place ≡ true → (k : ℕ) (q : Place) → slice_get (own_parts_at trees d.place) k ≡ Some q → sort_at trees q ≡ Some sorts.List
       → IsSolid (table_rows trees names) (entry_id trees names q).0 × (open_of (table_rows trees names) (entry_id trees names q).0 ≡ None)
   list_solid id d there con k q e s =
-      let place = place_there (types names) id d there in
-      let part = part_there id d (container_is id d there con) k q e ∙ ap (λ s. Some (part_by s trees names id (seats_of trees names id) q)) s in
-      let open_none = no_open (open_of (table_rows trees names) (entry_id trees names q).0) q (part_none length_field_at trees names u.lengths id d.place place k (list_part trees names id (seats_of trees names id) q) part q e) in
-      let bits = unmet (may_be_empty (table_rows trees names) (entry_id trees names q).0) _ (part_none empty_part_at trees names u.empty_parts id d.place place k (list_part trees names id (seats_of trees names id) q) part q e) in
+      let open_none = none_open (open_of (table_rows trees names) (entry_id trees names q).0) (unmet (is_some (open_of (table_rows trees names) (entry_id trees names q).0)) _ (unbroken_part length_field_at u.lengths id d there con k q e sorts.List s)) in
+      let bits = unmet (may_be_empty (table_rows trees names) (entry_id trees names q).0) _ (unbroken_part empty_part_at u.empty_parts id d there con k q e sorts.List s) in
       solid_type (entry_id trees names q).0 (entry_there q id d there) open_none bits
 
   -- padding keeps its size, and has no type
@@ -442,22 +486,77 @@ module _ (trees : List (List Node)) (names : Names) (word : Option (List ℕ)) (
       let all : types_of (map (part_in trees names id) (own_parts_at trees d.place)) ≡ types_of (map (part_in trees names id) (entries_at trees d.place)) ++ types_of (map (part_in trees names id) (trailers_at trees d.place)) = ap types_of (map-append (part_in trees names id) (entries_at trees d.place) (trailers_at trees d.place)) ∙ flat_map-append (λ (p : Part). option_to_list (type_by (Some p))) (map (part_in trees names id) (entries_at trees d.place)) (map (part_in trees names id) (trailers_at trees d.place)) in
       rw con (subst (λ xs. is_one_of xs x) all (part_named (map (part_in trees names id) (own_parts_at trees d.place)) k (part_in trees names id q) there x h))
 
+  -- the type of a part is nested less deep
+  part_nests : (id : ℕ) (d : Declared) → slice_get (types names) id ≡ Some d → is_container trees d.place ≡ true → (k : ℕ) (q : Place) → slice_get (own_parts_at trees d.place) k ≡ Some q → (s : PartSort) → sort_at trees q ≡ Some s
+      → (inner : ℕ) → type_by (Some (part_by (Some s) trees names id (seats_of trees names id) q)) ≡ Some inner → (entry_id trees names q).0 ≡ inner → IsNested (table_rows trees names) rank id inner
+  part_nests id d there con k q e s sorted inner same_type is =
+      let here : part_in trees names id q ≡ part_by (Some s) trees names id (seats_of trees names id) q = ap (λ o. part_by o trees names id (seats_of trees names id) q) sorted in
+      let lt = subst (λ n. n < length (table_rows trees names)) is (entry_there q id d there) in
+      nested (table_rows trees names) levels circleless id (table_row trees names id d) (row_of id d there) inner lt (holds_part id d con k q e inner (ap (λ p. type_by (Some p)) here ∙ same_type))
+
   plain_keeps : (id : ℕ) (d : Declared) → slice_get (types names) id ≡ Some d → is_container trees d.place ≡ true → (k : ℕ) (q : Place) → slice_get (own_parts_at trees d.place) k ≡ Some q → sort_at trees q ≡ Some sorts.Entry
       → EntryKeeps (table_rows trees names) rank (record { container = id; place = k; part = plain_part trees names q })
   plain_keeps id d there con k q e s =
       record {
         fits = entry_solid id d there con k q e s;
-        nests = λ inner same_type. nests inner same_type;
+        nests = λ inner same_type. (let is : (entry_id trees names q).0 ≡ inner = cc in part_nests id d there con k q e sorts.Entry s inner same_type is);
+      }
+
+  -- ---- length entries
+
+  length_keeps : (id : ℕ) (d : Declared) → slice_get (types names) id ≡ Some d → is_container trees d.place ≡ true → (k : ℕ) (q : Place) → slice_get (own_parts_at trees d.place) k ≡ Some q → sort_at trees q ≡ Some sorts.Length
+      → EntryKeeps (table_rows trees names) rank (record { container = id; place = k; part = length_part trees names q })
+  length_keeps id d there con k q e s =
+      let typed = unmet (not (is_int (table_rows trees names) (entry_id trees names q).0)) _ (unbroken_part length_field_at u.lengths id d there con k q e sorts.Length s) in
+      record {
+        fits = (int_is (table_rows trees names) (entry_id trees names q).0 (was (is_int (table_rows trees names) (entry_id trees names q).0) typed), scaled trees q);
+        nests = λ inner same_type. (let is : (entry_id trees names q).0 ≡ inner = cc in part_nests id d there con k q e sorts.Length s inner same_type is);
       }
     where
-      here : part_in trees names id q ≡ plain_part trees names q
-      here = ap (λ s. part_by s trees names id (seats_of trees names id) q) s
+      was : (b : Bool) → not b ≡ false → b ≡ true
+      was true h = refl
+      was false h = absurd cc
 
-      nests : (inner : ℕ) → type_by (Some (plain_part trees names q)) ≡ Some inner → IsNested (table_rows trees names) rank id inner
-      nests inner same_type =
-          let is : (entry_id trees names q).0 ≡ inner = cc in
-          let lt = subst (λ n. n < length (table_rows trees names)) is (entry_there q id d there) in
-          nested (table_rows trees names) levels circleless id (table_row trees names id d) (row_of id d there) inner lt (holds_part id d con k q e inner (ap (λ p. type_by (Some p)) here ∙ same_type))
+  -- ---- error controls
+
+  -- no integer type has a base
+  no_integer_base : (at : Place) → is_element trees (codes "IntegerDataType") at ≡ true → base_found trees names at ≡ None
+  no_integer_base at h =
+      let name : node_name (element trees at) ≡ codes "IntegerDataType" = (bytes_eq-Decides (node_name (element trees at)) (codes "IntegerDataType")).0 h in
+      let no : may_derive trees at ≡ false = ap (λ name. same name (codes "SubRangeDataType") || same name (codes "ContainerDataType")) name in
+      ap (λ b. id_found names at (if b then attribute trees (codes "baseType") at else None)) no
+
+  check_type : (q : Place) → is_held trees names q ≡ true → IsInt (table_rows trees names) (entry_id trees names q).0 (HoldsCheck (check_at trees q)) × (base_of (table_rows trees names) (entry_id trees names q).0 ≡ None)
+  check_type q h =
+      let id = (entry_id trees names q).0 in
+      let found = held trees (type_places names) (bases_of trees names) (check_at trees q) id h in
+      let other = declared_there (types names) id found.place found.there in
+      let integer : is_element trees (codes "IntegerDataType") (other.0).place ≡ true = ap (is_element trees (codes "IntegerDataType")) other.2 ∙ found.integer in
+      let number : is_number trees (other.0).place ≡ true = ap (λ b. b || is_sub_range trees (other.0).place) integer in
+      let row = row_of id other.0 other.1 in
+      let root = no_integer_base (other.0).place integer in
+      let none = base_there trees names id found.place found.there ∙ no_integer_base found.place found.integer in (
+        (table_row trees names id other.0, row, subst (IsIntBy (HoldsCheck (check_at trees q))) (sym (number_kind trees names id (other.0).place number)) (found.numbers none)),
+        ap base_in row ∙ ap number_of_id root,
+      )
+
+  check_keeps : (id : ℕ) (d : Declared) → slice_get (types names) id ≡ Some d → is_container trees d.place ≡ true → (k : ℕ) (q : Place) → slice_get (own_parts_at trees d.place) k ≡ Some q → sort_at trees q ≡ Some sorts.ErrorControl
+      → EntryKeeps (table_rows trees names) rank (record { container = id; place = k; part = check_part trees names q })
+  check_keeps id d there con k q e s =
+      let here = each-none (judged_elements error_control_at trees names) (type_places names) u.checks id d.place (place_there (types names) id d there) in
+      let own = own_none trees (error_control_at trees names) d.place here in
+      let one = unmet (is_element trees (codes "ErrorControlEntry") q && not (is_held trees names q)) _ (each-none (error_control_at trees names) (own_parts_at trees d.place) own k q e) in
+      record {
+        fits = check_type q (was (is_element trees (codes "ErrorControlEntry") q) (is_held trees names q) (part_sort_named (node_name (element trees q)) sorts.ErrorControl s) one);
+        nests = λ inner same_type. (let is : (entry_id trees names q).0 ≡ inner = cc in part_nests id d there con k q e sorts.ErrorControl s inner same_type is);
+      }
+    where
+      was : (a b : Bool) → a ≡ true → (a && not b) ≡ false → b ≡ true
+      was true true e h = refl
+      was true false e h = absurd cc
+      was false b e h = absurd cc
+
+  -- ---- lists
 
   -- the number of items is told by an entry before the list
   list_counted : (id : ℕ) (d : Declared) → slice_get (types names) id ≡ Some d → is_container trees d.place ≡ true → (k : ℕ) (q : Place) → slice_get (own_parts_at trees d.place) k ≡ Some q → sort_at trees q ≡ Some sorts.List
@@ -479,17 +578,8 @@ module _ (trees : List (List Node)) (names : Names) (word : Option (List ℕ)) (
       let full = list_solid id d there con k q e s in
       record {
         fits = (full.0, full.1, list_counted id d there con k q e s);
-        nests = λ inner same_type. nests inner same_type;
+        nests = λ inner same_type. (let is : (entry_id trees names q).0 ≡ inner = cc in part_nests id d there con k q e sorts.List s inner same_type is);
       }
-    where
-      here : part_in trees names id q ≡ list_part trees names id (seats_of trees names id) q
-      here = ap (λ s. part_by s trees names id (seats_of trees names id) q) s
-
-      nests : (inner : ℕ) → type_by (Some (list_part trees names id (seats_of trees names id) q)) ≡ Some inner → IsNested (table_rows trees names) rank id inner
-      nests inner same_type =
-          let is : (entry_id trees names q).0 ≡ inner = cc in
-          let lt = subst (λ n. n < length (table_rows trees names)) is (entry_there q id d there) in
-          nested (table_rows trees names) levels circleless id (table_row trees names id d) (row_of id d there) inner lt (holds_part id d con k q e inner (ap (λ p. type_by (Some p)) here ∙ same_type))
 
   part_keeps : (id : ℕ) (d : Declared) → slice_get (types names) id ≡ Some d → is_container trees d.place ≡ true → (k : ℕ) (q : Place) → slice_get (own_parts_at trees d.place) k ≡ Some q
       → EntryKeeps (table_rows trees names) rank (record { container = id; place = k; part = part_in trees names id q })
@@ -501,8 +591,8 @@ module _ (trees : List (List Node)) (names : Names) (word : Option (List ℕ)) (
       go (Some sorts.FixedValue) s = unread_keeps id k
       go (Some sorts.Padding) s = let size = padding_keeps trees q in pad_keeps id k (padding_bits trees q) size.0 size.1
       go (Some sorts.List) s = list_keeps id d there con k q e s
-      go (Some sorts.Length) s = unread_keeps id k
-      go (Some sorts.ErrorControl) s = unread_keeps id k
+      go (Some sorts.Length) s = length_keeps id d there con k q e s
+      go (Some sorts.ErrorControl) s = check_keeps id d there con k q e s
 
   entry_keeps : (id : ℕ) (d : Declared) → slice_get (types names) id ≡ Some d → is_container trees d.place ≡ true → (k : ℕ) (p : Part) → slice_get (map (part_in trees names id) (own_parts_at trees d.place)) k ≡ Some p → EntryKeeps (table_rows trees names) rank (record { container = id; place = k; part = p })
   entry_keeps id d there con k p e =
@@ -716,6 +806,15 @@ module _ (trees : List (List Node)) (names : Names) (word : Option (List ℕ)) (
         })
   ]
 
+  -- a container has one length entry at most, and none where a base has one
+  own_lengths : (k : ℕ) → OwnDiffer (table_rows trees names) leveled.level leveled.low leveled.base_level length_mark k
+  own_lengths k = elim (container_cases k) [
+    | inl none ↦ own_measured (table_rows trees names) leveled.level leveled.low leveled.base_level k [] (subst (λ o. length (filter is_length (parts_in o)) ≤ 0) (sym none) (lit≤ tt)) (further_none (has_length_above (table_rows trees names) (base_of (table_rows trees names) k)))
+    | inr c ↦ own_measured (table_rows trees names) leveled.level leveled.low leveled.base_level k (lengths_at trees c.declared.place)
+        (subst (λ ps. length (filter is_length ps) ≤ length (lengths_at trees c.declared.place)) (sym (parts_from k c.declared c.container)) (own_fewer trees names k (seats_of trees names k) c.declared.place))
+        (over-none (second_length_at trees (table_rows trees names)) 0 (type_places names) u.one_lengths k c.declared.place (place_there (types names) k c.declared c.there) k (omega arith))
+  ]
+
   -- ---- families
 
   few_in_family : (id : ℕ) → IsContainer (table_rows trees names) id → containers (table_rows trees names) (families (table_rows trees names)) (family (families (table_rows trees names)) id) ≤ 512
@@ -751,6 +850,7 @@ module _ (trees : List (List Node)) (names : Names) (word : Option (List ℕ)) (
         nesting = few_ranks (table_rows trees names) levels circleless few_nested;
         base_rank = λ id base e. base_ranks (table_rows trees names) levels circleless id base (within id base (slice_get (table_rows trees names) id) refl e) e;
         named = own_differ;
+        measured = own_lengths;
         rows = λ id row e. row_keeps id row e (all_there has_few_entries (table_rows trees names) parts.1 id row e);
       }
     where

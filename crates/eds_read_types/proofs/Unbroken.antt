@@ -23,7 +23,9 @@ use Rattle.eds_read_types.specs.EmptyType.{empty_part_at, empty_item_at, empty_w
 use Rattle.eds_read_types.specs.Parts.{at_rows, at_parts}
 use Rattle.eds_read_types.specs.DuplicateEntry.{breaks_duplicate}
 use Rattle.eds_read_types.specs.ListField.{breaks_list_field}
-use Rattle.eds_read_types.specs.LengthField.{breaks_length}
+use Rattle.eds_read_types.specs.PartElements.{at_part_elements}
+use Rattle.eds_read_types.specs.LengthField.{length_field_at, scale_at, second_length_at}
+use Rattle.eds_read_types.specs.ErrorControl.{error_control_at}
 use Rattle.eds_read_types.specs.TableBreaks.{rules, table_breaks}
 use Rattle.eds_read_types.proofs.NoBreaks.{append-none}
 
@@ -66,7 +68,9 @@ pub record IsUnbroken (trees : List (List Node)) (names : Names) (word : Option 
   pub empties : empty_word trees names word ≡ []
   pub duplicates : breaks_duplicate trees names ≡ []
   pub list_fields : breaks_list_field trees names ≡ []
-  pub lengths : breaks_length trees names ≡ []
+  pub lengths : at_parts length_field_at trees names ≡ []
+  pub one_lengths : at_rows second_length_at trees names ≡ []
+  pub checks : at_part_elements error_control_at trees names ≡ []
 
 pub unbroken : (trees : List (List Node)) (names : Names) (word : Option (List ℕ)) → table_breaks trees names word ≡ [] → IsUnbroken trees names word
 unbroken trees names word h =
@@ -78,6 +82,8 @@ unbroken trees names word h =
     let containers = all.1.1.1.0 in
     let with_bits = append-none (at_parts empty_part_at trees names) _ containers.0 in
     let further = append-none (at_rows empty_item_at trees names) _ with_bits.1 in
+    let lengths = append-none (at_parts length_field_at trees names) _ containers.1.1.1.0 in
+    let scales = append-none (at_part_elements scale_at trees names) _ lengths.1 in
     record {
       resolved = found.1;
       sort = fitting.1;
@@ -97,5 +103,7 @@ unbroken trees names word h =
       empties = further.1;
       duplicates = containers.1.0;
       list_fields = containers.1.1.0;
-      lengths = containers.1.1.1.0;
+      lengths = lengths.0;
+      one_lengths = scales.1;
+      checks = containers.1.1.1.1.0;
     }

@@ -1,22 +1,15 @@
 -- The references inside interfaces (CCSDS 876.0-B, declared interfaces).
-use Rattle.std.specs.Prelude.{ℕ, List, [], ◌∷◌, ◌++◌, map, filter, codes, Bool, false, Option, Some, None}
+use Rattle.std.specs.Prelude.{ℕ, List, [], ◌∷◌, ◌++◌, map, codes, Bool, false, Option, Some, None}
 use Rattle.std.specs.List.{flat_map}
 use Rattle.eds_base.specs.declared.ids.Place.{Place}
-use Rattle.eds_base.specs.declared.ids.TypeId.{TypeId}
-use Rattle.eds_base.specs.declared.refusal.Refusal.{Refusal}
 use Rattle.eds_tree.specs.declared.tree.Node.{Node}
-use Rattle.eds_names.specs.declared.declared.Declared.{Declared}
-use Rattle.eds_names.specs.Declarations.{is_face}
+use Rattle.eds_names.specs.Declarations.{faces_in}
 use Rattle.eds_names.specs.LookUp.{Names}
 use Rattle.eds_names.specs.Repeats.{is_among}
-use Rattle.eds_types.specs.Rows.{Table}
 use Rattle.eds_read_types.specs.declared.face_reference.Sought.{Sought}
-use Rattle.eds_read_types.specs.declared.face_reference.Sought.TheVariants.{BaseInterface, GenericBase, MemberType}
+use Rattle.eds_read_types.specs.declared.face_reference.Sought.TheVariants.{BaseInterface, EndInterface, GenericBase, MemberType}
 use Rattle.eds_read_types.specs.declared.face_reference.FaceReference.{FaceReference}
 use Rattle.eds_read_types.specs.Places.{attribute, own_name, held}
-use Rattle.eds_read_types.specs.TableRows.{table_rows}
-use Rattle.eds_read_types.specs.PartRows.{id_or_first}
-use Rattle.eds_read_types.specs.ReadTypes.{id_found}
 
 -- ---- the elements of an interface
 
@@ -56,6 +49,7 @@ typed_places trees at = flat_map (map_places trees) (base_places trees at) ++ pa
 abbrev pub is_own : List (List ℕ) → Sought → List ℕ → Bool
 is_own own GenericBase text = false
 is_own own BaseInterface text = is_among own text
+is_own own EndInterface text = false
 is_own own MemberType text = is_among own text
 
 abbrev pub by_text : List (List ℕ) → Sought → Place → Option (List ℕ) → List FaceReference
@@ -66,6 +60,7 @@ by_text own sought at (Some text) = record { place = at; text = text; sought = s
 abbrev pub attribute_of : Sought → List ℕ
 attribute_of GenericBase = codes "baseType"
 attribute_of BaseInterface = codes "type"
+attribute_of EndInterface = codes "type"
 attribute_of MemberType = codes "type"
 
 -- the reference of an element in the interface at a place
@@ -81,35 +76,10 @@ references_in trees at =
 
 -- ---- all interfaces
 
-abbrev pub is_interface : Declared → Bool
-is_interface d = is_face d.item
-
 -- the elements of the declared interfaces, in the order of files and elements
 abbrev pub face_places : Names → List Place
-face_places names = map (λ d. d.place) (filter is_interface names.declared)
+face_places names = map (λ d. d.place) (faces_in names.declared)
 
 -- all references in them
 abbrev pub face_references : List (List Node) → Names → List FaceReference
 face_references trees names = flat_map (references_in trees) (face_places names)
-
--- what breaks a rule at one of them, of which the trees, the names and the rows of all types are given
-abbrev pub FaceJudgement : Type 0
-FaceJudgement = List (List Node) → Names → Table → FaceReference → List Refusal
-
-abbrev pub at_faces : FaceJudgement → List (List Node) → Names → List Refusal
-at_faces judge trees names = flat_map (judge trees names (table_rows trees names)) (face_references trees names)
-
--- ---- the types that are used
-
-abbrev pub used_by : Names → FaceReference → (own : Bool) → Sought → List TypeId
-used_by names r own GenericBase = []
-used_by names r own BaseInterface = []
-used_by names r Bool.true MemberType = []
-used_by names r Bool.false MemberType = id_or_first (id_found names r.place (Some r.text)) ∷ []
-
--- those that a parameter, an argument or a map names, but own generic names
-abbrev pub used_at : Names → FaceReference → List TypeId
-used_at names r = used_by names r r.own r.sought
-
-abbrev pub face_types : List (List Node) → Names → List TypeId
-face_types trees names = flat_map (used_at names) (face_references trees names)

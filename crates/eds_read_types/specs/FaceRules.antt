@@ -1,22 +1,26 @@
--- The rules on the references inside interfaces.
-use Rattle.std.specs.Prelude.{ℕ, List, [], ◌∷◌, if◌then◌else◌, Bool, Option, Some, None}
+-- The rules on the references inside interfaces and components.
+use Rattle.std.specs.Prelude.{ℕ, List, [], ◌∷◌, codes, if◌then◌else◌, Bool, true, false, not, Option, Some, None, slice_get}
 use Rattle.eds_base.specs.declared.ids.Place.{Place}
 use Rattle.eds_base.specs.declared.ids.TypeId.{TypeId}
 use Rattle.eds_base.specs.declared.refusal.Refusal.{Refusal}
 use Rattle.eds_base.specs.declared.rule.Rule.TheVariants.{WrongKind, LengthField}
 use Rattle.eds_tree.specs.declared.tree.Node.{Node}
+use Rattle.eds_tree.specs.Unsupported.{spells_flag}
 use Rattle.eds_names.specs.declared.declared.Item.{Item}
+use Rattle.eds_names.specs.declared.declared.Item.TheVariants as item
 use Rattle.eds_names.specs.Declarations.{is_sort, is_face}
 use Rattle.eds_names.specs.LookUp.{Names, look_up}
 use Rattle.eds_types.specs.Rows.{Table}
 use Rattle.eds_types.specs.Sizes.{open_of}
 use Rattle.eds_read_types.specs.declared.face_reference.Sought.{Sought}
-use Rattle.eds_read_types.specs.declared.face_reference.Sought.TheVariants.{BaseInterface, GenericBase, MemberType}
+use Rattle.eds_read_types.specs.declared.face_reference.Sought.TheVariants.{BaseInterface, EndInterface, GenericBase, MemberType}
 use Rattle.eds_read_types.specs.declared.face_reference.FaceReference.{FaceReference}
 use Rattle.eds_read_types.specs.References.{broken, broken_with}
 use Rattle.eds_read_types.specs.Unresolved.{unresolved_by}
 use Rattle.eds_read_types.specs.ReadTypes.{id_found}
-use Rattle.eds_read_types.specs.FaceReferences.{FaceJudgement, at_faces}
+use Rattle.eds_read_types.specs.Places.{attribute}
+use Rattle.eds_read_types.specs.FaceReferences.{face_places}
+use Rattle.eds_read_types.specs.InnerReferences.{FaceJudgement, at_faces}
 
 -- ---- a reference finds something; an own generic name need not be looked up
 
@@ -28,23 +32,36 @@ breaks_face_unresolved trees names = at_faces unresolved_in_face trees names
 
 -- ---- what it finds is of the wanted kind
 
-abbrev pub suits : Sought → Item → Bool
-suits BaseInterface found = is_face found
-suits GenericBase found = is_sort found
-suits MemberType found = is_sort found
+-- the interface of an element is abstract
+abbrev pub is_abstract_at : List (List Node) → Option Place → Bool
+is_abstract_at trees None = false
+is_abstract_at trees (Some at) = spells_flag true (attribute trees (codes "abstract") at)
 
-abbrev pub unsuited_by : FaceReference → Option Item → List Refusal
-unsuited_by r None = []
-unsuited_by r (Some found) = if suits r.sought found then [] else broken_with WrongKind r.place r.text ∷ []
+-- the item is an interface that an end may have: one that is not abstract
+abbrev pub is_for_end : List (List Node) → Names → Item → Bool
+is_for_end trees names (item.Sort id) = false
+is_for_end trees names (item.Face id) = not (is_abstract_at trees (slice_get (face_places names) id.0))
+is_for_end trees names (item.Comp id) = false
+
+abbrev pub suits : List (List Node) → Names → Sought → Item → Bool
+suits trees names BaseInterface found = is_face found
+suits trees names EndInterface found = is_for_end trees names found
+suits trees names GenericBase found = is_sort found
+suits trees names MemberType found = is_sort found
+
+abbrev pub unsuited_by : List (List Node) → Names → FaceReference → Option Item → List Refusal
+unsuited_by trees names r None = []
+unsuited_by trees names r (Some found) = if suits trees names r.sought found then [] else broken_with WrongKind r.place r.text ∷ []
 
 -- a base that is an own generic name is no interface
 abbrev pub generic_as : FaceReference → Sought → List Refusal
 generic_as r BaseInterface = broken_with WrongKind r.place r.text ∷ []
+generic_as r EndInterface = []
 generic_as r GenericBase = []
 generic_as r MemberType = []
 
 abbrev pub wrong_kind_in_face : FaceJudgement
-wrong_kind_in_face trees names rows r = if r.own then generic_as r r.sought else unsuited_by r (look_up names r.place r.text)
+wrong_kind_in_face trees names rows r = if r.own then generic_as r r.sought else unsuited_by trees names r (look_up names r.place r.text)
 
 abbrev pub breaks_face_kind : List (List Node) → Names → List Refusal
 breaks_face_kind trees names = at_faces wrong_kind_in_face trees names

@@ -29,6 +29,7 @@ pub mod Numbers
 pub mod Items
 pub mod Seats
 pub mod ListFields
+pub mod Checks
 pub mod PartRows
 pub mod TableRows
 pub mod Used
@@ -40,8 +41,12 @@ pub mod LimitItems
 pub mod Hollow
 pub mod EmptyType
 pub mod ListField
+pub mod PartElements
 pub mod LengthField
+pub mod ErrorControl
 pub mod FaceReferences
+pub mod ComponentReferences
+pub mod InnerReferences
 pub mod FaceRules
 pub mod TableBreaks
 pub mod TableRead

@@ -15,6 +15,8 @@ use Rattle.eds_read_types.specs.declared.seat.Seat.{Seat}
 use Rattle.eds_read_types.specs.Places.{attribute, own_name}
 use Rattle.eds_read_types.specs.Entries.{sort_at, type_named}
 use Rattle.eds_read_types.specs.ListFields.{field_seat, field_container, field_place}
+use Rattle.eds_read_types.specs.Calibrators.{c0_or_plain, c1_or_plain}
+use Rattle.eds_read_types.specs.Checks.{check_at}
 use Rattle.eds_read_types.specs.ReadTypes.{id_found}
 use Rattle.eds_read_types.specs.TextForms.{natural, is_binary_size}
 
@@ -55,6 +57,14 @@ plain_part trees names at = part.Plain (own_name trees at) (entry_id trees names
 abbrev pub list_part : List (List Node) → Names → (container : ℕ) → List Seat → Place → Part
 list_part trees names container seats at = part.List (own_name trees at) (entry_id trees names at) (field_container container (field_seat trees seats at)) (field_place (field_seat trees seats at))
 
+-- a length entry by its name, its type and its scale
+abbrev pub length_part : List (List Node) → Names → Place → Part
+length_part trees names at = part.Length (own_name trees at) (entry_id trees names at) (c0_or_plain trees at) (c1_or_plain trees at)
+
+-- an error control by its name, its type and its check
+abbrev pub check_part : List (List Node) → Names → Place → Part
+check_part trees names at = part.Check (own_name trees at) (entry_id trees names at) (check_at trees at)
+
 -- a part of the container of a number, in whose sequence the seats are
 abbrev pub part_by : Option PartSort → List (List Node) → Names → (container : ℕ) → List Seat → Place → Part
 part_by None trees names container seats at = unread
@@ -62,8 +72,8 @@ part_by (Some sort.Entry) trees names container seats at = plain_part trees name
 part_by (Some sort.FixedValue) trees names container seats at = unread
 part_by (Some sort.Padding) trees names container seats at = part.Pad (padding_bits trees at)
 part_by (Some sort.List) trees names container seats at = list_part trees names container seats at
-part_by (Some sort.Length) trees names container seats at = unread
-part_by (Some sort.ErrorControl) trees names container seats at = unread
+part_by (Some sort.Length) trees names container seats at = length_part trees names at
+part_by (Some sort.ErrorControl) trees names container seats at = check_part trees names at
 
 -- the part that the element at a place is
 abbrev pub part_at : List (List Node) → Names → (container : ℕ) → List Seat → Place → Part

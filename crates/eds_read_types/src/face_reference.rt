@@ -4,43 +4,42 @@ ghost use Rattle.std.specs.Prelude.{◌≡◌, ◌++◌, ◌∷◌, [], ℕ, Lis
 ghost use Rattle.std.specs.List.{flat_map};
 ghost use Rattle.eds_names.specs.Repeats.{is_among};
 ghost use Rattle.eds_read_types.specs.Places.{held, own_name as own_name_of};
-ghost use Rattle.eds_read_types.specs.PartRows.{id_or_first};
-ghost use Rattle.eds_read_types.specs.FaceReferences.{held_in as held_in_sets, generic_places as generics_at, generic_names, base_places as bases_at, map_places as maps_at, parameter_places as parameters_at, argument_places as arguments_at, typed_places as typed_at, is_own as is_own_name, attribute_of as attribute_sought, reference_at, references_in as references_at, face_places as face_places_of, face_references as face_references_of, used_at, face_types};
+ghost use Rattle.eds_read_types.specs.FaceReferences.{held_in as held_in_sets, generic_places as generics_at, generic_names, base_places as bases_at, map_places as maps_at, parameter_places as parameters_at, argument_places as arguments_at, typed_places as typed_at, is_own as is_own_name, attribute_of as attribute_sought, reference_at, references_in as references_at, face_places as face_places_of, face_references as face_references_of};
 
 use crate::element::{attribute, own_name, push_held};
 use crate::named_trees::NamedTrees;
-use crate::reference::id_found;
-use eds_base::{Memory, Place, Text, TypeId};
+use eds_base::{Memory, Place, Text};
 use eds_names::Space;
 use eds_tree::Tree;
-use eds_types::Used;
 use indexmap::IndexSet;
 use std::alloc::Global;
 
-/// What a reference inside an interface is to find.
+/// What a reference inside an interface or a component is to find.
 #[derive(Clone, Copy, Debug, PartialEq, Eq)]
 pub(crate) enum Sought {
     /// The interface that a base names.
     BaseInterface,
+    /// The interface that an end of a component names.
+    EndInterface,
     /// The type that all that a generic name stands for is or derives from.
     GenericBase,
-    /// The type of a parameter, of an argument, or in a map.
+    /// The type of a parameter, of an argument, of a variable, or in a map.
     MemberType,
 }
 
-/// A reference inside an interface.
+/// A reference inside an interface or a component.
 #[derive(Drop)]
 pub(crate) struct FaceReference {
     pub(crate) place: Place,
     pub(crate) text: Text,
     pub(crate) sought: Sought,
-    /// Whether it is a generic name of the interface itself.
+    /// Whether it is a generic name of the interface itself, in which it stands.
     pub(crate) own: bool,
 }
 
 // ---- the elements of an interface
 
-fn held_among(
+pub(crate) fn held_among(
     alloc: Global,
     trees: &[Tree],
     name: &str,
@@ -55,7 +54,7 @@ fn held_among(
     Ok(places)
 }
 
-fn held_in(
+pub(crate) fn held_in(
     alloc: Global,
     trees: &[Tree],
     set: &str,
@@ -95,7 +94,7 @@ fn typed_places(
     Ok(places)
 }
 
-fn push_all(places: &mut Vec<Place>, more: &[Place]) -> Result<(), Memory>
+pub(crate) fn push_all(places: &mut Vec<Place>, more: &[Place]) -> Result<(), Memory>
     ensures { OnOk result (places.new.items ≡ places.old.items ++ more.now) }
 {
     for at in more {
@@ -104,7 +103,7 @@ fn push_all(places: &mut Vec<Place>, more: &[Place]) -> Result<(), Memory>
     Ok(())
 }
 
-fn push_maps(
+pub(crate) fn push_maps(
     alloc: Global,
     places: &mut Vec<Place>,
     trees: &[Tree],
@@ -157,18 +156,20 @@ fn is_own(own: &OwnNames, sought: Sought, text: &str) -> bool
     match sought {
         Sought::GenericBase => false,
         Sought::BaseInterface => own.names.contains(text),
+        Sought::EndInterface => false,
         Sought::MemberType => own.names.contains(text),
     }
 }
 
 // ---- its references
 
-fn attribute_of(sought: Sought) -> &'static str
+pub(crate) fn attribute_of(sought: Sought) -> &'static str
     ensures { result.now ≡ attribute_sought sought }
 {
     match sought {
         Sought::GenericBase => "baseType",
         Sought::BaseInterface => "type",
+        Sought::EndInterface => "type",
         Sought::MemberType => "type",
     }
 }
@@ -236,7 +237,8 @@ fn push_references_in(
 
 // ---- all interfaces
 
-fn face_places(alloc: Global, space: &Space) -> Result<Vec<Place>, Memory>
+/// The elements of the declared interfaces.
+pub(crate) fn face_places(alloc: Global, space: &Space) -> Result<Vec<Place>, Memory>
     ensures { IfOk result (λ p. p.items ≡ face_places_of space.now) }
 {
     let mut places = Vec::new(alloc);
@@ -248,64 +250,17 @@ fn face_places(alloc: Global, space: &Space) -> Result<Vec<Place>, Memory>
     Ok(places)
 }
 
-/// All references in the interfaces of a sheet.
-pub(crate) fn face_references(
+/// Puts all references in the interfaces of a sheet last.
+pub(crate) fn push_face_references(
     alloc: Global,
+    references: &mut Vec<FaceReference>,
     sheet: &NamedTrees,
-) -> Result<Vec<FaceReference>, Memory>
-    ensures { IfOk result (λ r. r.items ≡ face_references_of sheet.now.trees.now sheet.now.space.now) }
+) -> Result<(), Memory>
+    ensures { OnOk result (references.new.items ≡ references.old.items ++ face_references_of sheet.now.trees.now sheet.now.space.now) }
 {
     let places = face_places(alloc, sheet.space)?;
-    let mut references = Vec::new(alloc);
     for at in places.as_slice() {
-        push_references_in(alloc, &mut references, sheet.trees, *at)?;
-    }
-    Ok(references)
-}
-
-// ---- the types that are used
-
-fn type_or_first(id: Option<TypeId>) -> TypeId
-    ensures { result ≡ id_or_first id }
-{
-    match id {
-        None => TypeId(0),
-        Some(id) => id,
-    }
-}
-
-fn push_used_at(
-    alloc: Global,
-    used: &mut Used,
-    sheet: &NamedTrees,
-    reference: &FaceReference,
-) -> Result<(), Memory>
-    ensures { OnOk result (used.new ≡ used.old ++ used_at sheet.now.space.now reference.now) }
-{
-    match reference.sought {
-        Sought::GenericBase => Ok(()),
-        Sought::BaseInterface => Ok(()),
-        Sought::MemberType => {
-            if reference.own {
-                return Ok(());
-            }
-            let id = id_found(alloc, sheet, reference.place, Some(reference.text.as_str()))?;
-            used.push(type_or_first(id))
-        }
-    }
-}
-
-/// Puts the types last that parameters, arguments and maps of interfaces name.
-pub(crate) fn push_face_types(
-    alloc: Global,
-    used: &mut Used,
-    sheet: &NamedTrees,
-) -> Result<(), Memory>
-    ensures { OnOk result (used.new ≡ used.old ++ face_types sheet.now.trees.now sheet.now.space.now) }
-{
-    let references = face_references(alloc, sheet)?;
-    for reference in references.as_slice() {
-        push_used_at(alloc, used, sheet, reference)?;
+        push_references_in(alloc, references, sheet.trees, *at)?;
     }
     Ok(())
 }

@@ -1,4 +1,4 @@
-//! The rules on the references inside interfaces.
+//! The rules on the references inside interfaces and components.
 
 ghost use Rattle.std.specs.Prelude.{◌≡◌, List, IfOk, is_some, option_map};
 ghost use Rattle.std.specs.List.{flat_map};
@@ -8,21 +8,33 @@ ghost use Rattle.eds_tree.specs.declared.tree.Node.{Node as node};
 ghost use Rattle.eds_names.specs.LookUp.{Names};
 ghost use Rattle.eds_types.specs.Rows.{Table};
 ghost use Rattle.eds_read_types.specs.declared.face_reference.FaceReference.{FaceReference as reference_of};
-ghost use Rattle.eds_read_types.specs.FaceReferences.{at_faces};
-ghost use Rattle.eds_read_types.specs.FaceRules.{suits as suits_sought, unsuited_by, generic_as, open_by};
+ghost use Rattle.eds_read_types.specs.InnerReferences.{at_faces};
+ghost use Rattle.eds_read_types.specs.FaceReferences.{face_places as face_places_of};
+ghost use Rattle.eds_read_types.specs.FaceRules.{is_abstract_at as is_abstract_in, is_for_end as is_for_end_in, suits as suits_sought, unsuited_by, generic_as, open_by};
 
 use crate::breaks::{broken, broken_with};
-use crate::face_reference::{FaceReference, Sought, face_references};
+use crate::element::attribute;
+use crate::face_reference::{FaceReference, Sought, face_places};
+use crate::inner_reference::inner_references;
 use crate::reference::id_found;
 use crate::rules::SheetRule;
 use crate::sheet_rows::{SheetRows, is_open};
-use eds_base::{Memory, Refusal, Rule, TypeId};
+use eds_base::{Memory, Place, Refusal, Rule, TypeId};
 use eds_names::Item;
+use eds_tree::{Tree, flag_value};
 use eds_types::TypeRows;
 use std::alloc::Global;
 use std::marker::PhantomData;
 
-/// A rule that is judged at one reference inside an interface at a time.
+/// A sheet with the rows of its types and the elements of its declared interfaces, each at its `FaceId`.
+#[derive(Drop)]
+pub(crate) struct FaceSheet<'a> {
+    types: &'a SheetRows<'a>,
+    faces: &'a [Place],
+    ghost declared: { faces.now ≡ face_places_of types.now.graph.now.sheet.now.space.now },
+}
+
+/// A rule that is judged at one reference inside an interface or a component at a time.
 pub(crate) trait FaceRule {
     /// All that breaks it there, of which the trees, the names and the rows of all types are given.
     ghost breaks: { List (List node) → Names → Table → reference_of → List refusal };
@@ -30,18 +42,18 @@ pub(crate) trait FaceRule {
     /// The least of them.
     fn least_at(
         alloc: Global,
-        sheet: &SheetRows,
+        sheet: &FaceSheet,
         reference: &FaceReference,
     ) -> Result<Option<Refusal>, Memory>
-        ensures { IfOk result (λ r. r ≡ least (breaks sheet.now.graph.now.sheet.now.trees.now sheet.now.graph.now.sheet.now.space.now sheet.now.rows.now reference.now)) };
+        ensures { IfOk result (λ r. r ≡ least (breaks sheet.now.types.now.graph.now.sheet.now.trees.now sheet.now.types.now.graph.now.sheet.now.space.now sheet.now.types.now.rows.now reference.now)) };
 }
 
 fn least_over_faces<R: FaceRule>(
     alloc: Global,
-    sheet: &SheetRows,
+    sheet: &FaceSheet,
     references: &[FaceReference],
 ) -> Result<Option<Refusal>, Memory>
-    ensures { IfOk result (λ r. r ≡ least (flat_map (R.breaks sheet.now.graph.now.sheet.now.trees.now sheet.now.graph.now.sheet.now.space.now sheet.now.rows.now) references.now)) }
+    ensures { IfOk result (λ r. r ≡ least (flat_map (R.breaks sheet.now.types.now.graph.now.sheet.now.trees.now sheet.now.types.now.graph.now.sheet.now.space.now sheet.now.types.now.rows.now) references.now)) }
 {
     let mut found = None;
     for reference in references {
@@ -51,23 +63,28 @@ fn least_over_faces<R: FaceRule>(
     Ok(found)
 }
 
-/// A rule that is judged at the references inside all interfaces.
+/// A rule that is judged at the references inside all interfaces and components.
 pub(crate) struct AtFaces<R>(PhantomData<R>);
 
 impl<R: FaceRule> SheetRule for AtFaces<R> {
-    ghost use Rattle.eds_read_types.specs.FaceReferences.{at_faces};
+    ghost use Rattle.eds_read_types.specs.InnerReferences.{at_faces};
 
     ghost breaks = { λ trees names word. at_faces R.breaks trees names };
 
     fn least(alloc: Global, sheet: &SheetRows) -> Result<Option<Refusal>, Memory> {
-        let references = face_references(alloc, sheet.graph.sheet)?;
-        least_over_faces::<R>(alloc, sheet, &references)
+        let references = inner_references(alloc, sheet.graph.sheet)?;
+        let faces = face_places(alloc, sheet.graph.sheet.space)?;
+        let judged = FaceSheet {
+            types: sheet,
+            faces: &faces,
+        };
+        least_over_faces::<R>(alloc, &judged, &references)
     }
 }
 
 // ---- a reference finds something
 
-/// A reference inside an interface finds something, unless it is a generic name of the interface itself.
+/// A reference inside an interface or a component finds something, unless it is a generic name of the interface itself.
 pub(crate) struct UnresolvedInFace;
 
 impl FaceRule for UnresolvedInFace {
@@ -77,19 +94,15 @@ impl FaceRule for UnresolvedInFace {
 
     fn least_at(
         alloc: Global,
-        sheet: &SheetRows,
+        sheet: &FaceSheet,
         reference: &FaceReference,
     ) -> Result<Option<Refusal>, Memory> {
         if reference.own {
             return Ok(None);
         }
         let text = reference.text.as_str();
-        match sheet
-            .graph
-            .sheet
-            .space
-            .look_up(alloc, reference.place, text)?
-        {
+        let space = sheet.types.graph.sheet.space;
+        match space.look_up(alloc, reference.place, text)? {
             Some(_) => Ok(None),
             None => Ok(Some(broken_with(alloc, Rule::Unresolved, reference.place, text)?)),
         }
@@ -98,11 +111,37 @@ impl FaceRule for UnresolvedInFace {
 
 // ---- what it finds is of the wanted kind
 
-fn suits(sought: Sought, found: Item) -> bool
-    ensures { result ≡ suits_sought sought found }
+fn is_abstract_at(trees: &[Tree], at: Option<Place>) -> bool
+    ensures { result ≡ is_abstract_in trees.now at }
+{
+    match at {
+        None => false,
+        Some(at) => match attribute(trees, "abstract", at) {
+            None => false,
+            Some(text) => flag_value(text) == Some(true),
+        },
+    }
+}
+
+fn is_for_end(sheet: &FaceSheet, found: Item) -> bool
+    ensures { result ≡ is_for_end_in sheet.now.types.now.graph.now.sheet.now.trees.now sheet.now.types.now.graph.now.sheet.now.space.now found }
+{
+    match found {
+        Item::Sort(_) => false,
+        Item::Face(id) => {
+            let at = sheet.faces.get(id.0 as usize).copied();
+            !is_abstract_at(sheet.types.graph.sheet.trees, at)
+        }
+        Item::Comp(_) => false,
+    }
+}
+
+fn suits(sheet: &FaceSheet, sought: Sought, found: Item) -> bool
+    ensures { result ≡ suits_sought sheet.now.types.now.graph.now.sheet.now.trees.now sheet.now.types.now.graph.now.sheet.now.space.now sought found }
 {
     match sought {
         Sought::BaseInterface => found.is_face(),
+        Sought::EndInterface => is_for_end(sheet, found),
         Sought::GenericBase => found.is_sort(),
         Sought::MemberType => found.is_sort(),
     }
@@ -110,15 +149,16 @@ fn suits(sought: Sought, found: Item) -> bool
 
 fn judge_item(
     alloc: Global,
+    sheet: &FaceSheet,
     reference: &FaceReference,
     found: Option<Item>,
 ) -> Result<Option<Refusal>, Memory>
-    ensures { IfOk result (λ r. r ≡ least (unsuited_by reference.now found)) }
+    ensures { IfOk result (λ r. r ≡ least (unsuited_by sheet.now.types.now.graph.now.sheet.now.trees.now sheet.now.types.now.graph.now.sheet.now.space.now reference.now found)) }
 {
     match found {
         None => Ok(None),
         Some(item) => {
-            if suits(reference.sought, item) {
+            if suits(sheet, reference.sought, item) {
                 return Ok(None);
             }
             let text = reference.text.as_str();
@@ -135,12 +175,13 @@ fn judge_generic(alloc: Global, reference: &FaceReference) -> Result<Option<Refu
             let text = reference.text.as_str();
             Ok(Some(broken_with(alloc, Rule::WrongKind, reference.place, text)?))
         }
+        Sought::EndInterface => Ok(None),
         Sought::GenericBase => Ok(None),
         Sought::MemberType => Ok(None),
     }
 }
 
-/// What it finds is an interface for a base, and a type elsewhere; a generic name is a type.
+/// What it finds is an interface for a base, one that is not abstract for an end, and a type elsewhere; a generic name is a type.
 pub(crate) struct WrongKindInFace;
 
 impl FaceRule for WrongKindInFace {
@@ -150,15 +191,15 @@ impl FaceRule for WrongKindInFace {
 
     fn least_at(
         alloc: Global,
-        sheet: &SheetRows,
+        sheet: &FaceSheet,
         reference: &FaceReference,
     ) -> Result<Option<Refusal>, Memory> {
         if reference.own {
             return judge_generic(alloc, reference);
         }
-        let space = sheet.graph.sheet.space;
+        let space = sheet.types.graph.sheet.space;
         let found = space.look_up(alloc, reference.place, reference.text.as_str())?;
-        judge_item(alloc, reference, found)
+        judge_item(alloc, sheet, reference, found)
     }
 }
 
@@ -189,14 +230,14 @@ impl FaceRule for OpenInFace {
 
     fn least_at(
         alloc: Global,
-        sheet: &SheetRows,
+        sheet: &FaceSheet,
         reference: &FaceReference,
     ) -> Result<Option<Refusal>, Memory> {
         if reference.own {
             return Ok(None);
         }
         let text = Some(reference.text.as_str());
-        let id = id_found(alloc, sheet.graph.sheet, reference.place, text)?;
-        Ok(judge_open(sheet.rows, reference, id))
+        let id = id_found(alloc, sheet.types.graph.sheet, reference.place, text)?;
+        Ok(judge_open(sheet.types.rows, reference, id))
     }
 }

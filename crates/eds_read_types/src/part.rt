@@ -1,10 +1,12 @@
 //! The parts of containers as rows hold them.
 
 ghost use Rattle.std.specs.Prelude.{◌≡◌, IfOk, option_map};
-ghost use Rattle.eds_read_types.specs.PartRows.{entry_type as entry_type_of, id_or_first as id_or_first_of, entry_id as entry_id_of, padding_size as padding_size_of, padding_size_in, padding_bits as padding_bits_of, unread as unread_part, plain_part as plain_part_of, list_part as list_part_of, part_at as part_of};
+ghost use Rattle.eds_read_types.specs.PartRows.{entry_type as entry_type_of, id_or_first as id_or_first_of, entry_id as entry_id_of, padding_size as padding_size_of, padding_size_in, padding_bits as padding_bits_of, unread as unread_part, plain_part as plain_part_of, list_part as list_part_of, length_part as length_part_of, check_part as check_part_of, part_at as part_of};
 
+use crate::calibrator::scale_at;
 use crate::element::{attribute, own_name};
 use crate::entry::{sort_at, type_named};
+use crate::error_control::check_at;
 use crate::list_field::{Fields, field_container, field_place};
 use crate::named_trees::NamedTrees;
 use crate::part_sort::PartSort;
@@ -33,7 +35,7 @@ pub(crate) fn id_or_first(id: Option<TypeId>) -> TypeId
 }
 
 /// The number of the type that a part names, the first type's where it names none.
-fn entry_id(alloc: Global, sheet: &NamedTrees, at: Place) -> Result<TypeId, Memory>
+pub(crate) fn entry_id(alloc: Global, sheet: &NamedTrees, at: Place) -> Result<TypeId, Memory>
     ensures { IfOk result (λ id. id ≡ entry_id_of sheet.now.trees.now sheet.now.space.now at) }
 {
     let found = entry_type(alloc, sheet, at)?;
@@ -105,6 +107,25 @@ fn list_part(
     ))
 }
 
+/// A length entry by its name, its type and its scale.
+fn length_part(alloc: Global, sheet: &NamedTrees, at: Place) -> Result<Part, Memory>
+    ensures { IfOk result (λ p. p ≡ length_part_of sheet.now.trees.now sheet.now.space.now at) }
+{
+    let id = entry_id(alloc, sheet, at)?;
+    let name = Text::of(alloc, own_name(sheet.trees, at))?;
+    let scale = scale_at(alloc, sheet.trees, at)?;
+    Ok(Part::Length(name, id, scale.0, scale.1))
+}
+
+/// An error control by its name, its type and its check.
+fn check_part(alloc: Global, sheet: &NamedTrees, at: Place) -> Result<Part, Memory>
+    ensures { IfOk result (λ p. p ≡ check_part_of sheet.now.trees.now sheet.now.space.now at) }
+{
+    let id = entry_id(alloc, sheet, at)?;
+    let name = Text::of(alloc, own_name(sheet.trees, at))?;
+    Ok(Part::Check(name, id, check_at(sheet.trees, at)))
+}
+
 /// The part that the element at a place is, of the container of a number in whose sequence the fields are looked for.
 pub(crate) fn part_at(
     alloc: Global,
@@ -122,7 +143,7 @@ pub(crate) fn part_at(
         Some(PartSort::FixedValue) => Ok(unread()),
         Some(PartSort::Padding) => Ok(Part::Pad(padding_bits(sheet.trees, at))),
         Some(PartSort::List) => list_part(alloc, sheet, container, fields, at),
-        Some(PartSort::Length) => Ok(unread()),
-        Some(PartSort::ErrorControl) => Ok(unread()),
+        Some(PartSort::Length) => length_part(alloc, sheet, at),
+        Some(PartSort::ErrorControl) => check_part(alloc, sheet, at),
     }
 }

@@ -14,12 +14,14 @@ use crate::breaks::{PlaceRule, TypeRule, least_over, least_over_types};
 use crate::duplicate_entry::DuplicateEntry;
 use crate::empty_range::{EmptyRange, EmptySubRange};
 use crate::empty_type::{EmptyItem, EmptyPart, EmptyWord};
+use crate::error_control::ErrorControl;
 use crate::face_rules::{AtFaces, OpenInFace, UnresolvedInFace, WrongKindInFace};
-use crate::length_field::LengthField;
+use crate::length_field::{LengthField, LengthScale, SecondLength};
 use crate::limit_chain::LimitChain;
 use crate::limit_family::LimitFamily;
 use crate::limit_items::LimitItems;
 use crate::limit_nesting::LimitNesting;
+use crate::part_element::AtPartElements;
 use crate::reference::{ReferenceRule, least_over_references};
 use crate::rule_list_field::ListField;
 use crate::sheet_rows::{AtParts, RowRule, SheetRows, least_over_rows};
@@ -170,13 +172,20 @@ type Scalars = And<
 
 type EmptyType = And<AtRows<AtParts<EmptyPart>>, And<AtRows<EmptyItem>, EmptyWord>>;
 
+type Lengths = And<
+    AtRows<AtParts<LengthField>>,
+    And<AtTypes<AtPartElements<LengthScale>>, AtRows<SecondLength>>,
+>;
+
+type Checks = AtTypes<AtPartElements<ErrorControl>>;
+
 type Containers = And<
     EmptyType,
     And<
         AtRows<DuplicateEntry>,
         And<
             AtRows<AtParts<ListField>>,
-            And<AtRows<AtParts<LengthField>>, And<AtFaces<OpenInFace>, NoRule>>,
+            And<Lengths, And<Checks, And<AtFaces<OpenInFace>, NoRule>>>,
         >,
     >,
 >;

@@ -11,8 +11,8 @@ ghost use Rattle.eds_nesting.specs.Families.{families as families_of, nesting as
 ghost use Rattle.eds_read_types.specs.TableRead.{typed_of, table_read};
 
 use crate::base_graph::{BaseGraph, bases_of, cycles_of};
-use crate::face_reference::push_face_types;
 use crate::hollow::hollows;
+use crate::inner_reference::push_inner_types;
 use crate::named_trees::{NamedTrees, elements, type_places};
 use crate::reference::word_type;
 use crate::rules::least_break;
@@ -33,7 +33,7 @@ pub struct SheetTypes {
     /// A row for each declared type, at its `TypeId`: in the order of files and elements.
     pub table: TypeTable,
     /// The types that parts and arrays name, in the order of types and parts, then that of the TYPE word, and then those that
-    /// parameters, arguments and maps of interfaces name. An open binary is none of them.
+    /// parameters, arguments and maps of interfaces and components, and variables name. An open binary is none of them.
     pub used: Used,
     /// The type that the TYPE word names, where there is a TYPE word.
     pub asked_type: Option<TypeId>,
@@ -47,7 +47,7 @@ fn typed_of(alloc: Global, sheet: &NamedTrees, rows: TypeRows) -> Result<SheetTy
 {
     let asked_type = word_type(alloc, sheet)?;
     let mut used = used_types(alloc, &rows, asked_type)?;
-    push_face_types(alloc, &mut used, sheet)?;
+    push_inner_types(alloc, &mut used, sheet)?;
     let table = TypeTable::of(alloc, rows)?;
     Ok(SheetTypes {
         table,
@@ -114,12 +114,13 @@ fn read_graph(alloc: Global, graph: &BaseGraph) -> Result<SheetTypes, Fail<Refus
 
 /// Reads the types of a sheet (CCSDS 876.0-B, data types), of which `space` has the names: their table, those that are used, and
 /// the one that the TYPE word `asked` names, where one is given; or the first rule that is broken, by phase, then by place, then by
-/// number: a reference to a type finds nothing or no type, or the base of a sub-range is no integer type or sub-range, or that of
-/// a container no container; a type is its own base, more than 16 types are in a chain of bases, a type reaches itself, more than
-/// 512 containers are of one family, or more than 32 types are nested; a type has no form, an integer type or sub-range no numbers,
-/// or an enumerated type no good list of labels; two parts of a container and its bases have one name, no entry before a list
-/// tells the number of its items, or a part or the TYPE word names a type without bits. The elements of the sheet are as they
-/// should be, so that there are at most 4,096 types, with at most 32,767 entries and as many trailers each.
+/// number: a reference to a type finds nothing or no type, or the base of a sub-range is no integer type or sub-range, that of a
+/// container no container, or an index type none of these and no enumerated or boolean type; a type is its own base, more than 16
+/// types are in a chain of bases, a type reaches itself, more than 512 containers are of one family, more than 32 types are nested,
+/// or an array has more than 65,536 items; a type has no form, an integer type or sub-range no numbers, or an enumerated type no
+/// good list of labels; two parts of a container and its bases have one name, no entry before a list tells the number of its items,
+/// or a part or the TYPE word names a type without bits. The elements of the sheet are as they should be, so that there are at
+/// most 4,096 types, with at most 32,767 entries and as many trailers each.
 pub fn read_types(
     alloc: Global,
     trees: &Trees,

@@ -10,7 +10,7 @@ use Rattle.eds_names.specs.LookUp.{Names, names_in, names_of, duplicates, unless
 use Rattle.eds_read_types.specs.declared.table.SheetTypes.{SheetTypes}
 use Rattle.eds_read_types.specs.TableBreaks.{table_breaks}
 use Rattle.eds_read_types.specs.TableRows.{table_rows}
-use Rattle.eds_generic.specs.Sheets.{face_breaks, face_verdict}
+use Rattle.eds_read_comp.specs.Uses.{end_breaks, end_verdict}
 use Rattle.eds_read_types.specs.TableRead.{typed_of, unless as types_unless, table_read}
 use Rattle.eds_read_types.specs.Judging.{judged_first}
 use Rattle.eds_sheet.specs.Files.{trees_in, reading_breaks}
@@ -65,15 +65,15 @@ then-sheet names typed (Some r) = refl
 
 -- the sheet of the types and interfaces, or why there is none
 sheet-stop : (trees : List (List Node)) (names : Names) (word : Option (List ℕ))
-    → stop_of (table_read trees names word >>= λ typed. face_verdict trees names typed.table >>= λ resolved. Ok (sheet_of names typed)) ≡ least (typed_breaks trees names word)
+    → stop_of (table_read trees names word >>= λ typed. end_verdict trees names typed.table >>= λ resolved. Ok (sheet_of names typed)) ≡ least (typed_breaks trees names word)
 sheet-stop trees names word =
-    stop_of-then (table_read trees names word) _ (least (face_breaks trees names (table_rows trees names)))
-    (λ typed h. then-sheet names typed (least (face_breaks trees names typed.table)) ∙ ap (λ t. least (face_breaks trees names t)) (table-is trees names word typed h))
-    ∙ ap (λ o. or_then o (least (face_breaks trees names (table_rows trees names)))) (types-stop trees names word)
-    ∙ sym (least-judged_first (table_breaks trees names word) (face_breaks trees names (table_rows trees names)))
+    stop_of-then (table_read trees names word) _ (least (end_breaks trees names (table_rows trees names)))
+    (λ typed h. then-sheet names typed (least (end_breaks trees names typed.table)) ∙ ap (λ t. least (end_breaks trees names t)) (table-is trees names word typed h))
+    ∙ ap (λ o. or_then o (least (end_breaks trees names (table_rows trees names)))) (types-stop trees names word)
+    ∙ sym (least-judged_first (table_breaks trees names word) (end_breaks trees names (table_rows trees names)))
 
 module _ (trees : List (List Node)) (word : Option (List ℕ)) where
-  typed-stop : (names : Names) → names_in trees ≡ Ok names → stop_of (table_read trees names word >>= λ typed. face_verdict trees names typed.table >>= λ resolved. Ok (sheet_of names typed)) ≡ least (typed_breaks trees (names_of trees) word)
+  typed-stop : (names : Names) → names_in trees ≡ Ok names → stop_of (table_read trees names word >>= λ typed. end_verdict trees names typed.table >>= λ resolved. Ok (sheet_of names typed)) ≡ least (typed_breaks trees (names_of trees) word)
   typed-stop names h = sheet-stop trees names word ∙ ap (λ ns. least (typed_breaks trees ns word)) (names-are trees names h)
 
   -- the stops of the steps, one after another

@@ -18,7 +18,7 @@ use Rattle.eds_read_types.specs.declared.table.SheetTypes.{SheetTypes}
 use Rattle.eds_read_types.specs.TableRead.{table_read}
 use Rattle.eds_read_types.proofs.TableFacts.{table_unbroken, table_word, table_closed}
 use Rattle.eds_read_types.proofs.TableRules.{table_keeps}
-use Rattle.eds_generic.specs.Sheets.{face_verdict}
+use Rattle.eds_read_comp.specs.Uses.{end_verdict}
 use Rattle.eds_sheet.specs.declared.sheet.Sheet.{Sheet}
 use Rattle.eds_sheet.specs.Files.{trees_in}
 use Rattle.eds_sheet.specs.Pending.{pending_verdict}
@@ -53,7 +53,7 @@ trees-sound trees word sheet h =
     let built = answered (pending_verdict trees) _ sheet shaped.2 in
     let named = answered (names_in trees) _ sheet built.2 in
     let typed = answered (table_read trees named.0 word) _ sheet named.2 in
-    let resolved = answered (face_verdict trees named.0 typed.0.table) _ sheet typed.2 in
+    let resolved = answered (end_verdict trees named.0 typed.0.table) _ sheet typed.2 in
     let is : sheet_of named.0 typed.0 ≡ sheet = let made = resolved.2 in cc in
     subst (IsSound word) is (typed-sound trees word named.0 typed.0 shaped.1 built.1 named.1 typed.1)
 

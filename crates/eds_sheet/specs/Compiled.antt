@@ -13,7 +13,7 @@ use Rattle.eds_read_types.specs.Judging.{judged_first}
 use Rattle.eds_read_types.specs.TableBreaks.{table_breaks}
 use Rattle.eds_read_types.specs.TableRead.{table_read}
 use Rattle.eds_read_types.specs.TableRows.{table_rows}
-use Rattle.eds_generic.specs.Sheets.{face_breaks, face_verdict}
+use Rattle.eds_read_comp.specs.Uses.{end_breaks, end_verdict}
 use Rattle.eds_sheet.specs.declared.sheet.Counts.{Counts}
 use Rattle.eds_sheet.specs.declared.sheet.Sheet.{Sheet}
 use Rattle.eds_sheet.specs.Files.{trees_in, reading_breaks}
@@ -21,9 +21,10 @@ use Rattle.eds_sheet.specs.Pending.{pending_breaks, pending_verdict}
 
 -- ---- what a sheet breaks
 
--- What the references and the types of some trees break, and what their interfaces break where these break nothing.
+-- What the references and the types of some trees break, and what their interfaces break where these break nothing: under the
+-- maps of the ends of components, and without own generic names under the empty map.
 abbrev pub typed_breaks : List (List Node) → Names → (word : Option (List ℕ)) → List Refusal
-typed_breaks trees names word = judged_first (table_breaks trees names word) (face_breaks trees names (table_rows trees names))
+typed_breaks trees names word = judged_first (table_breaks trees names word) (end_breaks trees names (table_rows trees names))
 
 -- All that some trees break, each stage judged only where the stages before it are not broken: the elements and their
 -- attributes, what is not compiled yet, the names, the references and the types, and then the interfaces.
@@ -69,7 +70,7 @@ compiled_trees trees word =
     pending_verdict trees >>= λ built.
     names_in trees >>= λ names.
     table_read trees names word >>= λ typed.
-    face_verdict trees names typed.table >>= λ resolved.
+    end_verdict trees names typed.table >>= λ resolved.
     Ok (sheet_of names typed)
 
 -- the sheet of some files, or the first of the rules that they break

@@ -16,11 +16,11 @@ use Rattle.eds_tree.specs.ShapeCheck.{unless_broken}
 -- ---- elements
 
 -- the elements that are not compiled yet wherever they stand: types, parts and constraints of containers,
--- components and state machines
+-- and what the implementation of a component has
 abbrev pub pending_names : List (List ℕ)
 pending_names = map codes (
-    "FixedValueEntry" ∷ "LengthEntry" ∷ "ErrorControlEntry"
-    ∷ "ConstraintSet" ∷ "TrailerEntryList" ∷ "ComponentSet" ∷ "StateMachineSet" ∷ [])
+    "FixedValueEntry" ∷ "ConstraintSet" ∷ "TrailerEntryList"
+    ∷ "VariableSet" ∷ "ParameterMapSet" ∷ "ActivitySet" ∷ "StateMachineSet" ∷ [])
 
 -- the element is one of these
 abbrev pub is_pending : (name : List ℕ) → Bool

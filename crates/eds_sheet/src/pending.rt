@@ -18,11 +18,11 @@ fn is_pending(name: &str) -> bool
     is_among(
         &[
             "FixedValueEntry",
-            "LengthEntry",
-            "ErrorControlEntry",
             "ConstraintSet",
             "TrailerEntryList",
-            "ComponentSet",
+            "VariableSet",
+            "ParameterMapSet",
+            "ActivitySet",
             "StateMachineSet",
         ],
         name,

@@ -9,8 +9,8 @@ ghost use Rattle.eds_sheet.specs.Compiled.{is_container as container, counts_of 
 use crate::files::{Files, read_trees};
 use crate::pending::check_pending;
 use eds_base::{Fail, Memory, Refusal, TypeId};
-use eds_generic::check_faces;
 use eds_names::Space;
+use eds_read_comp::check_ends;
 use eds_read_types::{SheetTypes, read_types};
 use eds_tree::shape_check;
 use eds_types::{Kind, TypeRow, TypeTable};
@@ -90,7 +90,7 @@ fn sheet_of(alloc: Global, files: &Files, extra: Option<&str>) -> Result<Sheet, 
     check_pending(alloc, &trees)?;
     let space = Space::build(alloc, &trees)?;
     let typed = read_types(alloc, &trees, &space, extra)?;
-    check_faces(alloc, &space, &trees, &typed.table)?;
+    check_ends(alloc, &trees, &space, &typed.table)?;
     let counts = counts_of(&space, &typed)?;
     Ok(Sheet {
         table: typed.table,

@@ -17,6 +17,7 @@ pub record Entry : Type 0 where
   pub id : ℕ
   pub is_list : Bool
 
+-- a part as an entry, where it has a value
 abbrev pub entry_by : TypeId × ℕ → Option Part → Option Entry
 entry_by a None = None
 entry_by a (Some (part.Plain name id)) = Some (record { step = Some (step.Part a.0 a.1); name = name; id = id.0; is_list = false })

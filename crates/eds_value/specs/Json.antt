@@ -16,6 +16,7 @@ use Rattle.eds_value.specs.ValueOfJson.{Shaped, arguments_of_json, value_of_json
 abbrev pub json_of : List ℕ → Option Data
 json_of octets = if is_utf8 octets then read octets else None
 
+-- a value of a shape, or the path of the first wrong one as a failure
 abbrev pub or_wrong : {A : Type 0} → Shaped A → Result A ValueFail
 or_wrong (Ok x) = Ok x
 or_wrong (Err path) = Err (WrongShape path)

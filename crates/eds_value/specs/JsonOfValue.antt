@@ -11,6 +11,7 @@ use Rattle.eds_types.specs.Plain.{Plain, num, label, truth, text, bits, items, f
 use Rattle.eds_types.specs.Rows.{Table}
 use Rattle.eds_value.specs.Entries.{Entry, arguments, entries_along}
 
+-- the qualified name of a type, empty where there is no such type
 abbrev pub name_in : Option TypeRow → List ℕ
 name_in None = []
 name_in (Some row) = row.name
@@ -41,6 +42,7 @@ abbrev mutual
   json_of_value t (items vs) = array (items_of (json_of_all t vs))
   json_of_value t (fields k vs) = fields_data (type_name t k) (entries_along t k) (json_of_all t vs)
 
+  -- each of some values as JSON
   pub json_of_all : Table → Plains → List Data
   json_of_all t none = []
   json_of_all t (more v vs) = json_of_value t v ∷ json_of_all t vs
@@ -54,5 +56,6 @@ arguments_data t es vs = object (with_values es (map (json_of_value t) vs) no_me
 abbrev pub json_text : Table → Plain → List ℕ
 json_text t v = compact_text (json_of_value t v)
 
+-- the text of an object of arguments
 abbrev pub arguments_text : Table → List (List ℕ × TypeId) → List Plain → List ℕ
 arguments_text t fs vs = compact_text (arguments_data t (arguments fs) vs)

@@ -18,6 +18,7 @@ is_slash c = nat_eq c 47
 abbrev pub own_name : List ℕ → List ℕ
 own_name name = after_last is_slash name
 
+-- a name, and else another text
 abbrev pub named : Option (List ℕ) → List ℕ → List ℕ
 named None other = other
 named (Some name) other = name
@@ -40,6 +41,7 @@ step_text t (step.Part id at) = codes "." ++ part_text t id at
 step_text t (step.Item i) = codes "[" ++ decimal i ++ codes "]"
 step_text t (step.Choice id) = codes "<" ++ type_name t id.0 ++ codes ">"
 
+-- the texts of some steps, one after the other
 abbrev pub steps_text : Table → List Step → List ℕ
 steps_text t [] = []
 steps_text t (s ∷ steps) = step_text t s ++ steps_text t steps

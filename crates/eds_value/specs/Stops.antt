@@ -6,6 +6,7 @@ use Rattle.eds_base.specs.declared.fault.Step.{Step}
 use Rattle.eds_types.specs.Rows.{Table}
 use Rattle.eds_value.specs.ValueOfJson.{path_inside}
 
+-- what a wrong shape says of its path; want of memory says nothing
 abbrev pub IfNamed : (List Step → Type 0) → Fail (List Step) → Type 0
 IfNamed P (Named path) = P path
 IfNamed P Memory = Unit {0}

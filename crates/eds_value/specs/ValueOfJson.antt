@@ -59,6 +59,7 @@ abbrev pub named_from : List ℕ → List TypeRow → ℕ → Option ℕ
 named_from word [] i = None
 named_from word (row ∷ rows) i = if is_container row && same row.name word then Some i else named_from word rows (i + 1)
 
+-- the container that an object is of: the one that it names, and else the declared one
 abbrev pub container_by : Table → ℕ → Option Data → Option ℕ
 container_by t id None = Some id
 container_by t id (Some name) = reading.◌>>=◌ (as_str name) (λ word. named_from word t 0)
@@ -110,6 +111,7 @@ behind_entry (Some s) r = behind s r
 abbrev pub path_inside : Table → ℕ → ℕ → List Step → List Step
 path_inside t id k path = if list_has (chain t k) id then path else []
 
+-- what was read inside an object of a container, with the path of a wrong shape as that object decides it
 abbrev pub or_inside : {A : Type 0} → Table → ℕ → ℕ → Shaped A → Shaped A
 or_inside t id k (Ok x) = Ok x
 or_inside t id k (Err path) = Err (path_inside t id k path)
@@ -124,10 +126,12 @@ module _ (t : Table) (inner : ℕ → Data → Shaped Plain) where
     vs ← items_from id (j + 1) ds
     Ok (v ∷ vs)
 
+  -- the values of an array, where the JSON is one
   abbrev pub items_by : ℕ → Option Items → Shaped Plain
   items_by id None = Err []
   items_by id (Some ds) = items_from id 0 ds >>= λ vs. Ok (items (plains_of vs))
 
+  -- the same of any JSON
   abbrev pub items_in : ℕ → Data → Shaped Plain
   items_in id d = items_by id (as_array d)
 
@@ -135,6 +139,7 @@ module _ (t : Table) (inner : ℕ → Data → Shaped Plain) where
   abbrev pub entry_value : Entry → Data → Shaped Plain
   entry_value e d = if e.is_list then items_in e.id d else inner e.id d
 
+  -- the value of an entry, where the object has such a member
   abbrev pub value_found : Entry → Option Data → Shaped Plain
   value_found e None = Err []
   value_found e (Some d) = entry_value e d
@@ -158,6 +163,7 @@ module _ (t : Table) (inner : ℕ → Data → Shaped Plain) where
     vs ← or_inside t id k (member_values d (entries_along t k))
     Ok (fields k (plains_of vs))
 
+  -- the value that JSON stands for, by the kind of its type
   abbrev pub value_by : ℕ → Kind → Data → Shaped Plain
   value_by id (kind.Int form spans) d = or_stop [] (scalar_by (kind.Int form spans) d)
   value_by id (kind.Enum form listing) d = or_stop [] (scalar_by (kind.Enum form listing) d)
@@ -167,6 +173,7 @@ module _ (t : Table) (inner : ℕ → Data → Shaped Plain) where
   value_by id (kind.Arr y n) d = items_in y.0 d
   value_by id (kind.Con c) d = fields_in id d
 
+  -- the same, by the row of its type
   abbrev pub value_in_row : ℕ → Option TypeRow → Data → Shaped Plain
   value_in_row id None d = Err []
   value_in_row id (Some row) d = value_by id row.kind d

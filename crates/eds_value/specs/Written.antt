@@ -39,10 +39,12 @@ abbrev mutual
   IsSound (array ds) = AreSound ds
   IsSound (object ms) = Ascend ms × HoldSound ms
 
+  -- the same of all items
   pub AreSound : Items → Type 0
   AreSound no_items = Unit {0}
   AreSound (item d ds) = IsSound d × AreSound ds
 
+  -- the same of all members
   pub HoldSound : Members → Type 0
   HoldSound no_members = Unit {0}
   HoldSound (member k d ms) = IsSound d × HoldSound ms

@@ -1,0 +1,10 @@
+pub mod Nexts
+pub mod Ticks
+pub mod Courses
+pub mod Sent
+pub mod Moments
+pub mod Deliveries
+pub mod Times
+pub mod Mirrored
+pub mod Framing
+pub mod Tying

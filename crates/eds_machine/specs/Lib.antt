@@ -1,0 +1,5 @@
+pub mod Reactions
+pub mod Moments
+pub mod Conditions
+pub mod Places
+pub mod Laws

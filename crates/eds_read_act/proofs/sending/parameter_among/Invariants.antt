@@ -1,0 +1,7 @@
+use Rattle.std.proofs.Common.{◌≡◌, drop}
+use Rattle.eds_read_act.specs.Numbered.{numbered}
+use Rattle.eds_read_act.specs.Sending.{as_parameter}
+use Rattle.eds_read_act.proofs.sending.parameter_among.Given as goal
+
+abbrev pub invariant-loop-at : goal.invariant-loop-at
+invariant-loop-at l = numbered (as_parameter l.name) l.at (drop l.at l.members) ≡ numbered (as_parameter l.name) 0 l.members

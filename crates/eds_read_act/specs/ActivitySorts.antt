@@ -1,0 +1,40 @@
+-- What the elements of an activity are, told by their names (CCSDS 876.0-B, activities).
+use Rattle.std.specs.Prelude.{ℕ, List, codes, Bool, true, false, if◌then◌else◌}
+use Rattle.eds_base.specs.Reading.{same}
+use Rattle.eds_tree.specs.declared.tree.Node.{Node}
+use Rattle.eds_tree.specs.Trees.{name_at}
+use Rattle.eds_read_act.specs.declared.activity_sort.ActivitySort.{ActivitySort}
+use Rattle.eds_read_act.specs.declared.activity_sort.ActivitySort.TheVariants as sort
+
+-- what an element of a name is
+unfoldable pub sort_of : List ℕ → ActivitySort
+sort_of name =
+    if same name (codes "Value") then sort.Value else
+    if same name (codes "VariableRef") then sort.VariableRef else
+    if same name (codes "ArgumentRef") then sort.ArgumentRef else
+    if same name (codes "ArgumentValue") then sort.ArgumentValue else
+    if same name (codes "Assignment") then sort.Assignment else
+    if same name (codes "MathOperation") then sort.Calculation else
+    if same name (codes "Operator") then sort.Operator else
+    if same name (codes "Conditional") then sort.Choice else
+    if same name (codes "Comparison") then sort.Comparison else
+    if same name (codes "ANDedConditions") then sort.Every else
+    if same name (codes "ORedConditions") then sort.Some else
+    if same name (codes "Iteration") then sort.Iteration else
+    if same name (codes "StartAt") then sort.Bound else
+    if same name (codes "EndAt") then sort.Bound else
+    if same name (codes "Step") then sort.Step else
+    if same name (codes "Call") then sort.Call else
+    if same name (codes "SendCommandPrimitive") then sort.SendCommand else
+    if same name (codes "SendParameterPrimitive") then sort.SendParameter else sort.Other
+
+-- what the element of a number is
+abbrev pub sort_at : List Node → ℕ → ActivitySort
+sort_at t n = sort_of (name_at t n)
+
+-- an operand: a value, or a reference to a variable or to an argument
+abbrev pub is_operand : ActivitySort → Bool
+is_operand sort.Value = true
+is_operand sort.VariableRef = true
+is_operand sort.ArgumentRef = true
+is_operand s = false

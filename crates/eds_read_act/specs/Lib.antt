@@ -1,0 +1,12 @@
+pub mod ActivitySorts
+pub mod Scopes
+pub mod Numbered
+pub mod Naming
+pub mod Inside
+pub mod Sending
+pub mod Operands
+pub mod BadReference
+pub mod TypeMismatch
+pub mod Bodies
+pub mod CallCycle
+pub mod Activities
