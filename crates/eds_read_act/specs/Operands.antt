@@ -6,9 +6,8 @@ use Rattle.eds_base.specs.declared.ids.TypeId.{TypeId}
 use Rattle.eds_types.specs.declared.row.Kind.{Kind}
 use Rattle.eds_types.specs.declared.row.Kind.TheVariants as kind
 use Rattle.eds_types.specs.declared.row.TypeRow.{TypeRow}
-use Rattle.eds_types.specs.declared.value.Value.{Value}
 use Rattle.eds_types.specs.declared.value.Value.TheVariants as value
-use Rattle.eds_types.specs.Plain.{Plain, num, label, truth, text, bits, items, fields}
+use Rattle.eds_types.specs.Plain.{Plain, num, stored}
 use Rattle.eds_types.specs.Rows.{Table, chain, list_has}
 use Rattle.eds_types.specs.TextValues.{text_value_of}
 use Rattle.eds_plan.specs.declared.activity.Operand.{Operand}
@@ -58,16 +57,6 @@ abbrev pub fit_together : Table → TypeId → TypeId → Bool
 fit_together t a b = both_alike t a (kind_of t a) b (kind_of t b)
 
 -- ---- values
-
--- a value that is no list of others, 0 in its place
-abbrev pub stored : Plain → Value
-stored (num n) = value.Num n
-stored (label l) = value.Label l
-stored (truth b) = value.Bool b
-stored (text s) = value.Text s
-stored (bits n o) = value.Bits n o
-stored (items vs) = value.Num (pos 0)
-stored (fields k vs) = value.Num (pos 0)
 
 -- the value of what is wanted that a text stands for: where a number is wanted, each whole number is one
 abbrev pub literal : Table → Wanted → List ℕ → Option Plain

@@ -34,9 +34,10 @@ use Rattle.eds_types.specs.declared.row.Part.TheVariants as part
 use Rattle.eds_types.specs.Rows.{Table, base_in, base_of, own_parts, placed_from, chain_before, chain_within, container_by, container_in, container_of, number_of_id, entries_in, Placed}
 use Rattle.eds_types.specs.Sizes.{open_by, open_in, open_of}
 use Rattle.eds_types.specs.Fields.{type_by}
+use Rattle.eds_types.specs.Plain.{plain}
 use Rattle.eds_graph.specs.Ways.{is_circular, is_endless}
 use Rattle.eds_graph.specs.Search.{Has as is_one_of}
-use Rattle.eds_types.specs.Rules.{AreDistinct, IsContainer, IsListing, KindKeeps, HasKind, IsInt, IsIntBy, HoldsCheck, DerivesFrom, IsNested, IsCounted, TailKeeps, name_of, is_length, KeepsRules}
+use Rattle.eds_types.specs.Rules.{AreDistinct, IsContainer, IsListing, IsValueOf, KindKeeps, HasKind, IsInt, IsIntBy, HoldsCheck, DerivesFrom, IsNested, IsCounted, TailKeeps, name_of, is_length, KeepsRules}
 use Rattle.eds_read_types.specs.declared.numbers.FormAndDomain.{FormAndDomain}
 use Rattle.eds_read_types.specs.Places.{element, is_element, is_container, is_array, is_sub_range, is_number, attribute, own_name, elements, types, type_places}
 use Rattle.eds_read_types.specs.References.{references, row_for, judged_text, judged_by, judged_at, broken_with}
@@ -47,12 +48,13 @@ use Rattle.eds_read_types.specs.Entries.{sort_at, entries_at, trailers_at, own_p
 use Rattle.eds_read_types.specs.Parts.{PartJudgement, at_parts, parts_in}
 use Rattle.eds_read_types.specs.Seats.{seats_of}
 use Rattle.eds_read_types.specs.ListFields.{field_seat, field_container, field_place}
-use Rattle.eds_read_types.specs.PartRows.{entry_id, id_or_first, padding_bits, unread, plain_part, list_part, length_part, check_part, part_by}
+use Rattle.eds_read_types.specs.PartRows.{entry_id, id_or_first, padding_bits, unread, plain_part, fixed_part, list_part, length_part, check_part, part_by}
 use Rattle.eds_read_types.specs.Forms.{int_form_of, bool_form_of}
 use Rattle.eds_read_types.specs.Listings.{listing_of}
 use Rattle.eds_read_types.specs.Bases.{may_derive, base_named, base_found, bases_of, base_at}
 use Rattle.eds_read_types.specs.Numbers.{form_or_wide, numbers_of}
-use Rattle.eds_read_types.specs.TableRows.{part_in, is_abstract, container_at, scalar_kind_by, scalar_kind_in, array_kind, kind_of, table_row, rows_from, table_rows, has_few_entries, are_few}
+use Rattle.eds_read_types.specs.Kinds.{scalar_kind_by, scalar_kind_in, scalar_at, scalar_if, scalar_of}
+use Rattle.eds_read_types.specs.TableRows.{part_in, is_abstract, container_at, array_kind, kind_of, table_row, rows_from, table_rows, has_few_entries, are_few}
 use Rattle.eds_read_types.specs.TableBreaks.{table_breaks}
 use Rattle.eds_read_types.specs.DuplicateEntry.{repeats, names_above, duplicates_at}
 use Rattle.eds_read_types.specs.declared.sort.Sort.{Sort}
@@ -73,6 +75,8 @@ use Rattle.eds_read_types.specs.ListField.{is_told, list_field_at}
 use Rattle.eds_read_types.specs.LengthField.{is_int, is_tail, lengths_at, has_length_above, length_field_at, second_length_at}
 use Rattle.eds_read_types.specs.Checks.{check_at}
 use Rattle.eds_read_types.specs.PartElements.{judged_elements}
+use Rattle.eds_read_types.specs.FixedValues.{fixed_value, row_value}
+use Rattle.eds_read_types.specs.FixedValue.{fixed_value_at}
 use Rattle.eds_read_types.specs.ErrorControl.{is_held, error_control_at}
 use Rattle.eds_read_types.specs.declared.reference_row.Wanted.TheVariants.{NumberType, ContainerType}
 use Rattle.eds_read_types.proofs.NoBreaks.{none_at, least-none, append-none, types-apart, no_repeats}
@@ -95,6 +99,7 @@ use Rattle.eds_read_types.proofs.TailFacts.{tail_kept}
 use Rattle.eds_read_types.proofs.LengthFacts.{part_sort_named, scaled, int_is, own_fewer, own_none}
 use Rattle.eds_read_types.proofs.MeasureFacts.{own_measured, further_none}
 use Rattle.eds_read_types.proofs.CheckFacts.{held}
+use Rattle.eds_read_types.proofs.FixedFacts.{value-read}
 use Rattle.eds_read_types.proofs.PartFacts.{mapped_there, placed_all, no_item, part_none}
 use Rattle.eds_read_types.proofs.PartNames.{among_has, among_parts, element_names, row_names as parts_named, names_distinct, padding_keeps}
 use Rattle.eds_read_types.proofs.Found.{id_there, found_there, number_there}
@@ -113,6 +118,12 @@ clash b e f = cc
 true_or : (b : Bool) → (b || true) ≡ true
 true_or true = refl
 true_or false = refl
+
+-- a test that fails nowhere where another holds
+held_where : (a b : Bool) → a ≡ true → (a && not b) ≡ false → b ≡ true
+held_where true true e h = refl
+held_where true false e h = absurd cc
+held_where false b e h = absurd cc
 
 -- ---- names
 
@@ -547,14 +558,49 @@ module _ (trees : List (List Node)) (names : Names) (word : Option (List ℕ)) (
       let own = own_none trees (error_control_at trees names) d.place here in
       let one = unmet (is_element trees (codes "ErrorControlEntry") q && not (is_held trees names q)) _ (each-none (error_control_at trees names) (own_parts_at trees d.place) own k q e) in
       record {
-        fits = check_type q (was (is_element trees (codes "ErrorControlEntry") q) (is_held trees names q) (part_sort_named (node_name (element trees q)) sorts.ErrorControl s) one);
+        fits = check_type q (held_where (is_element trees (codes "ErrorControlEntry") q) (is_held trees names q) (part_sort_named (node_name (element trees q)) sorts.ErrorControl s) one);
         nests = λ inner same_type. (let is : (entry_id trees names q).0 ≡ inner = cc in part_nests id d there con k q e sorts.ErrorControl s inner same_type is);
       }
+
+  -- ---- fixed values
+
+  -- the row of a type whose kind texts stand for values of has this kind
+  scalar_there : (id : ℕ) (k : Kind) → scalar_of trees names id ≡ Some k → HasKind (table_rows trees names) id (λ other. other ≡ k)
+  scalar_there id k e = go (slice_get (type_places names) id) refl e
     where
-      was : (a b : Bool) → a ≡ true → (a && not b) ≡ false → b ≡ true
-      was true true e h = refl
-      was true false e h = absurd cc
-      was false b e h = absurd cc
+      of_place : (at : Place) → slice_get (type_places names) id ≡ Some at → (con : Bool) → is_container trees at ≡ con → (arr : Bool) → is_array trees at ≡ arr → (if con || arr then None else Some (scalar_at trees names id at)) ≡ Some k → HasKind (table_rows trees names) id (λ other. other ≡ k)
+      of_place at there true c arr a f = absurd cc
+      of_place at there false c true a f = absurd cc
+      of_place at there false c false a f =
+          let other = declared_there (types names) id at there in
+          let is : scalar_at trees names id at ≡ k = cc in
+          (table_row trees names id other.0, row_of id other.0 other.1, ap (kind_of trees names id) other.2 ∙ rw (c, a) is)
+
+      go : (o : Option Place) → slice_get (type_places names) id ≡ o → (o >>= scalar_if trees names id) ≡ Some k → HasKind (table_rows trees names) id (λ other. other ≡ k)
+      go None q f = absurd cc
+      go (Some at) q f = of_place at q (is_container trees at) refl (is_array trees at) refl f
+
+  -- where the text of a fixed value stands for a value of its type, its row has one
+  fixed_type : (q : Place) → is_some (fixed_value trees names (entry_id trees names q).0 q) ≡ true
+      → HasKind (table_rows trees names) (entry_id trees names q).0 (λ k. IsValueOf k (plain (row_value (fixed_value trees names (entry_id trees names q).0 q))))
+  fixed_type q h =
+      let id = (entry_id trees names q).0 in
+      let read = value-read trees names id (attribute trees (codes "fixedValue") q) h in
+      let row = scalar_there id read.type_kind read.known in
+      (row.0, row.1, subst (λ k. IsValueOf k (plain (row_value (fixed_value trees names id q)))) (sym row.2) read.is_value)
+
+  fixed_keeps : (id : ℕ) (d : Declared) → slice_get (types names) id ≡ Some d → is_container trees d.place ≡ true → (k : ℕ) (q : Place) → slice_get (own_parts_at trees d.place) k ≡ Some q → sort_at trees q ≡ Some sorts.FixedValue
+      → EntryKeeps (table_rows trees names) rank (record { container = id; place = k; part = fixed_part trees names q })
+  fixed_keeps id d there con k q e s =
+      let here = each-none (judged_elements fixed_value_at trees names) (type_places names) u.fixed id d.place (place_there (types names) id d there) in
+      let own = own_none trees (fixed_value_at trees names) d.place here in
+      let one = unmet (is_element trees (codes "FixedValueEntry") q && not (is_some (fixed_value trees names (entry_id trees names q).0 q))) _ (each-none (fixed_value_at trees names) (own_parts_at trees d.place) own k q e) in
+      let value = held_where (is_element trees (codes "FixedValueEntry") q) (is_some (fixed_value trees names (entry_id trees names q).0 q)) (part_sort_named (node_name (element trees q)) sorts.FixedValue s) one in
+      let shut = none_open (open_of (table_rows trees names) (entry_id trees names q).0) (unmet (is_some (open_of (table_rows trees names) (entry_id trees names q).0)) _ (unbroken_part length_field_at u.lengths id d there con k q e sorts.FixedValue s)) in
+      record {
+        fits = (fixed_type q value, shut);
+        nests = λ inner same_type. (let is : (entry_id trees names q).0 ≡ inner = cc in part_nests id d there con k q e sorts.FixedValue s inner same_type is);
+      }
 
   -- ---- lists
 
@@ -588,7 +634,7 @@ module _ (trees : List (List Node)) (names : Names) (word : Option (List ℕ)) (
       go : (s : Option PartSort) → sort_at trees q ≡ s → EntryKeeps (table_rows trees names) rank (record { container = id; place = k; part = part_by s trees names id (seats_of trees names id) q })
       go None s = unread_keeps id k
       go (Some sorts.Entry) s = plain_keeps id d there con k q e s
-      go (Some sorts.FixedValue) s = unread_keeps id k
+      go (Some sorts.FixedValue) s = fixed_keeps id d there con k q e s
       go (Some sorts.Padding) s = let size = padding_keeps trees q in pad_keeps id k (padding_bits trees q) size.0 size.1
       go (Some sorts.List) s = list_keeps id d there con k q e s
       go (Some sorts.Length) s = length_keeps id d there con k q e s

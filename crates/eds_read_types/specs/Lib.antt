@@ -30,6 +30,8 @@ pub mod Items
 pub mod Seats
 pub mod ListFields
 pub mod Checks
+pub mod Kinds
+pub mod FixedValues
 pub mod PartRows
 pub mod TableRows
 pub mod Used
@@ -42,6 +44,7 @@ pub mod EmptyType
 pub mod ListField
 pub mod PartElements
 pub mod LengthField
+pub mod FixedValue
 pub mod ErrorControl
 pub mod FaceReferences
 pub mod ComponentReferences

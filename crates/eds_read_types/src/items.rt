@@ -197,12 +197,18 @@ fn values_of(alloc: Global, graph: &BaseGraph, id: usize) -> Result<Option<u32>,
     Ok(Some(values))
 }
 
+/// A mark for each type, none of them set.
+pub(crate) fn no_marks(alloc: Global, sheet: &NamedTrees) -> Result<Vec<bool>, Memory> {
+    let mut marks = Vec::new(alloc);
+    for _ in sheet.types {
+        marks.push(false)?;
+    }
+    Ok(marks)
+}
+
 /// For each type whether a dimension names it.
 fn are_named(alloc: Global, sheet: &NamedTrees) -> Result<Vec<bool>, Memory> {
-    let mut named = Vec::new(alloc);
-    for _ in sheet.types {
-        named.push(false)?;
-    }
+    let mut named = no_marks(alloc, sheet)?;
     for at in sheet.elements {
         if name_at(sheet.trees, *at) == "Dimension" {
             let index = id_found(
@@ -217,7 +223,8 @@ fn are_named(alloc: Global, sheet: &NamedTrees) -> Result<Vec<bool>, Memory> {
     Ok(named)
 }
 
-fn mark(flags: &mut [bool], id: Option<TypeId>) {
+/// Sets the mark of a type, where there is such a type.
+pub(crate) fn mark(flags: &mut [bool], id: Option<TypeId>) {
     let Some(id) = id else {
         return;
     };
