@@ -17,7 +17,6 @@ pub mod Bases
 pub mod Unresolved
 pub mod WrongKind
 pub mod BaseCycle
-pub mod LimitChain
 pub mod LimitFamily
 pub mod BadEncoding
 pub mod EmptyRange
@@ -38,6 +37,7 @@ pub mod Used
 pub mod Parts
 pub mod Nesting
 pub mod TypeCycle
+pub mod LimitChain
 pub mod LimitNesting
 pub mod LimitItems
 pub mod EmptyType

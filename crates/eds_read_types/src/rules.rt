@@ -158,7 +158,7 @@ type References = And<
 type Bases = And<
     AtNumbers<BaseCycle>,
     And<
-        AtNumbers<LimitChain>,
+        AtRows<LimitChain>,
         And<
             AtRows<TypeCycle>,
             And<AtRows<LimitFamily>, And<AtRows<LimitNesting>, And<AtRows<LimitItems>, NoRule>>>,
