@@ -3,6 +3,7 @@ pub mod Scopes
 pub mod Numbered
 pub mod Naming
 pub mod Inside
+pub mod Given
 pub mod Sending
 pub mod Operands
 pub mod BadReference
@@ -10,3 +11,8 @@ pub mod TypeMismatch
 pub mod Bodies
 pub mod CallCycle
 pub mod Activities
+pub mod Machines
+pub mod Events
+pub mod MachineBreaks
+pub mod MachinePlans
+pub mod Transactions

@@ -1,5 +1,5 @@
 -- What operands stand for, and what they fit.
-use Rattle.std.specs.Prelude.{ℕ, ◌==◌, ◌||◌, List, codes, Bool, true, false, is_some, Option, Some, None, option_map, slice_get, pos}
+use Rattle.std.specs.Prelude.{ℕ, ◌==◌, ◌||◌, List, codes, Bool, true, false, is_some, is_none, Option, Some, None, option_map, slice_get, pos}
 use Rattle.eds_base.specs.Reading.{◌>>=◌}
 use Rattle.eds_base.specs.Numbers.{whole_number}
 use Rattle.eds_base.specs.declared.ids.TypeId.{TypeId}
@@ -79,11 +79,19 @@ literal t wanted.Number s = option_map num (whole_number s)
 -- what a reference finds that is an operand; a value is no reference
 abbrev pub found_as : ActivitySort → Scope → ℕ → Option Found
 found_as sort.VariableRef s n = found_in s.table (fields_of s.variables) (text_at s.tree n (codes "variableRef"))
-found_as sort.ArgumentRef s n = found_in s.table s.arguments (text_at s.tree n (codes "argumentRef"))
+found_as sort.ArgumentRef s n = s.arguments >>= λ fields. found_in s.table fields (text_at s.tree n (codes "argumentRef"))
 found_as k s n = None
 
 abbrev pub found_at : Scope → ℕ → Option Found
 found_at s n = found_as (sort_at s.tree n) s n
+
+-- an ArgumentRef where it isn't known which arguments there are
+abbrev pub is_unknown_as : ActivitySort → Scope → Bool
+is_unknown_as sort.ArgumentRef s = is_none s.arguments
+is_unknown_as k s = false
+
+abbrev pub is_unknown : Scope → ℕ → Bool
+is_unknown s n = is_unknown_as (sort_at s.tree n) s
 
 -- its type
 abbrev pub type_of : Scope → ℕ → Option TypeId

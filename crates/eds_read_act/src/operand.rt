@@ -165,15 +165,18 @@ pub(crate) fn found_at(alloc: Global, scope: &Scope, node: u32) -> Result<Option
         ActivitySort::VariableRef => variable_in(
             alloc,
             scope.table,
-            scope.variables,
+            scope.component,
             text_at(scope.tree, node, "variableRef"),
         ),
-        ActivitySort::ArgumentRef => field_in(
-            alloc,
-            scope.table,
-            scope.arguments,
-            text_at(scope.tree, node, "argumentRef"),
-        ),
+        ActivitySort::ArgumentRef => match scope.arguments {
+            None => Ok(None),
+            Some(fields) => field_in(
+                alloc,
+                scope.table,
+                fields,
+                text_at(scope.tree, node, "argumentRef"),
+            ),
+        },
         _ => Ok(None),
     }
 }

@@ -3,14 +3,16 @@
 ghost use Rattle.std.specs.Prelude.{◌≡◌, IfOk, option_map};
 ghost use Rattle.std.specs.Option.{option_copied};
 ghost use Rattle.eds_read_act.specs.Numbered.{numbered};
-ghost use Rattle.eds_plan.specs.Carried.{goes as goes_in, carried_fields, leaving as leaving_at};
+ghost use Rattle.eds_plan.specs.Carried.{goes as goes_in, carried_fields, leaving as leaving_at, arriving as arriving_at};
 ghost use Rattle.eds_read_act.specs.Scopes.{scope_of};
-ghost use Rattle.eds_read_act.specs.Sending.{as_end as end_as, as_command as command_as, as_parameter as parameter_as, as_head as head_as, end_of as end_in, command_at_end, command_of as command_in, parameter_at_end, parameter_of as parameter_in, activity_of as activity_in, taken_at as taken_of};
+ghost use Rattle.eds_read_act.specs.Sending.{as_command as command_as, as_parameter as parameter_as, end_of as end_in, command_at_end, command_of as command_in, parameter_at_end, parameter_of as parameter_in, activity_of as activity_in, taken_at as taken_of, fields_taken};
+ghost use Rattle.eds_read_act.specs.TypeMismatch.{field_type};
 
 use crate::activity_sort::{ActivitySort, sort_at};
+use crate::fields::Fields;
 use crate::inside::text_at;
 use crate::naming::short;
-use crate::scope::{Head, Scope};
+use crate::scope::Scope;
 use eds_base::{Items, Memory, Text, TypeId};
 use eds_plan::{Argument, EndPlan, FieldList, Member, Mode, Way};
 use std::alloc::Global;
@@ -23,6 +25,13 @@ pub(crate) struct Taker {
     pub(crate) fields: FieldList,
 }
 
+/// What takes arguments: an activity, or a command that carries in a way those that go it.
+#[derive(Clone, Copy)]
+pub(crate) enum Taken<'a> {
+    Activity(&'a Fields),
+    Command(Way, &'a [Argument]),
+}
+
 /// A parameter at an end, with its type and whether it is read-only.
 #[derive(Clone, Copy, Debug)]
 pub(crate) struct Held {
@@ -33,7 +42,8 @@ pub(crate) struct Held {
     pub(crate) read_only: bool,
 }
 
-fn goes(way: Way, mode: Mode) -> bool
+/// Whether an argument of a mode goes a way.
+pub(crate) fn goes(way: Way, mode: Mode) -> bool
     ensures { result ≡ goes_in way mode }
 {
     match way {
@@ -49,10 +59,17 @@ fn goes(way: Way, mode: Mode) -> bool
 }
 
 /// The way in which an end sends.
-pub(crate) fn leaving(required: bool) -> Way
+fn leaving(required: bool) -> Way
     ensures { result ≡ leaving_at required }
 {
     if required { Way::Down } else { Way::Up }
+}
+
+/// The way in which what is sent arrives at an end.
+fn arriving(required: bool) -> Way
+    ensures { result ≡ arriving_at required }
+{
+    if required { Way::Up } else { Way::Down }
 }
 
 // The arguments that go a way.
@@ -81,37 +98,6 @@ pub(crate) fn copied(alloc: Global, fields: &[(Text, TypeId)]) -> Result<FieldLi
         copies.push((name, *id))?;
     }
     Ok(copies)
-}
-
-fn as_end<'a>(name: &str, end: &'a EndPlan) -> Option<&'a EndPlan>
-    ensures { option_copied result ≡ end_as name.now end.now }
-{
-    if end.name.as_str() == name {
-        Some(end)
-    } else {
-        None
-    }
-}
-
-fn as_head<'a>(name: &str, head: &'a Head) -> Option<&'a [(Text, TypeId)]>
-    ensures { option_map (λ fs. fs.now) result ≡ head_as name.now head.now }
-{
-    if head.name.as_str() == name {
-        Some(head.arguments.as_slice())
-    } else {
-        None
-    }
-}
-
-fn end_named<'a>(ends: &'a [EndPlan], name: &str) -> Option<(usize, &'a EndPlan)>
-    ensures { option_map (λ p. (p.0, p.1.now)) result ≡ numbered (end_as name.now) 0 ends.now }
-{
-    for (at, end) in ends.iter().enumerate() {
-        if let Some(end) = as_end(name, end) {
-            return Some((at, end));
-        }
-    }
-    None
 }
 
 fn as_command<'a>(name: &str, member: &'a Member) -> Option<&'a [Argument]>
@@ -166,30 +152,26 @@ fn parameter_among(members: &[Member], name: &str) -> Option<(usize, (TypeId, bo
     None
 }
 
-fn head_named<'a>(heads: &'a [Head], name: &str) -> Option<(usize, &'a [(Text, TypeId)])>
-    ensures { option_map (λ p. (p.0, p.1.now)) result ≡ numbered (head_as name.now) 0 heads.now }
-{
-    for (at, head) in heads.iter().enumerate() {
-        if let Some(fields) = as_head(name, head) {
-            return Some((at, fields));
-        }
-    }
-    None
-}
-
-fn end_of<'a>(scope: &Scope<'a>, node: u32) -> Option<(usize, &'a EndPlan)>
+/// The end that an element names.
+pub(crate) fn end_of<'a>(scope: &Scope<'a>, node: u32) -> Option<(usize, &'a EndPlan)>
     ensures { option_map (λ p. (p.0, p.1.now)) result ≡ end_in (scope_of scope.now) node }
 {
-    end_named(scope.ends, text_at(scope.tree, node, "interface"))
+    scope.component.end(text_at(scope.tree, node, "interface"))
 }
 
-fn sent_at(alloc: Global, at: usize, end: &EndPlan, name: &str) -> Result<Option<Taker>, Memory>
-    ensures { IfOk result (λ c. c ≡ command_at_end leaving_at name.now (at, end.now)) }
+fn command_at(
+    alloc: Global,
+    way: Way,
+    at: usize,
+    end: &EndPlan,
+    name: &str,
+) -> Result<Option<Taker>, Memory>
+    ensures { IfOk result (λ c. c ≡ command_at_end (λ required. way) name.now (at, end.now)) }
 {
     match command_among(end.instance.members.as_slice(), name) {
         None => Ok(None),
         Some((member, arguments)) => {
-            let fields = carried(alloc, leaving(end.required), arguments)?;
+            let fields = carried(alloc, way, arguments)?;
             Ok(Some(Taker {
                 end: short(at),
                 member: short(member),
@@ -203,9 +185,25 @@ fn sent_at(alloc: Global, at: usize, end: &EndPlan, name: &str) -> Result<Option
 pub(crate) fn sent_command(alloc: Global, scope: &Scope, node: u32) -> Result<Option<Taker>, Memory>
     ensures { IfOk result (λ c. c ≡ command_in leaving_at (scope_of scope.now) node) }
 {
+    let name = text_at(scope.tree, node, "command");
     match end_of(scope, node) {
         None => Ok(None),
-        Some((at, end)) => sent_at(alloc, at, end, text_at(scope.tree, node, "command")),
+        Some((at, end)) => command_at(alloc, leaving(end.required), at, end, name),
+    }
+}
+
+/// The command that an element waits for, with what it carries.
+pub(crate) fn received_command(
+    alloc: Global,
+    scope: &Scope,
+    node: u32,
+) -> Result<Option<Taker>, Memory>
+    ensures { IfOk result (λ c. c ≡ command_in arriving_at (scope_of scope.now) node) }
+{
+    let name = text_at(scope.tree, node, "command");
+    match end_of(scope, node) {
+        None => Ok(None),
+        Some((at, end)) => command_at(alloc, arriving(end.required), at, end, name),
     }
 }
 
@@ -235,37 +233,83 @@ pub(crate) fn parameter_of(scope: &Scope, node: u32) -> Option<Held>
 }
 
 /// The activity that an element names, with its arguments.
-pub(crate) fn activity_of<'a>(scope: &Scope<'a>, node: u32) -> Option<(usize, &'a [(Text, TypeId)])>
+pub(crate) fn activity_of<'a>(scope: &Scope<'a>, node: u32) -> Option<(usize, &'a Fields)>
     ensures { option_map (λ p. (p.0, p.1.now)) result ≡ activity_in (scope_of scope.now) node }
 {
-    head_named(scope.activities, text_at(scope.tree, node, "activity"))
-}
-
-fn taken_by_call(alloc: Global, scope: &Scope, node: u32) -> Result<Option<FieldList>, Memory>
-    ensures { IfOk result (λ fs. fs ≡ option_map (λ a. a.1) (activity_in (scope_of scope.now) node)) }
-{
-    match activity_of(scope, node) {
-        None => Ok(None),
-        Some((_, fields)) => Ok(Some(copied(alloc, fields)?)),
+    match scope.component.activity(text_at(scope.tree, node, "activity")) {
+        None => None,
+        Some((at, head)) => Some((at, &head.arguments)),
     }
 }
 
-fn taken_by_command(alloc: Global, scope: &Scope, node: u32) -> Result<Option<FieldList>, Memory>
-    ensures { IfOk result (λ fs. fs ≡ option_map (λ c. c.fields) (command_in leaving_at (scope_of scope.now) node)) }
+// ---- what takes arguments
+
+fn taken_by_call<'a>(scope: &Scope<'a>, node: u32) -> Option<Taken<'a>>
+    ensures { option_map fields_taken result ≡ option_map (λ a. a.1) (activity_in (scope_of scope.now) node) }
 {
-    match sent_command(alloc, scope, node)? {
-        None => Ok(None),
-        Some(taker) => Ok(Some(taker.fields)),
+    match activity_of(scope, node) {
+        None => None,
+        Some((_, fields)) => Some(Taken::Activity(fields)),
+    }
+}
+
+fn taken_at_end<'a>(end: &'a EndPlan, name: &str) -> Option<Taken<'a>>
+    ensures { option_map fields_taken result ≡ option_map (λ c. carried_fields (leaving_at end.now.required) c.1) (numbered (command_as name.now) 0 end.now.instance.members) }
+{
+    match command_among(end.instance.members.as_slice(), name) {
+        None => None,
+        Some((_, arguments)) => Some(Taken::Command(leaving(end.required), arguments)),
+    }
+}
+
+fn taken_by_command<'a>(scope: &Scope<'a>, node: u32) -> Option<Taken<'a>>
+    ensures { option_map fields_taken result ≡ option_map (λ c. c.fields) (command_in leaving_at (scope_of scope.now) node) }
+{
+    match end_of(scope, node) {
+        None => None,
+        Some((_, end)) => taken_at_end(end, text_at(scope.tree, node, "command")),
     }
 }
 
 /// What an element takes that gives arguments their values.
-pub(crate) fn taken_at(alloc: Global, scope: &Scope, node: u32) -> Result<Option<FieldList>, Memory>
-    ensures { IfOk result (λ fs. fs ≡ taken_of (scope_of scope.now) node) }
+pub(crate) fn taken_at<'a>(scope: &Scope<'a>, node: u32) -> Option<Taken<'a>>
+    ensures { option_map fields_taken result ≡ taken_of (scope_of scope.now) node }
 {
     match sort_at(scope.tree, node) {
-        ActivitySort::Call => taken_by_call(alloc, scope, node),
-        ActivitySort::SendCommand => taken_by_command(alloc, scope, node),
-        _ => Ok(None),
+        ActivitySort::Call | ActivitySort::Action => taken_by_call(scope, node),
+        ActivitySort::SendCommand => taken_by_command(scope, node),
+        _ => None,
+    }
+}
+
+fn carried_type(way: Way, arguments: &[Argument], name: &str) -> Option<TypeId>
+    ensures { result ≡ field_type (carried_fields way arguments.now) name.now }
+{
+    let mut rest = arguments;
+    while let [argument, after @ ..] = rest {
+        if goes(way, argument.mode) && argument.name.as_str() == name {
+            return Some(argument.id);
+        }
+        rest = after;
+    }
+    None
+}
+
+impl<'a> Taken<'a> {
+    ghost use Rattle.std.specs.Prelude.{◌≡◌};
+    ghost use Rattle.eds_read_act.specs.Sending.{fields_taken};
+    ghost use Rattle.eds_read_act.specs.TypeMismatch.{field_type};
+
+    /// The type of the argument of a name.
+    pub(crate) fn field_type(self, name: &str) -> Option<TypeId>
+        ensures { result ≡ field_type (fields_taken self) name.now }
+    {
+        match self {
+            Taken::Activity(fields) => match fields.field(name) {
+                None => None,
+                Some((_, field)) => Some(field.1),
+            },
+            Taken::Command(way, arguments) => carried_type(way, arguments, name),
+        }
     }
 }
