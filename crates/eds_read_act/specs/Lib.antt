@@ -12,6 +12,7 @@ pub mod Bodies
 pub mod CallCycle
 pub mod Activities
 pub mod Machines
+pub mod States
 pub mod Events
 pub mod MachineBreaks
 pub mod MachinePlans

@@ -1,6 +1,6 @@
 //! The ends, members and activities that elements name, and what these take.
 
-ghost use Rattle.std.specs.Prelude.{◌≡◌, IfOk, option_map};
+ghost use Rattle.std.specs.Prelude.{◌≡◌, IfOk, is_some, option_map};
 ghost use Rattle.std.specs.Option.{option_copied};
 ghost use Rattle.eds_read_act.specs.Numbered.{numbered};
 ghost use Rattle.eds_plan.specs.Carried.{goes as goes_in, carried_fields, leaving as leaving_at, arriving as arriving_at};
@@ -130,7 +130,8 @@ fn as_parameter(name: &str, member: &Member) -> Option<(TypeId, bool)>
     }
 }
 
-fn command_among<'a>(members: &'a [Member], name: &str) -> Option<(usize, &'a [Argument])>
+/// The command of a name among members, with its position.
+pub(crate) fn command_among<'a>(members: &'a [Member], name: &str) -> Option<(usize, &'a [Argument])>
     ensures { option_map (λ p. (p.0, p.1.now)) result ≡ numbered (command_as name.now) 0 members.now }
 {
     for (at, member) in members.iter().enumerate() {
@@ -204,6 +205,19 @@ pub(crate) fn received_command(
     match end_of(scope, node) {
         None => Ok(None),
         Some((at, end)) => command_at(alloc, arriving(end.required), at, end, name),
+    }
+}
+
+/// Whether the command that an element waits for is there.
+pub(crate) fn has_command(scope: &Scope, node: u32) -> bool
+    ensures { result ≡ is_some (command_in arriving_at (scope_of scope.now) node) }
+{
+    match end_of(scope, node) {
+        None => false,
+        Some((_, end)) => {
+            let name = text_at(scope.tree, node, "command");
+            command_among(end.instance.members.as_slice(), name).is_some()
+        }
     }
 }
 
