@@ -39,14 +39,19 @@ mismatches_unless above file s ns = if above then [] else flat_map (mismatches_i
 abbrev pub event_scope : Scope → (transition : ℕ) → Scope
 event_scope s x = with_known s (carried_if s (event_of s.tree x))
 
+-- what breaks BadReference or TypeMismatch in the guard and the action of a transition, which breaks BadReference itself or not
+abbrev pub inner_breaks : (above : Bool) → (file : ℕ) → Scope → (transition : ℕ) → List Refusal
+inner_breaks above file s x =
+    flat_map (bad_references_in file (event_scope s x)) (guarded_and_done s.tree x)
+    ++ mismatches_unless above file (event_scope s x) (guarded_and_done s.tree x)
+
 -- all that breaks a rule in a transition
 abbrev pub transition_breaks : (file : ℕ) → Scope → (machine transition : ℕ) → List Refusal
 transition_breaks file s machine x =
     broken_if BadReference file x (lacks_state s.tree machine x)
     ++ broken_if BadMachine file x (is_bad_transition s machine x)
     ++ event_breaks file s (event_of s.tree x)
-    ++ flat_map (bad_references_in file (event_scope s x)) (guarded_and_done s.tree x)
-    ++ mismatches_unless (lacks_state s.tree machine x) file (event_scope s x) (guarded_and_done s.tree x)
+    ++ inner_breaks (lacks_state s.tree machine x) file s x
 
 -- ---- states
 

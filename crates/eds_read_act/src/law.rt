@@ -1,13 +1,13 @@
-//! What the definitions of this crate mean, said again in other words.
+//! Laws of transactions: each is the contract of a function without a body.
+
+ghost use Rattle.eds_read_act.specs.Transactions.{EachHasANumber, NoNameTwice};
 
 /// Each transaction that an element of a component names has a number.
 pub fn each_transaction_has_a_number()
-    ensures { Rattle.eds_read_act.specs.Transactions.EachHasANumber }
-{
-}
+    ensures { EachHasANumber }
+{}
 
 /// No two transactions of a component have one name.
 pub fn no_transaction_twice()
-    ensures { Rattle.eds_read_act.specs.Transactions.NoNameTwice }
-{
-}
+    ensures { NoNameTwice }
+{}

@@ -4,11 +4,10 @@ ghost use Rattle.std.specs.Prelude.{◌≡◌, [], IfOk};
 ghost use Rattle.std.specs.List.{flat_map};
 ghost use Rattle.std.specs.Option.{option_copied};
 ghost use Rattle.eds_base.specs.Refusals.{least};
-ghost use Rattle.eds_tree.specs.Trees.{children_at};
 ghost use Rattle.eds_read_act.specs.Activities.{bad_references_in, mismatches_in};
-ghost use Rattle.eds_read_act.specs.Machines.{is_state_action as state_action_is, state_actions as state_actions_in, is_guard_or_do as guard_or_do_is, guarded_and_done as guarded_and_done_in, states_of, transitions_of as transitions_in, state_named, event_of as event_in};
-ghost use Rattle.eds_read_act.specs.MachineBreaks.{lacks_state as state_lacks, cannot_leave as leaving_fails, is_bad_transition as transition_is_bad, event_breaks, mismatches_unless, event_scope, transition_breaks, action_breaks, state_breaks, lacks_entry as entry_lacks, machine_breaks_at, machine_breaks};
-ghost use Rattle.eds_read_act.specs.Scopes.{scope_of, with_known};
+ghost use Rattle.eds_read_act.specs.Machines.{state_actions as state_actions_in, guarded_and_done as guarded_and_done_in, transitions_of as transitions_in};
+ghost use Rattle.eds_read_act.specs.MachineBreaks.{lacks_state as state_lacks, cannot_leave as leaving_fails, is_bad_transition as transition_is_bad, event_breaks, mismatches_unless, inner_breaks, transition_breaks, action_breaks, state_breaks, lacks_entry as entry_lacks, machine_breaks_at, machine_breaks};
+ghost use Rattle.eds_read_act.specs.Scopes.{scope_of};
 ghost use Rattle.eds_read_act.specs.States.{TellsStates};
 
 use crate::activity::{least_mismatch_in, least_reference_in};
@@ -139,8 +138,8 @@ fn event_break(file: u16, scope: &Scope, event: Option<u32>) -> Option<Refusal>
         None => None,
         Some(event) => {
             let missing = broken_if(Rule::BadReference, file, event, is_missing(scope, event));
-            let timer = is_bad_timer(scope.tree, event);
-            Refusal::first(missing, broken_if(Rule::BadTimer, file, event, timer))
+            let timer = broken_if(Rule::BadTimer, file, event, is_bad_timer(scope.tree, event));
+            Refusal::first(missing, timer)
         }
     }
 }
@@ -155,6 +154,27 @@ pub(crate) fn lent(carried: &Option<Fields>) -> Option<&Fields>
     }
 }
 
+// The least break in the guard and the action of a transition.
+fn inner_break(
+    alloc: Global,
+    above: bool,
+    file: u16,
+    scope: &Scope,
+    transition: u32,
+) -> Result<Option<Refusal>, Memory>
+    ensures { IfOk result (λ r. r ≡ least (inner_breaks above file (scope_of scope.now) transition)) }
+{
+    let nodes = guarded_and_done(alloc, scope.tree, transition)?;
+    if nodes.is_empty() {
+        return Ok(None);
+    }
+    let carried = carried_if(alloc, scope, event_of(scope.tree, transition))?;
+    let inner = scope.with(lent(&carried));
+    let references = references_over(alloc, file, &inner, nodes.as_slice())?;
+    let mismatches = mismatches_over(alloc, above, file, &inner, nodes.as_slice())?;
+    Ok(Refusal::first(references, mismatches))
+}
+
 fn transition_break(
     alloc: Global,
     file: u16,
@@ -167,20 +187,13 @@ fn transition_break(
 {
     let lacks = lacks_state(states, scope.tree, transition);
     let missing = broken_if(Rule::BadReference, file, transition, lacks);
-    let bad = is_bad_transition(scope, states, transition);
-    let found = Refusal::first(missing, broken_if(Rule::BadMachine, file, transition, bad));
-    let event = event_of(scope.tree, transition);
-    let found = Refusal::first(found, event_break(file, scope, event));
-    let nodes = guarded_and_done(alloc, scope.tree, transition)?;
-    if nodes.is_empty() {
-        return Ok(found);
-    }
-    let carried = carried_if(alloc, scope, event)?;
-    let inner = scope.with(lent(&carried));
-    let references = references_over(alloc, file, &inner, nodes.as_slice())?;
-    let found = Refusal::first(found, references);
-    let mismatches = mismatches_over(alloc, lacks, file, &inner, nodes.as_slice())?;
-    Ok(Refusal::first(found, mismatches))
+    let wrong = is_bad_transition(scope, states, transition);
+    let bad = broken_if(Rule::BadMachine, file, transition, wrong);
+    let own = Refusal::first(missing, bad);
+    let event = event_break(file, scope, event_of(scope.tree, transition));
+    let found = Refusal::first(own, event);
+    let inner = inner_break(alloc, lacks, file, scope, transition)?;
+    Ok(Refusal::first(found, inner))
 }
 
 // ---- states
@@ -201,6 +214,24 @@ fn action_break(
     Ok(Refusal::first(reference, mismatch))
 }
 
+fn actions_over(
+    alloc: Global,
+    file: u16,
+    scope: &Scope,
+    none: &Fields,
+    nodes: &[u32],
+) -> Result<Option<Refusal>, Memory>
+    requires { none.now ≡ [] }
+    ensures { IfOk result (λ r. r ≡ least (flat_map (action_breaks file (scope_of scope.now)) nodes.now)) }
+{
+    let mut found = None;
+    for node in nodes {
+        let here = action_break(alloc, file, scope, none, *node)?;
+        found = Refusal::first(found, here);
+    }
+    Ok(found)
+}
+
 fn state_break(
     alloc: Global,
     file: u16,
@@ -212,12 +243,7 @@ fn state_break(
     ensures { IfOk result (λ r. r ≡ least (state_breaks file (scope_of scope.now) state)) }
 {
     let actions = state_actions(alloc, scope.tree, state)?;
-    let mut found = None;
-    for node in actions.as_slice() {
-        let here = action_break(alloc, file, scope, none, *node)?;
-        found = Refusal::first(found, here);
-    }
-    Ok(found)
+    actions_over(alloc, file, scope, none, actions.as_slice())
 }
 
 fn least_over_states(
@@ -277,8 +303,8 @@ fn least_at(
 ) -> Result<Option<Refusal>, Memory>
     ensures { IfOk result (λ r. r ≡ least (machine_breaks_at file (scope_of scope.now) machine)) }
 {
-    let entry = lacks_entry(alloc, scope.tree, machine)?;
-    let entry = broken_if(Rule::BadMachine, file, machine, entry);
+    let lacks = lacks_entry(alloc, scope.tree, machine)?;
+    let entry = broken_if(Rule::BadMachine, file, machine, lacks);
     let states = States::of(alloc, scope.tree, machine)?;
     let at_states = least_over_states(alloc, file, scope, states.nodes.as_slice())?;
     let transitions = transitions_of(alloc, scope.tree, machine)?;
