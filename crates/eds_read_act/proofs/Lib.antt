@@ -4,3 +4,5 @@ pub mod Sound
 pub mod Stepping
 pub mod Over
 pub mod Planning
+pub mod Giving
+pub mod Transacting
