@@ -1,8 +1,6 @@
 //! The events that transitions wait for.
 
-ghost use Rattle.std.specs.Prelude.{◌≡◌, codes, IfOk, is_none, option_map};
-ghost use Rattle.std.specs.Option.{option_copied};
-ghost use Rattle.eds_tree.specs.Trees.{attribute_at};
+ghost use Rattle.std.specs.Prelude.{◌≡◌, IfOk, is_none, option_map};
 ghost use Rattle.eds_plan.specs.Carried.{arriving};
 ghost use Rattle.eds_read_act.specs.Machines.{is_event as event_is, event_of as event_in};
 ghost use Rattle.eds_read_act.specs.Events.{carries_value as value_is_carried, sets_read_only as read_only_is_set, value_of as value_in, value_if as value_in_if, carried_at as carried_in, carried_if as carried_in_if, is_provided as end_is_provided, lacks_operation as operation_lacks, lacks_operation_if as operation_lacks_if, nanoseconds as nanoseconds_of, nanoseconds_at as nanoseconds_in, is_bad_timer as timer_is_bad, op_arriving as op_that_arrives, command_trigger as trigger_of_command, parameter_trigger as trigger_of_parameter, trigger_at as trigger_in, trigger_if as trigger_in_if, transaction_if as transaction_in_if};

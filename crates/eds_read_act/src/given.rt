@@ -1,9 +1,8 @@
 //! What the children of an element give for arguments.
 
-ghost use Rattle.std.specs.Prelude.{◌≡◌, IfOk, map, filter};
-ghost use Rattle.eds_tree.specs.Trees.{children_at, is_named};
-ghost use Rattle.eds_read_act.specs.Inside.{given_for, givers as givers_in};
-ghost use Rattle.eds_read_act.specs.Given.{TellsGiven, given_name};
+ghost use Rattle.std.specs.Prelude.{◌≡◌, IfOk, map};
+ghost use Rattle.eds_read_act.specs.Inside.{givers as givers_in};
+ghost use Rattle.eds_read_act.specs.Given.{given_name};
 
 use crate::inside::text_at;
 use eds_base::{Memory, Text};
@@ -43,7 +42,6 @@ fn names_of(alloc: Global, tree: &Tree, nodes: &[u32]) -> Result<NameList, Memor
 
 impl Given {
     ghost use Rattle.std.specs.Prelude.{◌≡◌, IfOk};
-    ghost use Rattle.eds_tree.specs.declared.tree.Node.{Node};
     ghost use Rattle.eds_read_act.specs.Inside.{given_for};
     ghost use Rattle.eds_read_act.specs.Given.{TellsGiven};
 

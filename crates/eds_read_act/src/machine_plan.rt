@@ -1,13 +1,12 @@
 //! The state machines that elements stand for.
 
-ghost use Rattle.std.specs.Prelude.{◌≡◌, ◌≤◌, ◌++◌, codes, IfOk, length, map, option_map};
+ghost use Rattle.std.specs.Prelude.{◌≡◌, [], codes, IfOk, map, option_map};
 ghost use Rattle.eds_tree.specs.Trees.{name_at};
 ghost use Rattle.eds_plan.specs.Statements.{condition};
 ghost use Rattle.eds_names.specs.Positions.{place_among};
 ghost use Rattle.eds_read_act.specs.Inside.{child_named as child_in};
-ghost use Rattle.eds_read_act.specs.Machines.{states_of, transitions_of as transitions_in};
 ghost use Rattle.eds_read_act.specs.MachinePlans.{planned_transition, planned_machine, action_in as action_of, state_at as state_in, position as position_of, entry_number as entry_in, guard_at as guard_in, transition_at as transition_in, machine_at as machine_in, machines_at};
-ghost use Rattle.eds_read_act.specs.Scopes.{scope_of, with_arguments};
+ghost use Rattle.eds_read_act.specs.Scopes.{scope_of};
 ghost use Rattle.eds_read_act.specs.States.{TellsStates};
 
 use crate::action::action_at;

@@ -1,7 +1,6 @@
 //! The ends, members and activities that elements name, and what these take.
 
 ghost use Rattle.std.specs.Prelude.{◌≡◌, IfOk, is_some, option_map};
-ghost use Rattle.std.specs.Option.{option_copied};
 ghost use Rattle.eds_read_act.specs.Numbered.{numbered};
 ghost use Rattle.eds_plan.specs.Carried.{goes as goes_in, carried_fields, leaving as leaving_at, arriving as arriving_at};
 ghost use Rattle.eds_read_act.specs.Scopes.{scope_of};

@@ -1,9 +1,7 @@
 //! The states of a machine.
 
-ghost use Rattle.std.specs.Prelude.{◌≡◌, IfOk, map, filter};
-ghost use Rattle.eds_tree.specs.Trees.{children_at};
+ghost use Rattle.std.specs.Prelude.{◌≡◌, IfOk};
 ghost use Rattle.eds_read_act.specs.Machines.{is_state as state_is, states_of as states_in, state_names};
-ghost use Rattle.eds_read_act.specs.States.{TellsStates};
 
 use crate::inside::text_at;
 use eds_base::{Memory, Text};
