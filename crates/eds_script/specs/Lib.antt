@@ -10,3 +10,9 @@ pub mod Given
 pub mod Arrivals
 pub mod Meaning
 pub mod Scripts
+pub mod Pairs
+pub mod Names
+pub mod Fitting
+pub mod Events
+pub mod States
+pub mod Laws
