@@ -51,6 +51,10 @@ FitsPlan t plan (left time s) = FitsMember t s (member_at plan s.end s.member)
 FitsPlan t plan (stopped time component machine halt) = Unit {0}
 FitsPlan t plan (refused time e member fault) = Unit {0}
 
+-- one value for each variable, of its type
+abbrev pub HaveValues : Table → List VarPlan → List Plain → Type 0
+HaveValues t variables vs = AllPaired (λ (x : VarPlan) v. IsValueOf t x.id.0 v) variables vs
+
 -- each variable of a component has a value of its type
 abbrev pub HoldsValues : Table → ComponentPlan → CompState → Type 0
-HoldsValues t c s = AllPaired (λ (x : VarPlan) v. IsValueOf t x.id.0 v) c.variables (map plain s.variables)
+HoldsValues t c s = HaveValues t c.variables (map plain s.variables)

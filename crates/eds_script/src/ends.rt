@@ -12,7 +12,8 @@ use std::alloc::{AllocError, Global};
 /// The ends of a plan by their texts.
 pub(crate) type EndIndex = IndexMap<String, End>;
 
-fn end_text(alloc: Global, component: &str, name: &str) -> Result<String, AllocError>
+/// `Package/Component:end`.
+pub(crate) fn end_text(alloc: Global, component: &str, name: &str) -> Result<String, AllocError>
     ensures { IfOk result (λ s. string_bytes s ≡ text_of_end component.now name.now) }
 {
     Ok(format!(in alloc; "{component}:{name}")?)
