@@ -5,5 +5,6 @@ mod Knowing
 mod Packing
 mod Pieces
 mod Places
+mod Printing
 mod Scripting
 mod Utf8

@@ -1,6 +1,7 @@
 //! The line of an event.
 
 ghost use Rattle.std.specs.Prelude.{◌≡◌, IfOk, IfSome, Ok, Some, codes, map, option_map, slice_get, string_bytes};
+ghost use Rattle.hex.specs.Hex.{encode_lower};
 ghost use Rattle.eds_bits.specs.Bits.{Bits, octets_of};
 ghost use Rattle.eds_plan.specs.Outs.{report, signal};
 ghost use Rattle.eds_plan.specs.Plans.{component_at};
@@ -82,6 +83,15 @@ fn packed(alloc: Global, table: &TypeTable, id: TypeId, value: &Value) -> Result
     }
 }
 
+// The canonical bits of a value in hex.
+fn frame_hex(alloc: Global, table: &TypeTable, id: TypeId, value: &Value) -> Result<String, Memory>
+    requires { IsValueOf table.now id.0 (plain value.now) }
+    ensures { IfOk result (λ s. (b : Bits) × Canon table.now id.0 (plain value.now) b × (string_bytes s ≡ encode_lower (octets_of b))) }
+{
+    let octets = packed(alloc, table, id, value)?;
+    Ok(hex::encode(alloc, octets.as_slice())?)
+}
+
 // A frame of one value.
 fn frame_line(
     alloc: Global,
@@ -94,9 +104,13 @@ fn frame_line(
     ensures { IfOk result (λ o. IsFrameLine table.now spot.now.time spot.now.place.now spot.now.name.now id (map plain values.now) o) }
 {
     let head = front(alloc, spot, "frame")?;
-    let octets = packed(alloc, table, id, &values[0])?;
-    let hex = hex::encode(alloc, octets.as_slice())?;
-    line_given(alloc, head.as_str(), hex.as_bytes())
+    match value_at(values, 0) {
+        Some(value) => {
+            let hex = frame_hex(alloc, table, id, value)?;
+            Ok(line_given(alloc, head.as_str(), hex.as_bytes())?)
+        }
+        None => unreachable!(),
+    }
 }
 
 // The same values, as those of an object.
@@ -124,9 +138,9 @@ fn arguments_line(
     ensures reads { HasNoTypeEntry table.now → IfOk result (λ o. AreNamed fields.now → arguments_in table.now fields.now (arguments_text table.now fields.now (map plain values.now)) ≡ Ok (map plain values.now)) }
 {
     let head = front(alloc, spot, "cmd")?;
-    let values = listed(alloc, values)?;
-    let json = args_to_json(alloc, table, fields, &values)?;
-    line_given(alloc, head.as_str(), json.as_slice())
+    let list = listed(alloc, values)?;
+    let json = args_to_json(alloc, table, fields, &list)?;
+    Ok(line_given(alloc, head.as_str(), json.as_slice())?)
 }
 
 // A command: a frame of its one argument, or else the JSON of what it carries.
@@ -176,10 +190,10 @@ fn parameter_line(
 {
     let head = front(alloc, spot, op_word(op))?;
     match value_at(values, 0) {
-        None => line_of(alloc, head.as_str()),
+        None => Ok(line_of(alloc, head.as_str())?),
         Some(value) => {
             let json = to_json(alloc, table, id, value)?;
-            line_given(alloc, head.as_str(), json.as_slice())
+            Ok(line_given(alloc, head.as_str(), json.as_slice())?)
         }
     }
 }
@@ -269,7 +283,11 @@ fn halt_line(alloc: Global, spot: &Spot<'_>, halt: Halt) -> Result<Octets, Memor
     ensures { IfOk result (λ o. o ≡ line_of_halt spot.now.time spot.now.place.now spot.now.name.now halt) }
 {
     let head = front(alloc, spot, "halt")?;
-    line_given(alloc, head.as_str(), halt_word(halt).as_bytes())
+    Ok(line_given(
+        alloc,
+        head.as_str(),
+        halt_word(halt).as_bytes(),
+    )?)
 }
 
 fn halted_line(
@@ -303,7 +321,7 @@ fn reject_line(
     let reason = fault.reason.name();
     let path = path.as_str();
     let what = format!(in alloc; "{reason} at {path}")?;
-    line_given(alloc, head.as_str(), what.as_bytes())
+    Ok(line_given(alloc, head.as_str(), what.as_bytes())?)
 }
 
 fn rejected_line(

@@ -1,0 +1,34 @@
+use Rattle.std.proofs.Common.{◌≡◌, ℕ, List, ◌++◌, Some, None, codes, map, slice_get, refl, sym, ap, ap₂, ◌∙◌}
+use Rattle.std.proofs.lemmas.List.{append_assoc}
+use Rattle.eds_types.specs.Plain.{Plain, plain}
+use Rattle.eds_value.specs.Json.{value_in}
+use Rattle.eds_value.specs.JsonOfValue.{json_text}
+use Rattle.eds_script.specs.Events.{front, op_word, value_word}
+use Rattle.eds_script.proofs.Printing.{is-of-type, parameter-one}
+use Rattle.eds_script.proofs.event.parameter_line.Goals as goal
+
+pub to_json-requires-clause-known : goal.to_json-requires-clause-known
+to_json-requires-clause-known c = (parameter-one c.args.table.now c.args.id c.args.op (map plain c.args.values.now) (plain c.in-Some.value.now) c.requires (sym c.in-Some.ensures)).known
+
+pub to_json-requires-clause-one : goal.to_json-requires-clause-one
+to_json-requires-clause-one c = is-of-type c.args.table.now c.args.id.0 (plain c.in-Some.value.now) (parameter-one c.args.table.now c.args.id c.args.op (map plain c.args.values.now) (plain c.in-Some.value.now) c.requires (sym c.in-Some.ensures))
+
+pub returns-in-None-clause-line : goal.returns-in-None-clause-line
+returns-in-None-clause-line c =
+    let none : slice_get (map plain c.args.values.now) 0 ≡ None = sym c.in-None.ensures in
+    rw none (c.in_ok-line_of.ensures ∙ ap (λ (h : List ℕ). h ++ codes "\n") (c.as_str-in-None.ensures.value ∙ c.in_ok-head.ensures ∙ ap (λ (w : List ℕ). front c.args.spot.now.time w c.args.spot.now.place.now c.args.spot.now.name.now) c.op_word.ensures))
+
+pub returns-in-None-clause-reads : goal.returns-in-None-clause-reads
+returns-in-None-clause-reads c bare v e = let none : slice_get (map plain c.args.values.now) 0 ≡ None = sym c.in-None.ensures in cc
+
+pub returns-in-Some-clause-line : goal.returns-in-Some-clause-line
+returns-in-Some-clause-line c =
+    let some : slice_get (map plain c.args.values.now) 0 ≡ Some (plain c.in-Some.value.now) = sym c.in-Some.ensures in
+    let head = c.as_str.ensures.value ∙ c.in_ok-head.ensures ∙ ap (λ (w : List ℕ). front c.args.spot.now.time w c.args.spot.now.place.now c.args.spot.now.name.now) c.op_word.ensures in
+    let json = c.as_slice.ensures ∙ c.in_ok-json.ensures.text in
+    rw some (c.in_ok-line_given.ensures ∙ ap₂ (λ (h g : List ℕ). h ++ codes " " ++ g ++ codes "\n") head json)
+
+pub returns-in-Some-clause-reads : goal.returns-in-Some-clause-reads
+returns-in-Some-clause-reads c bare v e =
+    let is : plain c.in-Some.value.now ≡ v = (let some : slice_get (map plain c.args.values.now) 0 ≡ Some (plain c.in-Some.value.now) = sym c.in-Some.ensures in cc) in
+    rw (← is, ← c.in_ok-json.ensures.text) (c.in_ok-json.ensures.reads_back bare)
