@@ -1,5 +1,6 @@
 mod Among
 mod Called
+mod Carrying
 mod Digits
 mod Knowing
 mod Packing

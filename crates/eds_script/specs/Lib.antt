@@ -5,6 +5,7 @@ pub mod Stops
 pub mod Numbers
 pub mod Ends
 pub mod Members
+pub mod Carries
 pub mod Known
 pub mod Given
 pub mod Arrivals

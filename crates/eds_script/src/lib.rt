@@ -2,6 +2,7 @@
 #![tactic(auto)]
 
 mod arrival;
+mod carries;
 mod ends;
 mod event;
 mod given;

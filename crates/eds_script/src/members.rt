@@ -1,6 +1,6 @@
 //! The members of an end, by their names, and what a command carries.
 
-ghost use Rattle.std.specs.Prelude.{◌≡◌, ◌==◌, ◌++◌, ◌∷◌, [], IfOk, OnOk, length, option_map};
+ghost use Rattle.std.specs.Prelude.{◌≡◌, ◌++◌, ◌∷◌, [], IfOk, OnOk, option_map};
 ghost use Rattle.eds_plan.specs.Carried.{arriving as arriving_way, carried_fields as carried_of, goes as goes_way};
 ghost use Rattle.eds_script.specs.Members.{command_from, parameter_from};
 ghost use Rattle.eds_script.specs.Seen.{command_of, parameter_of};
@@ -151,19 +151,4 @@ pub(crate) fn carried_fields(
         rest = after;
     }
     Ok(fields)
-}
-
-/// Whether exactly one argument goes a way.
-pub(crate) fn carries_one(way: Way, arguments: &[Argument]) -> bool
-    ensures { result ≡ (length (carried_of way arguments.now) == 1) }
-{
-    let mut count: usize = 0;
-    let mut rest = arguments;
-    while let [argument, after @ ..] = rest {
-        if goes(way, argument.mode) {
-            count += 1;
-        }
-        rest = after;
-    }
-    count == 1
 }

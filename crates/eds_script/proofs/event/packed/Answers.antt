@@ -1,5 +1,9 @@
 use Rattle.eds_script.proofs.event.packed.Goals as goal
 
+pub pack-requires : goal.pack-requires
+pack-requires c = record { known = c.requires.known }
+
+-- a value that packs is packed, or memory is refused
 pub unreachable-requires : goal.unreachable-requires
 unreachable-requires c = let memory = c.in-Named.ensures.packs c.requires.size c.requires.packs in cc
 

@@ -1,0 +1,83 @@
+-- What arrives at an end is what the list of all has there.
+use Rattle.std.proofs.Common.{◌≡◌, ℕ, zero, suc, ◌+◌, Bool, true, false, Option, Some, None, List, [], ◌∷◌, map, option_map, slice_get, refl, sym, ap, ◌∙◌, arith}
+use Rattle.std.proofs.lemmas.Option.{slice_get-map}
+use Rattle.eds_base.specs.Reading.{◌>>=◌, same}
+use Rattle.eds_types.specs.Rows.{Table}
+use Rattle.eds_plan.specs.Carried.{arriving, carried_fields}
+use Rattle.eds_plan.specs.declared.component.ComponentPlan.{ComponentPlan}
+use Rattle.eds_plan.specs.declared.component.EndPlan.{EndPlan}
+use Rattle.eds_plan.specs.declared.instance.Argument.{Argument}
+use Rattle.eds_plan.specs.declared.instance.Member.{Member}
+use Rattle.eds_plan.specs.declared.instance.Member.TheVariants as member
+use Rattle.eds_plan.specs.declared.run.End.{End}
+use Rattle.eds_script.specs.Carries.{Fields, component_fields, end_fields, fields_there, member_fields, plan_fields}
+use Rattle.eds_script.specs.Ends.{end_at, end_named, found_end}
+use Rattle.eds_script.specs.Known.{AreFieldsKnown, AreKnown}
+use Rattle.eds_script.specs.Members.{Arriving, Commanded, command_from, commanded}
+use Rattle.eds_script.proofs.Knowing.{command-known, fields-known}
+
+-- those of an end are those that the list of all has there
+pub fields-there : (plan : List ComponentPlan) (e : End) → fields_there (plan_fields plan) e ≡ option_map end_fields (end_at plan e)
+fields-there plan e = ap (λ (o : Option (List (List Fields))). o >>= λ c. slice_get c e.face) (slice_get-map component_fields plan e.comp.0) ∙ at_comp (slice_get plan e.comp.0)
+  where
+    at_comp : (o : Option ComponentPlan) → (option_map component_fields o >>= λ c. slice_get c e.face) ≡ option_map end_fields (o >>= λ c. slice_get c.ends e.face)
+    at_comp None = refl
+    at_comp (Some c) = slice_get-map end_fields c.ends e.face
+
+-- an end that is found is there
+pub found-there : (plan : List ComponentPlan) (text : List ℕ) (e : End) (p : EndPlan) → found_end plan text ≡ Some (e, p) → end_at plan e ≡ Some p
+found-there plan text e p found = at_end (end_named plan text) found
+  where
+    at_place : (x : End) (o : Option EndPlan) → end_at plan x ≡ o → option_map {U = End × EndPlan} (λ q. (x, q)) o ≡ Some (e, p) → end_at plan e ≡ Some p
+    at_place x None is h = cc
+    at_place x (Some q) is h =
+        let both : ◌≡◌ {A = End × EndPlan} (x, q) (e, p) = cc in
+        ap (end_at plan) (sym (ap (λ (z : End × EndPlan). z.0) both)) ∙ is ∙ ap Some (ap (λ (z : End × EndPlan). z.1) both)
+
+    at_end : (o : Option End) → (o >>= λ x. option_map {U = End × EndPlan} (λ q. (x, q)) (end_at plan x)) ≡ Some (e, p) → end_at plan e ≡ Some p
+    at_end None h = cc
+    at_end (Some x) h = at_place x (end_at plan x) refl h
+
+-- so what arrives there is in the list of all
+pub found-fields : (plan : List ComponentPlan) (all : List (List (List Fields))) (text : List ℕ) (e : End) (p : EndPlan) → found_end plan text ≡ Some (e, p) → all ≡ plan_fields plan
+    → fields_there all e ≡ Some (end_fields p)
+found-fields plan all text e p found is =
+    ap (λ (fs : List (List (List Fields))). fields_there fs e) is ∙ fields-there plan e ∙ ap (option_map end_fields) (found-there plan text e p found)
+
+-- ---- commands
+
+abbrev Stands : Bool → List Member → ℕ → Commanded → Type 0
+Stands required ms i m = (k : ℕ) × (m.place ≡ i + k) × (slice_get (map (member_fields required) ms) k ≡ Some (carried_fields (arriving required) m.arguments))
+
+stands-behind : (required : Bool) (x : Member) (ms : List Member) (i : ℕ) (m : Commanded) → Stands required ms (i + 1) m → Stands required (x ∷ ms) i m
+stands-behind required x ms i m h = (suc h.0, (let at = h.1.0 in omega (arith, at)), h.1.1)
+
+stands : (required : Bool) (name : List ℕ) (i : ℕ) (ms : List Member) (m : Commanded) → command_from name i ms ≡ Some m → Stands required ms i m
+stands required name i [] m e = cc
+stands required name i (member.Parameter n id read_only ∷ ms) m e = stands-behind required _ ms i m (stands required name (i + 1) ms m e)
+stands required name i (member.Command n args ∷ ms) m e = go (same n name) refl (λ h. stands required name (i + 1) ms m h)
+  where
+    go : (b : Bool) → same n name ≡ b → (command_from name (i + 1) ms ≡ Some m → Stands required ms (i + 1) m) → Stands required (member.Command n args ∷ ms) i m
+    go true h others =
+        let found : ◌≡◌ {A = Commanded} (record { place = i; arguments = args }) m = (let here = rw h at e in cc) in
+        (0, (let at = ap (λ (x : Commanded). x.place) found in omega (arith, at)), ap (λ (x : Commanded). Some (carried_fields (arriving required) x.arguments)) found)
+    go false h others = stands-behind required _ ms i m (others (rw h at e))
+
+-- the fields of a command stand at its place
+pub command-fields : (p : EndPlan) (name : List ℕ) (m : Commanded) (all : List Fields) → all ≡ end_fields p → command_from name 0 p.instance.members ≡ Some m
+    → slice_get all m.place ≡ Some (carried_fields (arriving p.required) m.arguments)
+command-fields p name m all is e =
+    let s = stands p.required name 0 p.instance.members m e in
+    let at : m.place ≡ s.0 = (let where_is = s.1.0 in omega (arith, where_is)) in
+    ap (λ (fs : List Fields). slice_get fs m.place) is ∙ ap (slice_get (end_fields p)) at ∙ s.1.1
+
+-- the types of a command's fields are known
+pub commanded-known : (t : Table) (p : EndPlan) (name : List ℕ) (m : Arriving) → commanded p name ≡ Some m → AreKnown t p → AreFieldsKnown t m.fields
+commanded-known t p name m e known = go (command_from name 0 p.instance.members) refl e
+  where
+    go : (o : Option Commanded) → command_from name 0 p.instance.members ≡ o → option_map {U = Arriving} (λ (x : Commanded). record { place = x.place; fields = carried_fields (arriving p.required) x.arguments }) o ≡ Some m → AreFieldsKnown t m.fields
+    go None is h = cc
+    go (Some x) is h =
+        let found : ◌≡◌ {A = Arriving} (record { place = x.place; fields = carried_fields (arriving p.required) x.arguments }) m = cc in
+        let fields : carried_fields (arriving p.required) x.arguments ≡ m.fields = ap (λ (y : Arriving). y.fields) found in
+        rw (← fields) (fields-known t (arriving p.required) x.arguments (command-known t name 0 p.instance.members x is known))
