@@ -13,7 +13,7 @@ use Rattle.eds_plan.specs.declared.run.End.{End}
 use Rattle.eds_script.specs.Carries.{Fields, component_fields, end_fields, fields_there, member_fields, plan_fields}
 use Rattle.eds_script.specs.Ends.{end_at, end_named, found_end}
 use Rattle.eds_script.specs.Known.{AreFieldsKnown, AreKnown}
-use Rattle.eds_script.specs.Members.{Arriving, Commanded, command_from, commanded}
+use Rattle.eds_script.specs.Members.{Carrying, Commanded, command_from, command_place, commanded}
 use Rattle.eds_script.proofs.Knowing.{command-known, fields-known}
 
 -- those of an end are those that the list of all has there
@@ -63,21 +63,52 @@ stands required name i (member.Command n args ∷ ms) m e = go (same n name) ref
         (0, (let at = ap (λ (x : Commanded). x.place) found in omega (arith, at)), ap (λ (x : Commanded). Some (carried_fields (arriving required) x.arguments)) found)
     go false h others = stands-behind required _ ms i m (others (rw h at e))
 
--- the fields of a command stand at its place
-pub command-fields : (p : EndPlan) (name : List ℕ) (m : Commanded) (all : List Fields) → all ≡ end_fields p → command_from name 0 p.instance.members ≡ Some m
-    → slice_get all m.place ≡ Some (carried_fields (arriving p.required) m.arguments)
-command-fields p name m all is e =
-    let s = stands p.required name 0 p.instance.members m e in
-    let at : m.place ≡ s.0 = (let where_is = s.1.0 in omega (arith, where_is)) in
-    ap (λ (fs : List Fields). slice_get fs m.place) is ∙ ap (slice_get (end_fields p)) at ∙ s.1.1
+-- a command that is found, with what is held at its place
+abbrev IsFound : EndPlan → List ℕ → (place : ℕ) → (held : Option Fields) → Type 0
+IsFound p name place held = (m : Commanded) × (command_from name 0 p.instance.members ≡ Some m) × (m.place ≡ place) × (held ≡ Some (carried_fields (arriving p.required) m.arguments))
+
+found-command : (p : EndPlan) (name : List ℕ) (place : ℕ) (all : List Fields) → all ≡ end_fields p → command_place name 0 p.instance.members ≡ Some place → IsFound p name place (slice_get all place)
+found-command p name place all is e = go (command_from name 0 p.instance.members) refl e
+  where
+    go : (o : Option Commanded) → command_from name 0 p.instance.members ≡ o → option_map (λ (m : Commanded). m.place) o ≡ Some place → IsFound p name place (slice_get all place)
+    go None found h = cc
+    go (Some m) found h =
+        let here : m.place ≡ place = cc in
+        let s = stands p.required name 0 p.instance.members m found in
+        let at : place ≡ s.0 = (let where_is = s.1.0 in omega (arith, where_is, here)) in
+        (m, found, here, ap (λ (fs : List Fields). slice_get fs place) is ∙ ap (slice_get (end_fields p)) at ∙ s.1.1)
+
+-- its place is one of the list
+pub fields-there-are : (p : EndPlan) (name : List ℕ) (place : ℕ) (all : List Fields) → all ≡ end_fields p → command_place name 0 p.instance.members ≡ Some place → slice_get all place ≡ None → ⊥
+fields-there-are p name place all is e none =
+    let found = found-command p name place all is e in
+    let there = found.1.1.1 in
+    cc
+
+-- with the fields there it is the command that arrives
+pub command-carries : (p : EndPlan) (name : List ℕ) (place : ℕ) (all : List Fields) (fields : Fields) → all ≡ end_fields p → command_place name 0 p.instance.members ≡ Some place → slice_get all place ≡ Some fields
+    → Some (record { place = place; fields = fields }) ≡ commanded p name
+command-carries p name place all fields is e held =
+    let found = found-command p name place all is e in
+    let same : fields ≡ carried_fields (arriving p.required) found.0.arguments = (let there = found.1.1.1 in cc) in
+    let here : found.0.place ≡ place = found.1.1.0 in
+    rw (found.1.0, here, same) refl
+
+-- where no command is found, none arrives
+pub none-carries : (p : EndPlan) (name : List ℕ) → command_place name 0 p.instance.members ≡ None → commanded p name ≡ None
+none-carries p name e = go (command_from name 0 p.instance.members) refl e
+  where
+    go : (o : Option Commanded) → command_from name 0 p.instance.members ≡ o → option_map (λ (m : Commanded). m.place) o ≡ None → commanded p name ≡ None
+    go None found h = rw found refl
+    go (Some m) found h = cc
 
 -- the types of a command's fields are known
-pub commanded-known : (t : Table) (p : EndPlan) (name : List ℕ) (m : Arriving) → commanded p name ≡ Some m → AreKnown t p → AreFieldsKnown t m.fields
+pub commanded-known : (t : Table) (p : EndPlan) (name : List ℕ) (m : Carrying) → commanded p name ≡ Some m → AreKnown t p → AreFieldsKnown t m.fields
 commanded-known t p name m e known = go (command_from name 0 p.instance.members) refl e
   where
-    go : (o : Option Commanded) → command_from name 0 p.instance.members ≡ o → option_map {U = Arriving} (λ (x : Commanded). record { place = x.place; fields = carried_fields (arriving p.required) x.arguments }) o ≡ Some m → AreFieldsKnown t m.fields
+    go : (o : Option Commanded) → command_from name 0 p.instance.members ≡ o → option_map {U = Carrying} (λ (x : Commanded). record { place = x.place; fields = carried_fields (arriving p.required) x.arguments }) o ≡ Some m → AreFieldsKnown t m.fields
     go None is h = cc
     go (Some x) is h =
-        let found : ◌≡◌ {A = Arriving} (record { place = x.place; fields = carried_fields (arriving p.required) x.arguments }) m = cc in
-        let fields : carried_fields (arriving p.required) x.arguments ≡ m.fields = ap (λ (y : Arriving). y.fields) found in
+        let found : ◌≡◌ {A = Carrying} (record { place = x.place; fields = carried_fields (arriving p.required) x.arguments }) m = cc in
+        let fields : carried_fields (arriving p.required) x.arguments ≡ m.fields = ap (λ (y : Carrying). y.fields) found in
         rw (← fields) (fields-known t (arriving p.required) x.arguments (command-known t name 0 p.instance.members x is known))

@@ -9,7 +9,7 @@ ghost use Rattle.eds_script.specs.Carries.{end_fields};
 ghost use Rattle.eds_script.specs.Known.{AreKnown};
 
 use crate::LineWhy;
-use crate::carries::{Facing, find_arriving};
+use crate::carries::{Facing, find_carrying};
 use crate::given::{frame_octets, given_arguments, given_value};
 use crate::members::{arriving, find_parameter};
 use crate::words::Verb;
@@ -57,7 +57,7 @@ fn command_line(
     requires fields { facing.now.fields.now ≡ end_fields facing.now.plan.now }
     ensures { Answers told result (command_told table.now facing.now.end facing.now.plan.now name.now json.now) }
 {
-    let Some(command) = find_arriving(facing, name)? else {
+    let Some(command) = find_carrying(facing, name)? else {
         return Err(Fail::Named(LineWhy::Member));
     };
     let values = given_arguments(alloc, table, command.fields, json)?;
@@ -81,7 +81,7 @@ fn frame_line(
     requires { facing.now.fields.now ≡ end_fields facing.now.plan.now }
     ensures { Answers told result (frame_told facing.now.end facing.now.plan.now name.now hex.now) }
 {
-    let Some(command) = find_arriving(facing, name)? else {
+    let Some(command) = find_carrying(facing, name)? else {
         return Err(Fail::Named(LineWhy::Member));
     };
     if command.fields.len() != 1 {

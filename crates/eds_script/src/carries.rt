@@ -4,7 +4,7 @@ ghost use Rattle.std.specs.Prelude.{◌≡◌, IfOk, option_map};
 ghost use Rattle.std.specs.Option.{option_copied};
 ghost use Rattle.eds_script.specs.Carries.{component_fields as fields_of_component, end_fields as fields_of_end, fields_there, member_fields as fields_of_member, plan_fields as fields_of_plan};
 ghost use Rattle.eds_script.specs.Members.{commanded};
-ghost use Rattle.eds_script.specs.Seen.{arriving_of};
+ghost use Rattle.eds_script.specs.Seen.{carrying_of};
 
 use crate::members::{arriving, carried_fields, find_command};
 use eds_base::{Items, Memory};
@@ -87,25 +87,24 @@ pub(crate) struct Facing<'a> {
 
 /// A command that arrives: its position among the members, and the fields that it carries.
 #[derive(Clone, Copy)]
-pub(crate) struct Arriving<'a> {
+pub(crate) struct Carrying<'a> {
     pub(crate) place: u16,
     pub(crate) fields: &'a FieldList,
 }
 
 /// The first command of a name at an end, with what arrives there.
-pub(crate) fn find_arriving<'a>(
+pub(crate) fn find_carrying<'a>(
     facing: &Facing<'a>,
     name: &str,
-) -> Result<Option<Arriving<'a>>, Memory>
+) -> Result<Option<Carrying<'a>>, Memory>
     requires { facing.now.fields.now ≡ fields_of_end facing.now.plan.now }
-    ensures { IfOk result (λ m. option_map arriving_of m ≡ commanded facing.now.plan.now name.now) }
+    ensures { IfOk result (λ m. option_map carrying_of m ≡ commanded facing.now.plan.now name.now) }
 {
-    let Some(command) = find_command(facing.plan.instance.members.as_slice(), name)? else {
+    let Some(place) = find_command(facing.plan.instance.members.as_slice(), name)? else {
         return Ok(None);
     };
-    let place = command.place;
     match facing.fields.get(place as usize) {
-        Some(fields) => Ok(Some(Arriving { place, fields })),
+        Some(fields) => Ok(Some(Carrying { place, fields })),
         None => unreachable!(),
     }
 }
