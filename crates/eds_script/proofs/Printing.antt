@@ -30,7 +30,7 @@ use Rattle.eds_script.specs.Ends.{end_at}
 use Rattle.eds_script.specs.Events.{IsCommandBy, IsEventLine, IsFrameLine, IsMemberLine, IsSentLine, frame_type, given_line}
 use Rattle.eds_script.specs.Fitting.{AreValuesOf, FitsMember, FitsParameter, FitsPlan, IsOneOf, IsValueOf}
 use Rattle.eds_script.specs.Given.{frame_octets}
-use Rattle.eds_script.specs.Laws.{FramesRead, OneLine}
+use Rattle.eds_script.specs.Laws.{FramesRead, MemberReads, OneLine, SentReads}
 use Rattle.eds_script.specs.Names.{member_in}
 use Rattle.eds_script.specs.Pairs.{AllPaired, texts_of}
 
@@ -131,6 +131,23 @@ module _ {A B : Type 0} (Holds : A → B → Type 0) where
   pub paired-behind : (rest after : List A) (a : A) (i j : ℕ) (bs : List B) (b : B) → rest ≡ a ∷ after → slice_get bs i ≡ Some b → j ≡ i + 1 → AllPaired Holds rest (drop i bs) → AllPaired Holds after (drop j bs)
   paired-behind rest after a i j bs b is e more h =
       subst (λ k. AllPaired Holds after (drop k bs)) (sym more) (paired-some a after i bs b e (subst (λ (xs : List A). AllPaired Holds xs (drop i bs)) is h)).1
+
+-- ---- what is sent for the member that is found
+
+module _ {E : Type 0} (t : Table) (s : Signal) (e : Option EndPlan) (p : EndPlan) (m : Member) (r : Result (List ℕ) E) (is : e ≡ Some p) (found : member_in e s.member ≡ Some m) where
+  held : member_in (Some p) s.member ≡ Some m
+  held = ap (λ (x : Option EndPlan). member_in x s.member) (sym is) ∙ found
+
+  pub sent-line : (time : ℕ) (end text : List ℕ) → text ≡ end → IfOk r (λ o. IsMemberLine t time text p.level s (Some m) o) → IfOk r (λ o. IsSentLine t time end s e o)
+  sent-line time end text same h =
+      subst (λ (x : Option EndPlan). IfOk r (λ o. IsSentLine t time end s x o)) (sym is)
+      (subst (λ (y : Option Member). IfOk r (λ o. IsMemberLine t time end p.level s y o)) (sym held)
+      (subst (λ (z : List ℕ). IfOk r (λ o. IsMemberLine t time z p.level s (Some m) o)) same h))
+
+  pub sent-reads : IfOk r (λ o. MemberReads t p.level s (Some m)) → IfOk r (λ o. SentReads t s e)
+  sent-reads h =
+      subst (λ (x : Option EndPlan). IfOk r (λ o. SentReads t s x)) (sym is)
+      (subst (λ (y : Option Member). IfOk r (λ o. MemberReads t p.level s y)) (sym held) h)
 
 -- ---- frames
 

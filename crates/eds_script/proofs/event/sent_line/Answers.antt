@@ -1,6 +1,8 @@
-use Rattle.std.proofs.Common.{rules, ◌≡◌, Some, None, sym, ap, ◌∙◌}
+use Rattle.std.proofs.Common.{◌≡◌, Some, None, sym, ◌∙◌}
+use Rattle.eds_plan.specs.Outs.{signal}
 use Rattle.eds_script.specs.Ends.{end_at}
 use Rattle.eds_script.specs.Names.{member_at}
+use Rattle.eds_script.proofs.Printing.{sent-line, sent-reads}
 use Rattle.eds_script.proofs.event.sent_line.Goals as goal
 
 -- what stands at the end is a member that the primitive fits
@@ -13,3 +15,13 @@ pub member_line-requires : goal.member_line-requires
 member_line-requires c =
     let some : member_at c.args.plan.now c.args.primitive.now.end c.args.primitive.now.member ≡ Some c.in-Some.member.now = sym c.in-Some.ensures.member in
     rw some at c.requires
+
+pub returns-in-Some-clause-line : goal.returns-in-Some-clause-line
+returns-in-Some-clause-line c =
+    sent-line c.args.table.now (signal c.args.primitive.now) (end_at c.args.plan.now c.args.primitive.now.end) c.in-Some.end.now c.in-Some.member.now c.member_line.result c.in-Some.ensures.end (sym c.in-Some.ensures.member)
+    c.args.time _ c.as_str.result.now (c.as_str.ensures.value ∙ c.in_ok-text.ensures) c.member_line.ensures.line
+
+pub returns-in-Some-clause-reads : goal.returns-in-Some-clause-reads
+returns-in-Some-clause-reads c bare =
+    sent-reads c.args.table.now (signal c.args.primitive.now) (end_at c.args.plan.now c.args.primitive.now.end) c.in-Some.end.now c.in-Some.member.now c.member_line.result c.in-Some.ensures.end (sym c.in-Some.ensures.member)
+    (c.member_line.ensures.reads bare)
