@@ -1,12 +1,11 @@
 -- What arrives at an end is what the list of all has there.
-use Rattle.std.proofs.Common.{◌≡◌, ℕ, zero, suc, ◌+◌, Bool, true, false, Option, Some, None, List, [], ◌∷◌, map, option_map, slice_get, refl, sym, ap, ◌∙◌, arith}
+use Rattle.std.proofs.Common.{◌≡◌, ℕ, suc, ◌+◌, Bool, true, false, Option, Some, None, List, [], ◌∷◌, map, option_map, slice_get, refl, sym, ap, ◌∙◌, arith}
 use Rattle.std.proofs.lemmas.Option.{slice_get-map}
 use Rattle.eds_base.specs.Reading.{◌>>=◌, same}
 use Rattle.eds_types.specs.Rows.{Table}
 use Rattle.eds_plan.specs.Carried.{arriving, carried_fields}
 use Rattle.eds_plan.specs.declared.component.ComponentPlan.{ComponentPlan}
 use Rattle.eds_plan.specs.declared.component.EndPlan.{EndPlan}
-use Rattle.eds_plan.specs.declared.instance.Argument.{Argument}
 use Rattle.eds_plan.specs.declared.instance.Member.{Member}
 use Rattle.eds_plan.specs.declared.instance.Member.TheVariants as member
 use Rattle.eds_plan.specs.declared.run.End.{End}

@@ -1,5 +1,5 @@
 -- Values that fit, and texts that are put together.
-use Rattle.std.proofs.Common.{◌≡◌, ℕ, zero, suc, ◌+◌, ◌*◌, ◌-◌, ◌<◌, ◌≤◌, Bool, true, false, nat_le, All, Option, Some, None, List, [], ◌∷◌, ◌++◌, Result, Ok, Err, length, drop, replicate, slice_get, subst, refl, sym, ap, ◌∙◌, arith, lit<, codes}
+use Rattle.std.proofs.Common.{◌≡◌, ℕ, zero, suc, ◌+◌, ◌*◌, ◌-◌, ◌<◌, ◌≤◌, true, false, nat_le, All, Option, Some, None, List, [], ◌∷◌, ◌++◌, Result, Ok, Err, length, drop, replicate, slice_get, subst, refl, sym, ap, ◌∙◌, arith, lit<, codes}
 use Rattle.std.specs.Prelude.{IfOk}
 use Rattle.std.proofs.lemmas.Bool.Decides.{nat_tests}
 use Rattle.std.proofs.lemmas.List.{append_assoc, length-replicate}
@@ -9,26 +9,23 @@ use Rattle.hex.proofs.HexLemmas.{decode_of-encode_lower}
 use Rattle.eds_base.specs.declared.ids.TypeId.{TypeId}
 use Rattle.eds_bits.specs.Bits.{Bits, oct, octets_of}
 use Rattle.eds_bits.proofs.OctetLaws.{bits_of-octets_of, length-octets_of, octets_of_below}
-use Rattle.eds_types.specs.Laws.{IsThere}
-use Rattle.eds_types.specs.Packing.{most_bits}
 use Rattle.eds_types.specs.Plain.{Plain}
 use Rattle.eds_types.specs.Rows.{Table}
 use Rattle.eds_types.specs.Rules.{KeepsRules}
 use Rattle.eds_types.proofs.TypeLaws.{one_canonical}
 use Rattle.eds_value.specs.Laws.{AreOfTypes, IsOfType}
 use Rattle.eds_plan.specs.Carried.{carried_fields}
-use Rattle.eds_plan.specs.Outs.{Report, Signal, left, stopped, refused}
+use Rattle.eds_plan.specs.Outs.{Signal, left, stopped, refused}
 use Rattle.eds_plan.specs.declared.activity.Op.{Op}
 use Rattle.eds_plan.specs.declared.activity.Op.TheVariants as op
-use Rattle.eds_plan.specs.declared.component.ComponentPlan.{ComponentPlan}
 use Rattle.eds_plan.specs.declared.component.EndPlan.{EndPlan}
 use Rattle.eds_plan.specs.declared.component.Level.{Level}
 use Rattle.eds_plan.specs.declared.component.Level.TheVariants as level
 use Rattle.eds_plan.specs.declared.instance.Member.{Member}
 use Rattle.eds_plan.specs.declared.instance.Member.TheVariants as member
 use Rattle.eds_script.specs.Ends.{end_at}
-use Rattle.eds_script.specs.Events.{IsCommandBy, IsEventLine, IsFrameLine, IsMemberLine, IsSentLine, frame_type, given_line}
-use Rattle.eds_script.specs.Fitting.{AreValuesOf, FitsMember, FitsParameter, FitsPlan, IsOneOf, IsValueOf}
+use Rattle.eds_script.specs.Events.{IsCommandBy, IsFrameLine, IsMemberLine, IsSentLine, frame_type, given_line}
+use Rattle.eds_script.specs.Fitting.{AreValuesOf, FitsMember, FitsParameter, IsOneOf, IsValueOf}
 use Rattle.eds_script.specs.Given.{frame_octets}
 use Rattle.eds_script.specs.Laws.{FramesRead, MemberReads, OneLine, SentReads}
 use Rattle.eds_script.specs.Names.{member_in}

@@ -17,7 +17,7 @@ use Rattle.eds_script.specs.declared.words.Verb.{Verb}
 use Rattle.eds_script.specs.declared.words.Verb.TheVariants.{Cmd, Frame, Get, Set, Val}
 use Rattle.eds_script.specs.Ends.{found_end}
 use Rattle.eds_script.specs.Given.{frame_octets, given_arguments, given_value}
-use Rattle.eds_script.specs.Members.{Carrying, Parametered, commanded, parameter_from}
+use Rattle.eds_script.specs.Members.{commanded, parameter_from}
 use Rattle.eds_script.specs.Stops.{unless_stop}
 
 -- `get` and `set` fit provided ends, `val` required ones, and commands both

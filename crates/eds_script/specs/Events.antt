@@ -1,5 +1,5 @@
 -- The lines of what leaves a run: what components send, activities that halt, and frames that are refused.
-use Rattle.std.specs.Prelude.{◌≡◌, ℕ, List, [], ◌∷◌, ◌++◌, codes, decimal, Option, Some, None, option_map, slice_get}
+use Rattle.std.specs.Prelude.{◌≡◌, ℕ, List, [], ◌∷◌, ◌++◌, codes, decimal, Option, Some, None, slice_get}
 use Rattle.hex.specs.Hex.{encode_lower}
 use Rattle.eds_base.specs.Faults.{reason_name}
 use Rattle.eds_base.specs.declared.fault.Fault.{Fault}
@@ -21,11 +21,10 @@ use Rattle.eds_plan.specs.declared.component.Level.{Level}
 use Rattle.eds_plan.specs.declared.component.Level.TheVariants as level
 use Rattle.eds_plan.specs.declared.instance.Member.{Member}
 use Rattle.eds_plan.specs.declared.instance.Member.TheVariants as member
-use Rattle.eds_plan.specs.declared.run.End.{End}
 use Rattle.eds_plan.specs.declared.run.Halt.{Halt}
 use Rattle.eds_plan.specs.declared.run.Halt.TheVariants as halt
 use Rattle.eds_script.specs.Ends.{end_at}
-use Rattle.eds_script.specs.Names.{machine_name, member_at, member_in, member_name, text_of_end}
+use Rattle.eds_script.specs.Names.{machine_name, member_in, member_name, text_of_end}
 
 -- ---- what is sent
 

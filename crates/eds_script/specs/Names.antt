@@ -1,6 +1,5 @@
 -- The names by which a plan's things are told, empty where there is no such thing.
 use Rattle.std.specs.Prelude.{ℕ, List, [], Option, Some, None, option_map, slice_get, unwrap_or}
-use Rattle.eds_base.specs.Reading.{◌>>=◌}
 use Rattle.eds_plan.specs.Plans.{component_at}
 use Rattle.eds_plan.specs.declared.component.ComponentPlan.{ComponentPlan}
 use Rattle.eds_plan.specs.declared.component.EndPlan.{EndPlan}

@@ -1,9 +1,6 @@
-use Rattle.std.proofs.Common.{◌≡◌, ℕ, List, ◌++◌, Some, None, codes, map, slice_get, refl, sym, ap, ap₂, ◌∙◌}
-use Rattle.std.proofs.lemmas.List.{append_assoc}
-use Rattle.eds_types.specs.Plain.{Plain, plain}
-use Rattle.eds_value.specs.Json.{value_in}
-use Rattle.eds_value.specs.JsonOfValue.{json_text}
-use Rattle.eds_script.specs.Events.{front, op_word, value_word}
+use Rattle.std.proofs.Common.{◌≡◌, ℕ, List, ◌++◌, Some, None, codes, map, slice_get, sym, ap, ap₂, ◌∙◌}
+use Rattle.eds_types.specs.Plain.{plain}
+use Rattle.eds_script.specs.Events.{front, op_word}
 use Rattle.eds_script.proofs.Printing.{is-of-type, parameter-one}
 use Rattle.eds_script.proofs.event.parameter_line.Goals as goal
 

@@ -1,5 +1,5 @@
-use Rattle.std.proofs.Common.{rules, ◌≡◌, Some, None, sym, ap, ◌∙◌}
-use Rattle.eds_script.specs.Carries.{end_fields, fields_there}
+use Rattle.std.proofs.Common.{rules, ◌≡◌, Some, None, sym}
+use Rattle.eds_script.specs.Carries.{fields_there}
 use Rattle.eds_script.specs.Ends.{found_end}
 use Rattle.eds_script.proofs.Carrying.{found-fields}
 use Rattle.eds_script.proofs.Knowing.{end-known}

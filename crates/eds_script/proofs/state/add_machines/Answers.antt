@@ -1,4 +1,4 @@
-use Rattle.std.proofs.Common.{rules, ◌≡◌, ◌+◌, length, sym, ap, ◌∙◌, append-nil, arith}
+use Rattle.std.proofs.Common.{rules, ◌+◌, length, sym, ap, ◌∙◌, append-nil, arith}
 use Rattle.eds_script.specs.States.{machine_line}
 use Rattle.eds_script.proofs.Called.{opened}
 use Rattle.eds_script.proofs.Printing.{texts-end, texts-step}

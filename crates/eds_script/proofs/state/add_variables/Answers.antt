@@ -1,4 +1,4 @@
-use Rattle.std.proofs.Common.{rules, ◌≡◌, ◌+◌, ℕ, length, map, refl, sym, ap, ◌∙◌, append-nil, arith}
+use Rattle.std.proofs.Common.{rules, ◌+◌, length, map, refl, sym, ap, ◌∙◌, append-nil, arith}
 use Rattle.eds_plan.specs.declared.component.VarPlan.{VarPlan}
 use Rattle.eds_types.specs.Plain.{Plain, plain}
 use Rattle.eds_script.specs.Fitting.{IsValueOf}
