@@ -24,7 +24,7 @@ pub record IsValueOf (t : Table) (id : ℕ) (v : Plain) : Type 0 where
 
 -- one value for each field, of its type
 abbrev pub AreValuesOf : Table → List (List ℕ × TypeId) → List Plain → Type 0
-AreValuesOf t fields vs = AllPaired (λ (f : List ℕ × TypeId) v. IsValueOf t f.1.0 v) fields vs
+AreValuesOf t fields vs = AllPaired (λ (f : List ℕ × TypeId) (v : Plain). IsValueOf t f.1.0 v) fields vs
 
 -- the one value is of the type
 abbrev pub IsOneOf : Table → TypeId → List Plain → Type 0
@@ -53,7 +53,7 @@ FitsPlan t plan (refused time e member fault) = Unit {0}
 
 -- one value for each variable, of its type
 abbrev pub HaveValues : Table → List VarPlan → List Plain → Type 0
-HaveValues t variables vs = AllPaired (λ (x : VarPlan) v. IsValueOf t x.id.0 v) variables vs
+HaveValues t variables vs = AllPaired (λ (x : VarPlan) (v : Plain). IsValueOf t x.id.0 v) variables vs
 
 -- each variable of a component has a value of its type
 abbrev pub HoldsValues : Table → ComponentPlan → CompState → Type 0

@@ -23,7 +23,7 @@ use crate::print::{line_given, line_of, value_at};
 use eds_base::{CompId, Fail, Fault, Memory, Octets, Text, TypeId};
 use eds_pack::pack;
 use eds_plan::{End, EndPlan, FieldList, Halt, Level, Member, Op, Out, Plan, Primitive};
-use eds_types::{TypeTable, Value};
+use eds_types::{TypeTable, Value, Values};
 use eds_value::{args_to_json, path_text, to_json};
 use std::alloc::{AllocError, Global};
 
@@ -114,10 +114,10 @@ fn frame_line(
 }
 
 // The same values, as those of an object.
-fn listed(alloc: Global, values: &[Value]) -> Result<eds_types::Values, Memory>
+fn listed(alloc: Global, values: &[Value]) -> Result<Values, Memory>
     ensures { IfOk result (λ vs. vs ≡ map plain values.now) }
 {
-    let mut list = eds_types::Values::new(alloc);
+    let mut list = Values::new(alloc);
     for value in values {
         let copy = value.copy(alloc)?;
         list.push(copy)?;

@@ -23,7 +23,7 @@ returns-in-Some-clause-line c =
     let some : slice_get (map plain c.args.values.now) 0 ≡ Some (plain c.in-Some.value.now) = sym c.in-Some.ensures in
     let head = c.as_str.ensures.value ∙ c.in_ok-head.ensures ∙ ap (λ (w : List ℕ). front c.args.spot.now.time w c.args.spot.now.place.now c.args.spot.now.name.now) c.op_word.ensures in
     let json = c.as_slice.ensures ∙ c.in_ok-json.ensures.text in
-    rw some (c.in_ok-line_given.ensures ∙ ap₂ (λ (h g : List ℕ). h ++ codes " " ++ g ++ codes "\n") head json)
+    rw some (c.in_ok-line_given.ensures ∙ ap₂ (λ (h : List ℕ) (g : List ℕ). h ++ codes " " ++ g ++ codes "\n") head json)
 
 pub returns-in-Some-clause-reads : goal.returns-in-Some-clause-reads
 returns-in-Some-clause-reads c bare v e =
