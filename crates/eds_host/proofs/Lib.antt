@@ -8,3 +8,9 @@ pub mod Times
 pub mod Mirrored
 pub mod Framing
 pub mod Tying
+pub mod GoLaws
+pub mod Standing
+pub mod Tied
+pub mod Dueness
+pub mod Adapted
+pub mod Beginnings
