@@ -4,7 +4,9 @@ ghost use Rattle.std.specs.Prelude.{◌≡◌, ◌++◌, ◌∷◌, [], List, No
 ghost use Rattle.std.specs.Option.{option_copied};
 ghost use Rattle.eds_host.specs.declared.wiring.Tie.{Tie as tie_now};
 ghost use Rattle.eds_host.specs.Links.{HasTies, TiesAll, place_of, link_of};
-ghost use Rattle.eds_host.specs.Wires.{agrees as agrees_of, other_end as other_end_of, plan_of, same_interface as same_interface_of, same_type as same_type_of, tie_of, ties_of, type_named as type_named_of, wrong_between as wrong_between_of};
+ghost use Rattle.eds_host.specs.Wires.{other_end as other_end_of, tie_of, ties_of, wrong_between as wrong_between_of};
+ghost use Rattle.eds_plan.specs.Ends.{end_at};
+ghost use Rattle.eds_plan.specs.Interfaces.{agrees as agrees_of, same_interface as same_interface_of, same_type as same_type_of, type_named as type_named_of};
 
 use eds_base::{Fail, Memory, Text};
 use eds_plan::{End, EndPlan, Instance, Plan, TypeMap};
@@ -119,7 +121,7 @@ fn same_interface(one: &Instance, other: &Instance) -> bool
 
 // What a plan has of an end.
 fn end_plan(plan: &Plan, end: End) -> Option<&EndPlan>
-    ensures { option_copied result ≡ plan_of plan.now end }
+    ensures { option_copied result ≡ end_at plan.now end }
 {
     let component = plan.get(end.comp.0 as usize)?;
     component.ends.get(usize::from(end.face))

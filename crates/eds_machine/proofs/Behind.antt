@@ -22,7 +22,8 @@ use Rattle.eds_plan.specs.Statements.{stmts}
 use Rattle.eds_act.specs.declared.ending.ActEnd.{ActEnd}
 use Rattle.eds_act.specs.declared.ending.ActEnd.TheVariants.{Done, Halted}
 use Rattle.eds_act.specs.Acting.{acting, acted, entered, noted, noted_end}
-use Rattle.eds_act.specs.Does.{World, Ended, exec, items_of, value_of, arguments_of, argument_types}
+use Rattle.eds_plan.specs.Plans.{argument_types}
+use Rattle.eds_act.specs.Does.{World, Ended, exec, items_of, value_of, arguments_of}
 use Rattle.eds_act.proofs.Whole.{sent_before, exec_before}
 use Rattle.eds_machine.specs.declared.event.Event.{Event}
 use Rattle.eds_machine.specs.declared.event.Event.TheVariants as event

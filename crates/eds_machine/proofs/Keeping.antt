@@ -18,7 +18,8 @@ use Rattle.eds_plan.specs.declared.run.CompState.{CompState}
 use Rattle.eds_plan.specs.declared.run.MachineState.{MachineState}
 use Rattle.eds_plan.specs.Matching.{waits_for}
 use Rattle.eds_plan.specs.Sends.{Sent}
-use Rattle.eds_act.specs.Does.{AllConform, variable_types}
+use Rattle.eds_plan.specs.Plans.{variable_types}
+use Rattle.eds_act.specs.Does.{AllConform}
 use Rattle.eds_machine.specs.declared.event.Event.{Event}
 use Rattle.eds_machine.specs.declared.event.Event.TheVariants as event
 use Rattle.eds_machine.specs.Conditions.{AreTimely, IsTimely, HasStates, IsStateAt}

@@ -7,7 +7,8 @@ ghost use Rattle.eds_plan.specs.declared.component.VarPlan.{VarPlan};
 ghost use Rattle.eds_plan.specs.Plans.{component_at};
 ghost use Rattle.eds_plan.specs.Sends.{sent};
 ghost use Rattle.eds_act.specs.Acting.{world_of};
-ghost use Rattle.eds_act.specs.Does.{AllConform, variable_types};
+ghost use Rattle.eds_plan.specs.Plans.{variable_types};
+ghost use Rattle.eds_act.specs.Does.{AllConform};
 ghost use Rattle.eds_machine.specs.Conditions.{MachinesFit, IsStateAt};
 ghost use Rattle.eds_machine.specs.Reactions.{begins, starts};
 
