@@ -72,7 +72,7 @@ mapped_same false op.Set args face member x r = refl
 mapped_same true op.Val args face member x r = refl
 mapped_same false op.Val args face member x r = refl
 
-map_same : (c : ComponentPlan) (face member : ℕ) (o : Op) (args : List Plain) (r : Reacting) → (map_reacts c face member o args r).machines ≡ r.machines
+pub map_same : (c : ComponentPlan) (face member : ℕ) (o : Op) (args : List Plain) (r : Reacting) → (map_reacts c face member o args r).machines ≡ r.machines
 map_same c face member o args r = go (find (maps_to face member) c.maps)
   where
     go : (m : Option MapPlan) → (mapped_by (is_required c face) o args face member m r).machines ≡ r.machines

@@ -80,7 +80,7 @@ module _ (t : Table) (c : ComponentPlan) where
   mapped_conforms true op.Val way e face number x args r same h all = stored_conforms op.Val way e x args r.world.variables (λ q. cc) (λ q. cc) same h all
 
   -- a map that is found fits, and is of the end and member
-  found_fits : (face number : ℕ) (ms : List MapPlan) (m : MapPlan) → find (maps_to face number) ms ≡ Some m → AllByRecursion (MapFits c) ms → MapFits c m × (m.face ≡ face) × (m.member ≡ number)
+  pub found_fits : (face number : ℕ) (ms : List MapPlan) (m : MapPlan) → find (maps_to face number) ms ≡ Some m → AllByRecursion (MapFits c) ms → MapFits c m × (m.face ≡ face) × (m.member ≡ number)
   found_fits face number [] m e h = absurd cc
   found_fits face number (y ∷ ys) m e h = go (maps_to face number y) refl e (λ f. found_fits face number ys m f h.1)
     where

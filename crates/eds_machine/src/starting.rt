@@ -1,6 +1,6 @@
 //! The start of a component.
 
-ghost use Rattle.std.specs.Prelude.{◌≡◌, ◌<◌, length, map, OnOk, IfOk};
+ghost use Rattle.std.specs.Prelude.{◌≡◌, ◌<◌, ℕ, [], length, map, OnOk, IfOk};
 ghost use Rattle.eds_types.specs.PackedSizes.{packs};
 ghost use Rattle.eds_types.specs.Plain.{Plain, plain};
 ghost use Rattle.eds_plan.specs.declared.component.VarPlan.{VarPlan};
@@ -10,7 +10,7 @@ ghost use Rattle.eds_act.specs.Acting.{world_of};
 ghost use Rattle.eds_plan.specs.Plans.{variable_types};
 ghost use Rattle.eds_act.specs.Does.{AllConform};
 ghost use Rattle.eds_machine.specs.Conditions.{MachinesFit, IsStateAt};
-ghost use Rattle.eds_machine.specs.Reactions.{begins, starts};
+ghost use Rattle.eds_machine.specs.Reactions.{begins, fresh as fresh_of, starts};
 
 use crate::reaction::{BUDGET, all_react};
 use eds_base::{CompId, Items, Memory};
@@ -49,6 +49,30 @@ fn beginnings(alloc: Global, machines: &[Machine]) -> Result<Items<MachineState>
         rest = after;
     }
     Ok(states)
+}
+
+// A component before it starts.
+fn fresh(alloc: Global, component: &ComponentPlan) -> Result<CompState, Memory>
+    ensures world { (comp : ℕ) → IfOk result (λ s. world_of comp s [] ≡ (fresh_of component.now comp []).world) }
+    ensures machines { (comp : ℕ) → IfOk result (λ s. s.machines ≡ (fresh_of component.now comp []).machines) }
+{
+    let variables = first_values(alloc, component.variables.as_slice())?;
+    let machines = beginnings(alloc, component.machines.as_slice())?;
+    Ok(CompState {
+        variables,
+        machines,
+        outstanding: Items::new(alloc),
+    })
+}
+
+/// The state of a component before it starts: its variables have their first values, its machines are in their entry states
+/// since time 0, and no transaction is under way.
+pub fn fresh_state(alloc: Global, plan: &Plan, comp: CompId) -> Result<CompState, Memory>
+    requires { comp.0 < length plan.now }
+    ensures world { IfOk result (λ s. world_of comp.0 s [] ≡ (fresh_of (component_at plan.now comp.0) comp.0 []).world) }
+    ensures machines { IfOk result (λ s. s.machines ≡ (fresh_of (component_at plan.now comp.0) comp.0 []).machines) }
+{
+    fresh(alloc, plan.component(comp))
 }
 
 // A component starts.
