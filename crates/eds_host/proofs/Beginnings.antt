@@ -8,7 +8,7 @@ use Rattle.eds_host.specs.Machines.{IsStateOf, waits_of}
 use Rattle.eds_host.specs.Mirrors.{dues_of}
 use Rattle.eds_host.specs.Plans.{AreBegun, AreStates, NoneBefore}
 use Rattle.eds_host.specs.Laws.{NotBefore}
-use Rattle.eds_host.specs.Runs.{begun, all_start, happening, nothing}
+use Rattle.eds_host.specs.Runs.{begun, all_fresh, all_start, happening, nothing}
 use Rattle.eds_host.specs.Settings.{world}
 use Rattle.eds_host.specs.Systems.{System, StateNow, World, Happening, leaving}
 use Rattle.eds_host.proofs.Tied.{dues_length, dues_more, set_last}
@@ -60,3 +60,15 @@ begun_states t plan xs e h = record { all = e; each = λ i s g. (h i s g).0 }
 
 pub begun_before : (t : Table) (plan : List ComponentPlan) (xs : List StateNow) → AreBegun t plan xs → NoneBefore plan 1 xs
 begun_before t plan xs h i s g = (h i s g).1
+
+-- one more component before it starts
+pub fresh_next : (f : ℕ → StateNow) (i n : ℕ) (xs ys : List StateNow) (s : StateNow) (all : List StateNow) → i < n → xs ++ all_fresh f i (n - i) ≡ all → s ≡ f i → ys ≡ xs ++ s ∷ [] → ys ++ all_fresh f (i + 1) (n - (i + 1)) ≡ all
+fresh_next f i n xs ys s all lt e is more =
+    let one : n - i ≡ suc (n - (i + 1)) = omega arith in
+    ap (λ zs. zs ++ all_fresh f (i + 1) (n - (i + 1))) (more ∙ ap (λ x. xs ++ x ∷ []) is)
+    ∙ append_assoc xs (f i ∷ []) (all_fresh f (i + 1) (n - (i + 1)))
+    ∙ ap (λ m. xs ++ all_fresh f i m) (sym one) ∙ e
+
+pub fresh_length : (f : ℕ → StateNow) (i n : ℕ) → length (all_fresh f i n) ≡ n
+fresh_length f i zero = refl
+fresh_length f i (suc n) = ap suc (fresh_length f (i + 1) n)

@@ -11,8 +11,7 @@ use Rattle.eds_plan.specs.Carried.{leaving as leaving_way}
 use Rattle.eds_plan.specs.Outs.{Signal, Report, report, stopped}
 use Rattle.eds_plan.specs.Sends.{Sent, primitive, halted, sent}
 use Rattle.eds_types.specs.Rows.{Table}
-use Rattle.eds_host.specs.Machines.{ValuesFit}
-use Rattle.eds_host.specs.Plans.{Arrives, Leaves, Stands, AreTied, WiresFit, OpFits, IsSent}
+use Rattle.eds_host.specs.Plans.{Arrives, Leaves, Stands, AreTied, WiresFit, IsSent}
 use Rattle.eds_host.specs.Systems.{queued, leaving, delivered_at, leaves_at, sent_at}
 
 some : {A : Type 0} {a b : A} → Some a ≡ Some b → a ≡ b

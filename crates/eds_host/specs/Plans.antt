@@ -1,39 +1,27 @@
 -- The system of components that a plan describes, and what is asked of what comes to them.
 use Rattle.std.specs.Prelude.{◌≡◌, ◌≤◌, ◌<◌, ◌+◌, ◌^◌, ℕ, List, length, Bool, true, false, Option, Some, None, slice_get}
 use Rattle.std.specs.List.{AllByRecursion}
-use Rattle.eds_types.specs.Plain.{Plain}
 use Rattle.eds_types.specs.Rows.{Table}
 
-use Rattle.eds_plan.specs.Carried.{arriving, leaving}
+use Rattle.eds_plan.specs.Carried.{OpFits, arriving, carried, leaving}
 use Rattle.eds_plan.specs.Ends.{end_at}
 use Rattle.eds_plan.specs.Outs.{Signal}
 use Rattle.eds_plan.specs.Sends.{Sent, primitive, halted}
-use Rattle.eds_plan.specs.declared.activity.Op.{Op}
-use Rattle.eds_plan.specs.declared.activity.Op.TheVariants as op
 use Rattle.eds_plan.specs.declared.component.ComponentPlan.{ComponentPlan}
 use Rattle.eds_plan.specs.declared.component.EndPlan.{EndPlan}
 use Rattle.eds_plan.specs.declared.instance.Member.{Member}
-use Rattle.eds_plan.specs.declared.instance.Member.TheVariants as member
 use Rattle.eds_plan.specs.declared.run.End.{End}
 use Rattle.eds_plan.specs.declared.run.Way.{Way}
-use Rattle.eds_plan.specs.declared.run.Way.TheVariants.{Down, Up}
-use Rattle.eds_host.specs.Machines.{started, reacted, waits_of, IsStateOf, ValuesFit}
+use Rattle.eds_act.specs.Does.{AllConform}
+use Rattle.eds_host.specs.Machines.{unstarted, started, reacted, waits_of, IsStateOf}
 use Rattle.eds_host.specs.Laws.{NotBefore}
 use Rattle.eds_host.specs.Systems.{StateNow, System, Coming, arrival, moment, sent_at}
 
 -- the components of a plan, whose ends are tied so
 abbrev pub system : Table → List ComponentPlan → (End → Option End) → System
-system t plan tied = record { count = length plan; starts = started t plan; reacts = reacted t plan; waits = waits_of plan; tied = tied }
+system t plan tied = record { count = length plan; fresh = unstarted plan; starts = started t plan; reacts = reacted t plan; waits = waits_of plan; tied = tied }
 
 -- ---- primitives
-
--- what is done is done at such a member, and goes that way: a parameter is asked for and set downwards, and its value goes up
-abbrev pub OpFits : Op → Way → Member → Type 0
-OpFits op.Command way (member.Command name args) = Unit {0}
-OpFits op.Get Down (member.Parameter name id read_only) = Unit {0}
-OpFits op.Set Down (member.Parameter name id read_only) = Unit {0}
-OpFits op.Val Up (member.Parameter name id read_only) = Unit {0}
-OpFits o way m = ⊥
 
 -- a primitive stands at an end that is there, goes this way there, and has values that pack for all that its member carries so
 pub record Stands (t : Table) (plan : List ComponentPlan) (goes : Bool → Way) (s : Signal) : Type 0 where
@@ -43,7 +31,7 @@ pub record Stands (t : Table) (plan : List ComponentPlan) (goes : Bool → Way) 
   pub there : slice_get end.instance.members s.member ≡ Some member
   pub way : s.way ≡ goes end.required
   pub op : OpFits s.op s.way member
-  pub values : ValuesFit t s.op s.way member s.arguments
+  pub values : AllConform t (carried s.op s.way (Some member)) s.arguments
 
 -- a primitive that may arrive at its end
 abbrev pub Arrives : Table → List ComponentPlan → Signal → Type 0

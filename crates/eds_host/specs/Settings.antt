@@ -2,10 +2,12 @@
 use Rattle.std.specs.Prelude.{◌≡◌, ◌≤◌, ◌+◌, ℕ, List, [], length, Option, Some, None, slice_get, unwrap_or, map}
 use Rattle.eds_plan.specs.Outs.{Signal}
 use Rattle.eds_plan.specs.declared.component.ComponentPlan.{ComponentPlan}
-use Rattle.eds_plan.specs.declared.run.End.{End}
 use Rattle.eds_types.specs.Rows.{Table}
 use Rattle.eds_host.specs.declared.setting.Setting.{Setting}
-use Rattle.eds_host.specs.Machines.{IsPlan, waits_of}
+use Rattle.eds_plan.specs.Fitting.{PlanFits}
+use Rattle.eds_act.specs.Does.{Conforms}
+use Rattle.eds_host.specs.Links.{link_of}
+use Rattle.eds_host.specs.Machines.{waits_of}
 use Rattle.eds_host.specs.declared.handled.Handled.{Handled}
 use Rattle.eds_host.specs.declared.handled.Handled.TheVariants.{Done, Storm}
 use Rattle.eds_host.specs.declared.step.Step.{Step}
@@ -13,19 +15,15 @@ use Rattle.eds_host.specs.declared.step.Step.TheVariants as step
 use Rattle.eds_host.specs.Plans.{system, WiresFit, NoneBefore}
 use Rattle.eds_host.specs.Systems.{System, World, StateNow, Coming, Reaction, no_state}
 
--- the end at the other side, by rows of components that list their ends
-abbrev pub link_at : List (List (Option End)) → End → Option End
-link_at rows e = unwrap_or (slice_get (unwrap_or (slice_get rows e.comp.0) []) e.face) None
-
 -- the components that run
 abbrev pub running : Setting → System
-running s = system s.table.now s.plan.now (link_at s.links.now)
+running s = system s.table.now s.plan.now (link_of s.links.now)
 
 -- the plan fits, and wires tie what fits
 pub record IsSetting (s : Setting) : Type 0 where
-  pub few : length s.plan.now ≤ 65535
-  pub plan : IsPlan s.table.now s.plan.now
-  pub wires : WiresFit s.plan.now (link_at s.links.now)
+  pub few : length s.plan.now ≤ 64
+  pub plan : PlanFits s.table.now (Conforms s.table.now) s.plan.now
+  pub wires : WiresFit s.plan.now (link_of s.links.now)
 
 abbrev pub world : ℕ → List StateNow → List Signal → World
 world now states queue = record { now = now; states = states; queue = queue }

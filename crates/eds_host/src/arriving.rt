@@ -10,12 +10,13 @@ ghost use Rattle.eds_host.specs.Systems.{arrives as arrives_of};
 ghost use Rattle.eds_plan.specs.Outs.{report};
 
 use crate::dues::Dues;
-use crate::machine::{Event, next_due};
+use crate::component::next_due;
 use crate::queue::Queue;
 use crate::sending::send_all;
 use crate::setting::Setting;
 use crate::states::States;
 use eds_base::{CompId, Memory};
+use eds_machine::Event;
 use eds_plan::{Outs, Sends};
 use std::alloc::Global;
 
@@ -57,6 +58,7 @@ pub(crate) fn arrives(
     requires tied { dues.old ≡ dues_of (running setting.now) 0 states.old }
     requires placed { AllByRecursion (Arrives setting.now.table.now setting.now.plan.now) queue.old }
     requires event { MayCome setting.now.table.now setting.now.plan.now comp.0 now (state_in states.old comp.0) (coming event.now) }
+    ensures count { length states.new ≡ length states.old }
     ensures states { OnOk result (AreStates setting.now.table.now setting.now.plan.now now states.new) }
     ensures later { OnOk result ((b : ℕ) → b ≤ now + 1 → NoneBefore setting.now.plan.now b states.old → NoneBefore setting.now.plan.now b states.new) }
     ensures tied { OnOk result (dues.new ≡ dues_of (running setting.now) 0 states.new) }

@@ -4,19 +4,33 @@ ghost use Rattle.std.specs.Prelude.{◌≡◌, ◌≤◌, ◌<◌, ◌+◌, ◌+
 ghost use Rattle.std.specs.List.{AllByRecursion};
 ghost use Rattle.eds_host.specs.Mirrors.{dues_of};
 ghost use Rattle.eds_host.specs.Plans.{AreBegun, AreStates, Arrives, NoneBefore};
-ghost use Rattle.eds_host.specs.Runs.{all_start, begun, happening, nothing};
+ghost use Rattle.eds_host.specs.Machines.{unstarted};
+ghost use Rattle.eds_host.specs.Runs.{all_fresh as all_fresh_of, all_start, begun, happening, nothing};
 ghost use Rattle.eds_host.specs.Settings.{IsSetting, running, world};
 ghost use Rattle.eds_plan.specs.Outs.{report};
 
+use crate::component::{fresh, next_due, start};
 use crate::dues::Dues;
-use crate::machine::{next_due, start};
 use crate::queue::Queue;
 use crate::sending::send_all;
 use crate::setting::Setting;
 use crate::states::States;
 use eds_base::{CompId, Memory};
-use eds_plan::{Outs, Sends};
+use eds_plan::{Outs, Plan, Sends};
 use std::alloc::Global;
+
+/// The states of all components before they start.
+pub(crate) fn all_fresh(alloc: Global, plan: &Plan) -> Result<States, Memory>
+    requires { length plan.now ≤ 64 }
+    ensures { IfOk result (λ states. states ≡ all_fresh_of (unstarted plan.now) 0 (length plan.now)) }
+{
+    let mut states = States::new(alloc);
+    for i in 0..plan.len() {
+        let state = fresh(alloc, plan, CompId(i as u32))?;
+        states.push(state)?;
+    }
+    Ok(states)
+}
 
 // One more component starts.
 fn begin_one(

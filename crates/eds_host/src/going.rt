@@ -14,12 +14,12 @@ use crate::arriving::arrives;
 use crate::due::Due;
 use crate::dues::Dues;
 use crate::handled::Handled;
-use crate::machine::Event;
 use crate::queue::Queue;
 use crate::setting::Setting;
 use crate::states::States;
 use crate::step::Step;
 use eds_base::{CompId, Memory};
+use eds_machine::Event;
 use eds_plan::Outs;
 use std::alloc::Global;
 
@@ -92,6 +92,7 @@ fn happen(
     requires before { NoneBefore setting.now.plan.now (bound until now.old) states.old }
     requires tied { dues.old ≡ dues_of (running setting.now) 0 states.old }
     requires placed { AllByRecursion (Arrives setting.now.table.now setting.now.plan.now) queue.old }
+    ensures count { length states.new ≡ length states.old }
     ensures now { OnOk result (now.new < 2 ^ 63) }
     ensures until { OnOk result (IfSome until (λ t. now.new ≤ t)) }
     ensures states { OnOk result (AreStates setting.now.table.now setting.now.plan.now now.new states.new) }
@@ -161,6 +162,7 @@ pub(crate) fn go_on(
     requires before { NoneBefore setting.now.plan.now (bound until now.old) states.old }
     requires tied { dues.old ≡ dues_of (running setting.now) 0 states.old }
     requires placed { AllByRecursion (Arrives setting.now.table.now setting.now.plan.now) queue.old }
+    ensures count { length states.new ≡ length states.old }
     ensures now { OnOk result (now.new < 2 ^ 63) }
     ensures until { OnOk result (IfSome until (λ t. now.new ≤ t)) }
     ensures states { OnOk result (AreStates setting.now.table.now setting.now.plan.now now.new states.new) }

@@ -14,11 +14,11 @@ use crate::beginning::begin_all;
 use crate::dues::Dues;
 use crate::going::go_on;
 use crate::handled::Handled;
-use crate::machine::Event;
 use crate::queue::Queue;
 use crate::setting::Setting;
 use crate::states::States;
 use eds_base::Memory;
+use eds_machine::Event;
 use eds_plan::{Outs, Primitive};
 use std::alloc::Global;
 
@@ -66,6 +66,7 @@ pub(crate) fn tick_line(
     requires before { NoneBefore setting.now.plan.now (now.old + 1) states.old }
     requires tied { dues.old ≡ dues_of (running setting.now) 0 states.old }
     requires placed { AllByRecursion (Arrives setting.now.table.now setting.now.plan.now) queue.old }
+    ensures count { length states.new ≡ length states.old }
     ensures now { OnOk result (now.new < 2 ^ 63) }
     ensures states { OnOk result (AreStates setting.now.table.now setting.now.plan.now now.new states.new) }
     ensures tied { OnOk result (dues.new ≡ dues_of (running setting.now) 0 states.new) }
@@ -97,6 +98,7 @@ pub(crate) fn primitive_line(
     requires before { NoneBefore setting.now.plan.now (now.old + 1) states.old }
     requires tied { dues.old ≡ dues_of (running setting.now) 0 states.old }
     requires placed { AllByRecursion (Arrives setting.now.table.now setting.now.plan.now) queue.old }
+    ensures count { length states.new ≡ length states.old }
     ensures now { OnOk result (now.new < 2 ^ 63) }
     ensures states { OnOk result (AreStates setting.now.table.now setting.now.plan.now now.new states.new) }
     ensures tied { OnOk result (dues.new ≡ dues_of (running setting.now) 0 states.new) }

@@ -2,29 +2,18 @@
 
 ghost use Rattle.std.specs.Prelude.{◌≡◌, ◌++◌, ◌∷◌, [], Some, OnOk, map};
 ghost use Rattle.std.specs.List.{AllByRecursion};
+ghost use Rattle.eds_host.specs.Links.{link_of};
 ghost use Rattle.eds_host.specs.Plans.{Arrives, IsSent};
-ghost use Rattle.eds_host.specs.Settings.{IsSetting, link_at};
+ghost use Rattle.eds_host.specs.Settings.{IsSetting};
 ghost use Rattle.eds_host.specs.Systems.{leaving, queued};
 ghost use Rattle.eds_plan.specs.Outs.{report, signal};
 ghost use Rattle.eds_plan.specs.Sends.{sent};
 
 use crate::queue::Queue;
-use crate::setting::{Links, Setting};
+use crate::setting::Setting;
+use crate::wiring::other_end;
 use eds_base::{CompId, Memory};
 use eds_plan::{End, Out, Outs, Primitive, Send, Sends};
-
-/// The end at the other side of an end's wire.
-fn other_end(links: &Links, end: End) -> Option<End>
-    ensures { result ≡ link_at links.now end }
-{
-    match links.get(end.comp.0 as usize) {
-        None => None,
-        Some(row) => match row.get(usize::from(end.face)) {
-            None => None,
-            Some(other) => *other,
-        },
-    }
-}
 
 /// Something leaves the run.
 #[tactic(auto, using(crate::proofs::Sent::reported))]
@@ -69,8 +58,8 @@ fn send_one(
     requires placed { AllByRecursion (Arrives setting.now.table.now setting.now.plan.now) queue.old }
     requires fits { IsSent setting.now.table.now setting.now.plan.now (sent what) }
     ensures placed { OnOk result (AllByRecursion (Arrives setting.now.table.now setting.now.plan.now) queue.new) }
-    ensures queue { OnOk result (queue.new ≡ queue.old ++ queued (link_at setting.now.links.now) (sent what ∷ [])) }
-    ensures out { OnOk result (map report out.new ≡ map report out.old ++ leaving (link_at setting.now.links.now) now comp.0 (sent what ∷ [])) }
+    ensures queue { OnOk result (queue.new ≡ queue.old ++ queued (link_of setting.now.links.now) (sent what ∷ [])) }
+    ensures out { OnOk result (map report out.new ≡ map report out.old ++ leaving (link_of setting.now.links.now) now comp.0 (sent what ∷ [])) }
 {
     match what {
         Send::Prim(p) => match other_end(setting.links, p.end) {
@@ -97,8 +86,8 @@ pub(crate) fn send_all(
     requires placed { AllByRecursion (Arrives setting.now.table.now setting.now.plan.now) queue.old }
     requires fits { AllByRecursion (IsSent setting.now.table.now setting.now.plan.now) (map sent sends) }
     ensures placed { OnOk result (AllByRecursion (Arrives setting.now.table.now setting.now.plan.now) queue.new) }
-    ensures queue { OnOk result (queue.new ≡ queue.old ++ queued (link_at setting.now.links.now) (map sent sends)) }
-    ensures out { OnOk result (map report out.new ≡ map report out.old ++ leaving (link_at setting.now.links.now) now comp.0 (map sent sends)) }
+    ensures queue { OnOk result (queue.new ≡ queue.old ++ queued (link_of setting.now.links.now) (map sent sends)) }
+    ensures out { OnOk result (map report out.new ≡ map report out.old ++ leaving (link_of setting.now.links.now) now comp.0 (map sent sends)) }
 {
     for what in sends.into_vec() {
         send_one(setting, comp, now, what, queue, out)?;

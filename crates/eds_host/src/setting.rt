@@ -1,11 +1,8 @@
 //! What a run stands on.
 
-use eds_base::Items;
-use eds_plan::{End, Plan};
+use crate::wiring::Links;
+use eds_plan::Plan;
 use eds_types::TypeTable;
-
-/// For each component and each of its ends the end to which a wire ties it.
-pub type Links = Items<Items<Option<End>>>;
 
 /// What a run stands on: the types, the components, and the wires between their ends.
 #[derive(Clone, Copy)]

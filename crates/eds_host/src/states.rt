@@ -1,11 +1,10 @@
 //! The states of all components.
 
-
-use crate::machine::{Event, react};
+use crate::component::react;
 use crate::setting::Setting;
 use eds_base::{CompId, Memory};
+use eds_machine::Event;
 use eds_plan::{CompState, Sends};
-
 use std::alloc::Global;
 use std::marker::Model;
 
@@ -77,6 +76,7 @@ impl States {
         requires fresh { sends.old ≡ [] }
         requires states { AreStates setting.now.table.now setting.now.plan.now now self.old }
         requires event { MayCome setting.now.table.now setting.now.plan.now comp.0 now (state_in self.old comp.0) (coming event.now) }
+        ensures count { length self.new ≡ length self.old }
         ensures state { OnOk result (self.new ≡ slice_set self.old comp.0 (reaction_in setting.now comp.0 (coming event.now) now self.old).state) }
         ensures sends { OnOk result (map sent sends.new ≡ (reaction_in setting.now comp.0 (coming event.now) now self.old).sends) }
         ensures keeps { OnOk result (AreStates setting.now.table.now setting.now.plan.now now self.new) }

@@ -1,4 +1,4 @@
-use Rattle.std.proofs.Common.{subst, map}
+use Rattle.std.proofs.Common.{subst, map, ◌∙◌}
 use Rattle.eds_plan.specs.Outs.{report}
 use Rattle.eds_host.specs.declared.step.Step.{Step}
 use Rattle.eds_host.specs.Systems.{next}
@@ -15,6 +15,7 @@ loop-more-preserved c =
     let w = world l.now l.states l.queue in let v = world n.now n.states n.queue in
     let went = subst (λ (s : Step). IsStep s l.more (next sys until w) w v (map report l.out) (map report n.out)) c.in-Goes.is c.in_ok-happen.ensures.ok in
     record {
+      count = c.in_ok-happen.ensures.count ∙ l.invariant.count;
       now = c.in_ok-happen.ensures.now;
       until = c.in_ok-happen.ensures.until;
       states = c.in_ok-happen.ensures.states;

@@ -1,4 +1,4 @@
-use Rattle.std.proofs.Common.{◌≡◌, ◌≤◌, ◌<◌, ◌^◌, map}
+use Rattle.std.proofs.Common.{length, ◌≡◌, ◌≤◌, ◌<◌, ◌^◌, map}
 use Rattle.std.specs.Prelude.{IfSome}
 use Rattle.std.specs.List.{AllByRecursion}
 use Rattle.eds_plan.specs.Outs.{report}
@@ -11,6 +11,7 @@ use Rattle.eds_host.proofs.going.go_on.Given as goal
 
 abbrev pub invariant-loop-more : goal.invariant-loop-more
 invariant-loop-more l = record {
+  count : length l.states ≡ length l.initial.states;
   now : l.now < 2 ^ 63;
   until : IfSome l.until (λ t. l.now ≤ t);
   states : AreStates l.setting.table.now l.setting.plan.now l.now l.states;

@@ -6,7 +6,7 @@ use Rattle.eds_plan.specs.declared.run.Send.{Send}
 use Rattle.eds_plan.specs.Outs.{report}
 use Rattle.eds_plan.specs.Sends.{sent}
 use Rattle.eds_host.specs.Plans.{IsSent}
-use Rattle.eds_host.specs.Settings.{link_at}
+use Rattle.eds_host.specs.Links.{link_of}
 use Rattle.eds_host.specs.Systems.{queued, leaving}
 use Rattle.eds_host.proofs.Sent.{queued_more, leaving_more}
 use Rattle.eds_host.proofs.sending.send_all.Goals as goal
@@ -18,7 +18,7 @@ send_one-requires-clause-fits c =
 
 pub loop-what-preserved : goal.loop-what-preserved
 loop-what-preserved c =
-    let s = c.args.setting.now in let tied = link_at s.links.now in let ys = map sent c.loop-what.yielded in let x = sent c.in-Some.what ∷ [] in
+    let s = c.args.setting.now in let tied = link_of s.links.now in let ys = map sent c.loop-what.yielded in let x = sent c.in-Some.what ∷ [] in
     let more = map-append sent c.loop-what.yielded (c.in-Some.what ∷ []) in
     let fits = subst (λ (ws : List Send). AllByRecursion (IsSent s.table.now s.plan.now) (map sent ws)) c.in-Some.ensures.steps.0 c.loop-what.invariant.fits in
     record {

@@ -4,7 +4,7 @@ use Rattle.eds_plan.specs.declared.run.Send.{Send}
 use Rattle.eds_plan.specs.Outs.{Signal, signal}
 use Rattle.eds_plan.specs.Sends.{sent}
 use Rattle.eds_host.specs.Plans.{Arrives, IsSent}
-use Rattle.eds_host.specs.Settings.{link_at}
+use Rattle.eds_host.specs.Links.{link_of}
 use Rattle.eds_host.proofs.Sent.{placed_last, arrives_tied}
 use Rattle.eds_host.proofs.sending.send_one.Goals as goal
 
@@ -13,4 +13,4 @@ returns-in_ok-deliver-in-Some-clause-placed c =
     let s = c.args.setting.now in let t = s.table.now in let plan = s.plan.now in let p = c.in-Prim.p in let e = c.in-Some.end in
     let fits = subst (λ (w : Send). IsSent t plan (sent w)) c.in-Prim.is c.requires.fits in
     subst (λ (q : List Signal). AllByRecursion (Arrives t plan) q) (sym c.in_ok-deliver-in-Some.ensures)
-    (placed_last (Arrives t plan) c.args.queue.now (record (signal p) { end = e }) c.requires.placed (arrives_tied t plan (link_at s.links.now) (signal p) e c.requires.setting.wires fits (sym c.other_end.ensures ∙ c.in-Some.is)))
+    (placed_last (Arrives t plan) c.args.queue.now (record (signal p) { end = e }) c.requires.placed (arrives_tied t plan (link_of s.links.now) (signal p) e c.requires.setting.wires fits (sym c.other_end.ensures ∙ c.in-Some.is)))

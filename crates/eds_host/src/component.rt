@@ -1,36 +1,40 @@
-//! Stand-ins.
+//! Components, as a run sees them.
 
-ghost use Rattle.std.specs.Prelude.{◌≡◌, ◌<◌, ◌≤◌, ◌+◌, ◌^◌, ℕ, [], OnOk, IfOk, length, map};
+ghost use Rattle.std.specs.Prelude.{◌≡◌, ◌<◌, ◌≤◌, ◌+◌, ℕ, [], OnOk, IfOk, length, map};
 ghost use Rattle.std.specs.List.{AllByRecursion};
-ghost use Rattle.eds_plan.specs.Sends.{sent};
-ghost use Rattle.eds_host.specs.Machines.{started, reacted, waits_of, IsStateOf, IsPlan};
-ghost use Rattle.eds_host.specs.Plans.{MayCome, IsSent};
-ghost use Rattle.eds_host.specs.Laws.{NotBefore};
-ghost use Rattle.eds_host.specs.Systems.{state_now};
+ghost use Rattle.eds_act.specs.Does.{Conforms};
 ghost use Rattle.eds_host.specs.Comings.{coming};
+ghost use Rattle.eds_host.specs.Laws.{NotBefore};
+ghost use Rattle.eds_host.specs.Machines.{started, reacted, unstarted, waits_of, IsStateOf};
+ghost use Rattle.eds_host.specs.Plans.{MayCome, IsSent};
+ghost use Rattle.eds_host.specs.Systems.{state_now};
+ghost use Rattle.eds_plan.specs.Fitting.{PlanFits};
+ghost use Rattle.eds_plan.specs.Sends.{sent};
 
-use eds_base::{CompId, Items, Memory};
-use eds_plan::{CompState, Plan, Primitive, Sends};
+use eds_base::{CompId, Memory};
+use eds_machine::Event;
+use eds_plan::{CompState, Plan, Sends};
 use eds_types::TypeTable;
+use eds_types::packs::packed_sizes;
 use std::alloc::Global;
 
-/// What comes to a component.
-#[derive(Drop)]
-pub enum Event {
-    Prim(Primitive),
-    Timer(u16),
+/// A component before it starts.
+pub(crate) fn fresh(alloc: Global, plan: &Plan, comp: CompId) -> Result<CompState, Memory>
+    requires { comp.0 < length plan.now }
+    ensures { IfOk result (λ s. state_now s ≡ unstarted plan.now comp.0) }
+{
+    eds_machine::fresh_state(alloc, plan, comp)
 }
 
-/// A component starts.
-#[tactic(auto, unfolding(crate::specs::Machines::started, crate::specs::Machines::waits_of, crate::specs::Machines::IsStateOf))]
-pub fn start(
+/// A component starts: its state then, and what it sends.
+pub(crate) fn start(
     alloc: Global,
     table: &TypeTable,
     plan: &Plan,
     comp: CompId,
     out: &mut Sends,
 ) -> Result<CompState, Memory>
-    requires plan { IsPlan table.now plan.now }
+    requires plan { PlanFits table.now (Conforms table.now) plan.now }
     requires known { comp.0 < length plan.now }
     requires fresh { out.old ≡ [] }
     ensures state { IfOk result (λ s. state_now s ≡ (started table.now plan.now comp.0).state) }
@@ -39,16 +43,14 @@ pub fn start(
     ensures later { IfOk result (λ s. NotBefore 1 (waits_of plan.now comp.0 (state_now s))) }
     ensures fits { OnOk result (AllByRecursion (IsSent table.now plan.now) (map sent out.new)) }
 {
-    Ok(CompState {
-        variables: Items::new(alloc),
-        machines: Items::new(alloc),
-        outstanding: Items::new(alloc),
-    })
+    packed_sizes();
+    table.keeps_rules();
+    let state = eds_machine::start(alloc, table, plan, comp, out)?;
+    Ok(state)
 }
 
-/// A component reacts.
-#[tactic(auto, unfolding(crate::specs::Machines::reacted, crate::specs::Machines::waits_of))]
-pub fn react(
+/// A component reacts to what comes to it.
+pub(crate) fn react(
     alloc: Global,
     table: &TypeTable,
     plan: &Plan,
@@ -58,7 +60,7 @@ pub fn react(
     now: u64,
     out: &mut Sends,
 ) -> Result<(), Memory>
-    requires plan { IsPlan table.now plan.now }
+    requires plan { PlanFits table.now (Conforms table.now) plan.now }
     requires known { comp.0 < length plan.now }
     requires fresh { out.old ≡ [] }
     requires state { IsStateOf table.now plan.now comp.0 now (state_now state.old) }
@@ -69,16 +71,25 @@ pub fn react(
     ensures later { OnOk result ((b : ℕ) → b ≤ now + 1 → NotBefore b (waits_of plan.now comp.0 (state_now state.old)) → NotBefore b (waits_of plan.now comp.0 (state_now state.new))) }
     ensures fits { OnOk result (AllByRecursion (IsSent table.now plan.now) (map sent out.new)) }
 {
+    packed_sizes();
+    table.keeps_rules();
+    eds_machine::react(alloc, table, plan, comp, state, event, now, out)?;
     Ok(())
 }
 
-/// The moment for which a component waits.
+/// The least moment for which a component waits, in nanoseconds, with the first machine that does.
 #[tactic(auto, unfolding(crate::specs::Machines::waits_of))]
-pub fn next_due(table: &TypeTable, plan: &Plan, comp: CompId, state: &CompState, now: u64) -> Option<(u64, u16)>
-    requires plan { IsPlan table.now plan.now }
+pub(crate) fn next_due(
+    table: &TypeTable,
+    plan: &Plan,
+    comp: CompId,
+    state: &CompState,
+    now: u64,
+) -> Option<(u64, u16)>
+    requires plan { PlanFits table.now (Conforms table.now) plan.now }
     requires known { comp.0 < length plan.now }
     requires state { IsStateOf table.now plan.now comp.0 now (state_now state.now) }
     ensures { result ≡ waits_of plan.now comp.0 (state_now state.now) }
 {
-    None
+    eds_machine::next_due(plan, comp, state)
 }
