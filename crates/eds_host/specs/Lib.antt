@@ -10,3 +10,5 @@ pub mod Plans
 pub mod Settings
 pub mod Comings
 pub mod Steps
+pub mod Hosts
+pub mod Resting

@@ -119,8 +119,8 @@ fn same_interface(one: &Instance, other: &Instance) -> bool
         && agrees(&one.map, &other.map, &other.map)
 }
 
-// What a plan has of an end.
-fn end_plan(plan: &Plan, end: End) -> Option<&EndPlan>
+/// What a plan has of an end.
+pub(crate) fn end_plan(plan: &Plan, end: End) -> Option<&EndPlan>
     ensures { option_copied result ≡ end_at plan.now end }
 {
     let component = plan.get(end.comp.0 as usize)?;

@@ -1,0 +1,138 @@
+-- Hosts: what one is, what may be handed to it, and what it makes of a line.
+use Rattle.std.specs.Prelude.{◌≡◌, ◌≤◌, ◌<◌, ◌+◌, ◌^◌, ℕ, List, [], ◌∷◌, length, Option, Some, None, Result, slice_get}
+use Rattle.std.specs.BTreeMap.{BTreeMap}
+use Rattle.std.specs.List.{AllByRecursion}
+use Rattle.eds_base.specs.declared.fault.Fault.{Fault}
+use Rattle.eds_bits.specs.Bits.{bits_of}
+use Rattle.eds_types.specs.Overlap.{IsClear}
+use Rattle.eds_types.specs.Plain.{Plain}
+use Rattle.eds_types.specs.Rows.{Table}
+use Rattle.eds_plan.specs.Carried.{arriving, carried}
+use Rattle.eds_plan.specs.Ends.{end_at, end_named}
+use Rattle.eds_plan.specs.Lines.{Told, starts, passes, framed}
+use Rattle.eds_plan.specs.Lines as lines
+use Rattle.eds_plan.specs.Outs.{Report}
+use Rattle.eds_plan.specs.declared.activity.Op.TheVariants as op
+use Rattle.eds_plan.specs.declared.component.ComponentPlan.{ComponentPlan}
+use Rattle.eds_plan.specs.declared.component.EndPlan.{EndPlan}
+use Rattle.eds_plan.specs.declared.instance.Argument.{Argument}
+use Rattle.eds_plan.specs.declared.instance.Member.{Member}
+use Rattle.eds_plan.specs.declared.instance.Member.TheVariants as members
+use Rattle.eds_plan.specs.declared.run.End.{End}
+use Rattle.eds_plan.specs.declared.run.Way.{Way}
+use Rattle.eds_plan.specs.declared.run.Way.TheVariants.{Down}
+use Rattle.eds_plan.specs.declared.run.Wire.{Wire}
+use Rattle.eds_host.specs.declared.handled.Handled.{Handled}
+use Rattle.eds_host.specs.declared.handled.Handled.TheVariants as handled
+use Rattle.eds_host.specs.declared.host.Phase.{Phase}
+use Rattle.eds_host.specs.declared.host.Phase.TheVariants.{Fresh, Rests, Storm, Spent}
+use Rattle.eds_host.specs.declared.wiring.Asked.{Asked}
+use Rattle.eds_host.specs.declared.wiring.Place.{Place}
+use Rattle.eds_host.specs.Frames.{FrameIs}
+use Rattle.eds_host.specs.Links.{link_of}
+use Rattle.eds_host.specs.Plans.{Arrives, system}
+use Rattle.eds_host.specs.Runs.{Course, LineGoes, Reading}
+use Rattle.eds_host.specs.Steps.{IsLine}
+use Rattle.eds_host.specs.Systems.{System, World, sent_at}
+
+-- ---- what a host is
+
+-- the types, the components, the wires as a map of ends, the world, and how it stands
+pub record HostNow : Type 0 where
+  pub table : Table
+  pub plan : List ComponentPlan
+  pub links : BTreeMap Place End
+  pub world : World
+  pub phase : Phase
+
+-- the components that it runs
+abbrev pub components : HostNow → System
+components h = system h.table h.plan (link_of h.links)
+
+-- ---- frames
+
+-- the way in which something arrives at an end, if it is there
+abbrev pub way_to : Option EndPlan → Way
+way_to None = Down
+way_to (Some e) = arriving e.required
+
+-- the types of the values that a command carries where it arrives at an end
+abbrev pub brought_to : Option EndPlan → (member : ℕ) → List ℕ
+brought_to None member = []
+brought_to (Some e) member = carried op.Command (arriving e.required) (slice_get e.instance.members member)
+
+-- a frame for a member of an end is read as the type of the one argument that the command carries there
+abbrev pub IsRead : Table → Option EndPlan → (member : ℕ) → List ℕ → Result Plain Fault → Type 0
+IsRead t end member octets r = (id : ℕ) × (brought_to end member ≡ id ∷ []) × FrameIs t id (bits_of octets) r
+
+-- how frames that arrive at the ends of a plan are read
+abbrev pub reading : Table → List ComponentPlan → Reading
+reading t plan = record {
+  way = λ comp face. way_to (end_at plan (record { comp = record { 0 = comp }; face = face }));
+  reads = λ comp face member octets r. IsRead t (end_at plan (record { comp = record { 0 = comp }; face = face })) member octets r;
+}
+
+-- a member that is a command all of whose arguments have types under which no two containers overlap
+abbrev pub HasClearArguments : Table → Member → Type 0
+HasClearArguments t (members.Parameter name id read_only) = Unit {0}
+HasClearArguments t (members.Command name args) = AllByRecursion (λ (a : Argument). IsClear t a.id.0) args
+
+-- no two containers overlap under the type of any argument of a command
+abbrev pub ArgumentsAreClear : Table → List ComponentPlan → Type 0
+ArgumentsAreClear t plan = AllByRecursion (λ (c : ComponentPlan). AllByRecursion (λ (e : EndPlan). AllByRecursion (HasClearArguments t) e.instance.members) c.ends) plan
+
+-- ---- what may be handed to a host
+
+-- an end that no wire ties
+abbrev pub IsOutside : HostNow → (comp face : ℕ) → Type 0
+IsOutside h comp face = link_of h.links (record { comp = record { 0 = comp }; face = face }) ≡ None
+
+-- an end that is there, and a command that carries exactly one argument where it arrives
+pub record BringsOne (plan : List ComponentPlan) (comp face number : ℕ) : Type 0 where
+  pub end : EndPlan
+  pub end_is : end_at plan (record { comp = record { 0 = comp }; face = face }) ≡ Some end
+  pub name : List ℕ
+  pub arguments : List Argument
+  pub command : slice_get end.instance.members number ≡ Some (members.Command name arguments)
+  pub id : ℕ
+  pub one : brought_to (Some end) number ≡ id ∷ []
+
+-- a line after the start: time stays below 2^63, and what arrives does so at an end that isn't wired, as the end asks
+abbrev pub MayGoOn : HostNow → Told → Type 0
+MayGoOn h starts = ⊥
+MayGoOn h (passes n) = h.world.now + n < 2 ^ 63
+MayGoOn h (lines.arrives comp face member way o vs) = IsOutside h comp face × Arrives h.table h.plan (sent_at comp face member way o vs)
+MayGoOn h (framed comp face member octets) = IsOutside h comp face × (length octets ≤ 65536) × BringsOne h.plan comp face member
+
+-- a line that may be handed to a host that stands so: the start first and once; anything once it had a storm or is spent
+abbrev pub MayBeHandled : Phase → HostNow → Told → Type 0
+MayBeHandled Fresh h l = l ≡ starts
+MayBeHandled Rests h l = MayGoOn h l
+MayBeHandled Storm h l = Unit {0}
+MayBeHandled Spent h l = Unit {0}
+
+-- ---- what it makes of a line
+
+-- a line made a host another one, and had this leave the run: as one of its courses has it
+pub record Goes (l : Told) (h g : HostNow) (done : Handled) (before after : List Report) : Type 0 where
+  pub course : Course
+  pub goes : LineGoes (components h) (reading h.table h.plan) l h.world course
+  pub is : IsLine done course g.world before after
+
+-- the same of a host that stands so: after a storm each line is a storm in which nothing happens
+abbrev pub Handles : Phase → Told → (h g : HostNow) → Handled → (before after : List Report) → Type 0
+Handles Fresh l h g done before after = Goes l h g done before after
+Handles Rests l h g done before after = Goes l h g done before after
+Handles Storm l h g done before after = (done ≡ handled.Storm) × (after ≡ before)
+Handles Spent l h g done before after = ⊥
+
+-- how a host stands after a line
+abbrev pub standing_after : Handled → Phase
+standing_after handled.Done = Rests
+standing_after handled.Storm = Storm
+
+-- ---- a new host
+
+-- the ends that a wire's texts name
+abbrev pub asked_by : List ComponentPlan → Wire → Asked
+asked_by plan w = record { line = w.line; lower = end_named plan w.lower; upper = end_named plan w.upper }
