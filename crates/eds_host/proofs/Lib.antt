@@ -14,3 +14,6 @@ pub mod Tied
 pub mod Dueness
 pub mod Adapted
 pub mod Beginnings
+pub mod WiresFitted
+pub mod Joined
+pub mod Handling

@@ -1,10 +1,13 @@
 -- What holds of all runs.
-use Rattle.std.specs.Prelude.{◌≡◌, ◌≤◌, ◌+◌, ℕ, List, [], ◌∷◌, ◌++◌, take, slice_get, Option, Some, None, ◌⊎◌}
+use Rattle.std.specs.Prelude.{◌≡◌, ◌≤◌, ◌+◌, ℕ, List, [], ◌∷◌, ◌++◌, take, slice_get, Option, Some, None, Result, ◌⊎◌}
 use Rattle.eds_plan.specs.Outs.{Signal, Report}
 use Rattle.eds_plan.specs.Sends.{Sent}
 use Rattle.eds_host.specs.declared.due.Due.{Due}
 use Rattle.eds_host.specs.Systems.{System, World, StateNow, Happening, Coming, arrival, moment, state_at, queued, first_due, has_come, next}
-use Rattle.eds_host.specs.Runs.{Chain, Rests, Storms, go_on, time_passes}
+use Rattle.eds_base.specs.declared.fault.Fault.{Fault}
+use Rattle.eds_plan.specs.Lines.{Told}
+use Rattle.eds_types.specs.Plain.{Plain}
+use Rattle.eds_host.specs.Runs.{Chain, Reading, Rests, RunGoes, Storms, go_on, time_passes}
 
 -- a tick of m + n that is no storm gives the outs and the end of a tick of m followed by one of n
 abbrev pub TicksAdd : Type 0
@@ -70,3 +73,19 @@ TimeGoesOn = (sys : System) → IsPunctual sys → (until : Option ℕ) (w v : W
 -- where nothing is next up to a time, components wait for later moments alone
 abbrev pub NoneIsLate : Type 0
 NoneIsLate = (sys : System) (until : ℕ) (w : World) → next sys (Some until) w ≡ None → WaitFrom sys (until + 1) w.states
+
+-- ---- runs
+
+-- lines joined are the first ones and then, unless one of these is a storm, the second ones
+abbrev pub RunsJoin : Type 1
+RunsJoin = (sys : System) (reading : Reading) (one two : List Told) (w v : World) (outs more : List (List Report)) (end : Option World) →
+    RunGoes sys reading one w outs (Some v) → RunGoes sys reading two v more end → RunGoes sys reading (one ++ two) w (outs ++ more) end
+
+-- a frame for a member of an end comes to one thing alone
+abbrev pub ReadsOne : Reading → Type 0
+ReadsOne reading = (comp face member : ℕ) (octets : List ℕ) (r s : Result Plain Fault) → reading.reads comp face member octets r → reading.reads comp face member octets s → r ≡ s
+
+-- where frames come to one thing alone, lines have one outcome
+abbrev pub RunsHaveOneOutcome : Type 1
+RunsHaveOneOutcome = (sys : System) (reading : Reading) (ls : List Told) (w : World) (outs more : List (List Report)) (end stop : Option World) →
+    ReadsOne reading → RunGoes sys reading ls w outs end → RunGoes sys reading ls w more stop → (outs ≡ more) × (end ≡ stop)

@@ -1,6 +1,6 @@
 //! Laws of runs.
 
-ghost use Rattle.eds_host.specs.Laws.{CoursesAreChains, CoursesGoOnOrStorm, EachIsDelivered, NoneIsLate, TicksAdd, TimeGoesOn};
+ghost use Rattle.eds_host.specs.Laws.{CoursesAreChains, CoursesGoOnOrStorm, EachIsDelivered, NoneIsLate, RunsHaveOneOutcome, RunsJoin, TicksAdd, TimeGoesOn};
 
 /// A tick is two ticks of the same time together, unless it is a storm.
 pub fn ticks_add()
@@ -22,4 +22,11 @@ pub fn each_is_delivered()
 pub fn time_goes_on()
     ensures goes_on { TimeGoesOn }
     ensures late { NoneIsLate }
+{}
+
+/// Lines that are joined are the first ones and then the second ones, unless one of the first is a storm; and what they come
+/// to is one thing.
+pub fn runs_join()
+    ensures join { RunsJoin }
+    ensures one { RunsHaveOneOutcome }
 {}
