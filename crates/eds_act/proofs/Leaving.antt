@@ -18,16 +18,13 @@ use Rattle.eds_plan.specs.declared.run.Halt.TheVariants.{OutOfRange}
 use Rattle.eds_plan.specs.declared.run.Outstanding.{Outstanding}
 use Rattle.eds_act.specs.Does.{World, Tells, Conforms, AllConform, Item, statement, turn, items_of, Started, goes, halts, exec, start, after, argument_of, arguments_of, put_first, storing, iterating, entering, calling, emitting, sending, turns, is_within, begun, way_of, holds, number_of, value_of, calculated, targeted}
 use Rattle.eds_act.specs.Leaves.{MayAllLeave, MayLeave, ActivitiesSendWell}
+use Rattle.eds_act.proofs.Leading.{list_of-stmts_of}
 
 -- ---- lists
 
 pub all_append : {A : Type 0} (P : A → Type 0) (xs ys : List A) → AllByRecursion P xs → AllByRecursion P ys → AllByRecursion P (xs ++ ys)
 all_append P [] ys h k = k
 all_append P (x ∷ xs) ys h k = (h.0, all_append P xs ys h.1 k)
-
-same_body : (ss : List Stmt) → list_of (stmts_of ss) ≡ ss
-same_body [] = refl
-same_body (s ∷ ss) = ap (λ rest. s ∷ rest) (same_body ss)
 
 -- ---- values that pack
 
@@ -78,7 +75,7 @@ module _ (packs : ℕ → Plain → Bool) (t : Table) (c : ComponentPlan) (comp 
   -- the body of an activity
   pub body_fits : (i : ℕ) (a : Activity) (args : List Plain) → slice_get c.activities i ≡ Some a → AllByRecursion ItemFits (items_of args (stmts a.body))
   body_fits i a args e = items_fit args (argument_types a) (fits.rank i) (stmts a.body)
-      (subst (λ ss. AllByRecursion (FitsBelow (argument_types a) (fits.rank i)) ss) (same_body (stmts a.body)) (each_fits (argument_types a) (fits.rank i) (stmts_of (stmts a.body)) (fits.bodies i a e)))
+      (subst (λ ss. AllByRecursion (FitsBelow (argument_types a) (fits.rank i)) ss) (list_of-stmts_of (stmts a.body)) (each_fits (argument_types a) (fits.rank i) (stmts_of (stmts a.body)) (fits.bodies i a e)))
 
   turns_fit : (x : ℕ) (n last step : ℤ) (args : List Plain) (body : List Stmt) (ids : List ℕ) (rank : ℕ) → AllByRecursion (FitsBelow ids rank) body → AllByRecursion ItemFits (turns x n last step args body)
   turns_fit x n last step args body ids rank h = go (is_within step n last)

@@ -17,3 +17,4 @@ pub mod Beginnings
 pub mod WiresFitted
 pub mod Joined
 pub mod Handling
+pub mod PunctualComponents

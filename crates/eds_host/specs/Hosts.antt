@@ -29,6 +29,7 @@ use Rattle.eds_host.specs.declared.host.Phase.TheVariants.{Fresh, Rests, Storm, 
 use Rattle.eds_host.specs.declared.wiring.Asked.{Asked}
 use Rattle.eds_host.specs.declared.wiring.Place.{Place}
 use Rattle.eds_host.specs.Frames.{FrameIs}
+use Rattle.eds_host.specs.Laws.{IsPunctual}
 use Rattle.eds_host.specs.Links.{link_of}
 use Rattle.eds_host.specs.Plans.{Arrives, system}
 use Rattle.eds_host.specs.Runs.{Course, LineGoes, Reading}
@@ -136,3 +137,10 @@ standing_after handled.Storm = Storm
 -- the ends that a wire's texts name
 abbrev pub asked_by : List ComponentPlan → Wire → Asked
 asked_by plan w = record { line = w.line; lower = end_named plan w.lower; upper = end_named plan w.upper }
+
+-- ---- laws of the components of a plan
+
+-- a component that reacts waits for later moments, or for those for which it waited before: so time never goes back, and no
+-- moment is passed over
+abbrev pub ComponentsArePunctual : Type 0
+ComponentsArePunctual = (t : Table) (plan : List ComponentPlan) (tied : End → Option End) → IsPunctual (system t plan tied)

@@ -1,6 +1,6 @@
 //! Start.
 
-ghost use Rattle.std.specs.Prelude.{◌≡◌, ◌≤◌, ◌<◌, ◌+◌, ◌++◌, ◌∷◌, [], length, map, OnOk};
+ghost use Rattle.std.specs.Prelude.{◌≡◌, ◌≤◌, ◌<◌, ◌+◌, ◌++◌, ◌∷◌, [], length, map, OnOk, IfOk};
 ghost use Rattle.std.specs.List.{AllByRecursion};
 ghost use Rattle.eds_host.specs.Mirrors.{dues_of};
 ghost use Rattle.eds_host.specs.Plans.{AreBegun, AreStates, Arrives, NoneBefore};

@@ -1,5 +1,6 @@
 //! Laws of runs.
 
+ghost use Rattle.eds_host.specs.Hosts.{ComponentsArePunctual};
 ghost use Rattle.eds_host.specs.Laws.{CoursesAreChains, CoursesGoOnOrStorm, EachIsDelivered, NoneIsLate, RunsHaveOneOutcome, RunsJoin, TicksAdd, TimeGoesOn};
 
 /// A tick is two ticks of the same time together, unless it is a storm.
@@ -22,6 +23,11 @@ pub fn each_is_delivered()
 pub fn time_goes_on()
     ensures goes_on { TimeGoesOn }
     ensures late { NoneIsLate }
+{}
+
+/// The components of every plan are such: once they have reacted they wait for later moments, or for those of before.
+pub fn components_are_punctual()
+    ensures { ComponentsArePunctual }
 {}
 
 /// Lines that are joined are the first ones and then the second ones, unless one of the first is a storm; and what they come

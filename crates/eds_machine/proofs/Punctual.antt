@@ -1,9 +1,9 @@
 -- No moment of a machine is passed over.
 use Rattle.std.proofs.Common.{◌≡◌, ◌≤◌, ◌<◌, ◌+◌, ◌-◌, ℕ, zero, suc, List, [], ◌∷◌, map, Bool, Option, Some, None, slice_get, refl, sym, ap, subst, ◌∙◌, arith, inl, inr}
 use Rattle.std.specs.Prelude.{slice_set, ◌⊎◌}
-use Rattle.std.specs.List.{find}
 use Rattle.eds_types.specs.Plain.{Plain, plain}
 use Rattle.eds_types.specs.Rows.{Table}
+use Rattle.eds_plan.specs.declared.activity.Op.{Op}
 use Rattle.eds_plan.specs.declared.component.ComponentPlan.{ComponentPlan}
 use Rattle.eds_plan.specs.declared.machine.Machine.{Machine}
 use Rattle.eds_plan.specs.declared.machine.Transition.{Transition}
@@ -14,7 +14,7 @@ use Rattle.eds_machine.specs.declared.event.Event.{Event}
 use Rattle.eds_machine.specs.declared.event.Event.TheVariants as event
 use Rattle.eds_machine.specs.Laws.{NoneBefore, ReactionsArePunctual, StartsArePunctual}
 use Rattle.eds_machine.specs.Moments.{AnyHas, moment}
-use Rattle.eds_machine.specs.Reactions.{Reacting, standing, taken, stays, moves, goes_or_stays, machine_reacts, machines_react, map_reacts, fires, fresh, begins, reacts, starts, trigger_of}
+use Rattle.eds_machine.specs.Reactions.{Reacting, standing, taken, stays, moves, goes_or_stays, machine_reacts, machines_react, map_reacts, receives, fires, fresh, begins, reacts, starts, trigger_of}
 use Rattle.eds_machine.proofs.Keeping.{map_same, moves_same}
 use Rattle.eds_machine.proofs.MachineLaws.{IsLater, moment_later}
 
@@ -59,14 +59,17 @@ module _ (packs : ℕ → Plain → Bool) (t : Table) (c : ComponentPlan) where
   machines_late now b e args i [] r le h = h
   machines_late now b e args i (m ∷ ms) r le h = machines_late now b e args (i + 1) ms (machine_reacts packs t c now e args i m r) le (machine_late now b e args i m r le h)
 
-  fires_late : (now b i : ℕ) (m : Option Machine) (r : Reacting) → b ≤ now + 1 → NoneBefore b c.machines r.machines → NoneBefore b c.machines (fires packs t c now i m r).machines
+  pub receives_late : (now b face number : ℕ) (o : Op) (args : List Plain) (r : Reacting) → b ≤ now + 1 → NoneBefore b c.machines r.machines → NoneBefore b c.machines (receives packs t c now face number o args r).machines
+  receives_late now b face number o args r le h =
+      machines_late now b (trigger_of o face number) args 0 c.machines (map_reacts c face number o args r) le
+      (subst (λ rs. NoneBefore b c.machines rs) (sym (map_same c face number o args r)) h)
+
+  pub fires_late : (now b i : ℕ) (m : Option Machine) (r : Reacting) → b ≤ now + 1 → NoneBefore b c.machines r.machines → NoneBefore b c.machines (fires packs t c now i m r).machines
   fires_late now b i None r le h = h
   fires_late now b i (Some m) r le h = machine_late now b (trigger.Timer (now - (standing r.machines i).entered)) [] i m r le h
 
   reacts_late : (now b : ℕ) (e : Event) (r : Reacting) → b ≤ now + 1 → NoneBefore b c.machines r.machines → NoneBefore b c.machines (reacts packs t c now e r).machines
-  reacts_late now b (event.Prim p) r le h =
-      machines_late now b (trigger_of p.op p.end.face p.member) (map plain p.arguments) 0 c.machines (map_reacts c p.end.face p.member p.op (map plain p.arguments) r) le
-      (subst (λ rs. NoneBefore b c.machines rs) (sym (map_same c p.end.face p.member p.op (map plain p.arguments) r)) h)
+  reacts_late now b (event.Prim p) r le h = receives_late now b p.end.face p.member p.op (map plain p.arguments) r le h
   reacts_late now b (event.Timer i) r le h = fires_late now b i (slice_get c.machines i) r le h
 
 pub reactions_are_punctual : ReactionsArePunctual
