@@ -1,21 +1,23 @@
 -- A line that may be handed to a host may be told to its components.
 use Rattle.std.proofs.Common.{◌≡◌, ◌≤◌, ◌<◌, ◌+◌, ◌^◌, ℕ, List, [], length, Option, refl, sym, subst}
-use Rattle.std.specs.Prelude.{Result, Ok, Err, OnOk, IfOk}
+use Rattle.std.specs.Prelude.{Result, Ok, Err, IfOk}
 use Rattle.std.specs.List.{AllByRecursion}
 use Rattle.eds_base.specs.declared.fail.Memory.{Memory}
 use Rattle.eds_plan.specs.Lines.{Told, starts, passes, framed}
 use Rattle.eds_plan.specs.Lines as lines
-use Rattle.eds_plan.specs.Outs.{Signal}
+use Rattle.eds_plan.specs.Outs.{Report, Signal}
 use Rattle.eds_host.specs.declared.handled.Handled.{Handled}
 use Rattle.eds_host.specs.declared.handled.Handled.TheVariants.{Done, Storm}
 use Rattle.eds_host.specs.declared.host.Phase.TheVariants as phase
 use Rattle.eds_host.specs.declared.setting.Setting.{Setting}
-use Rattle.eds_host.specs.Hosts.{HostNow, MayGoOn, standing_after}
+use Rattle.eds_host.specs.Hosts.{MayGoOn, reading, standing_after}
 use Rattle.eds_host.specs.Mirrors.{dues_of}
-use Rattle.eds_host.specs.Plans.{AreStates, Arrives, NoneBefore}
-use Rattle.eds_host.specs.Resting.{IsAtRest, IsCalm, MayBeTold}
+use Rattle.eds_host.specs.Plans.{AreStates, Arrives}
+use Rattle.eds_host.specs.Resting.{IsAtRest, IsCalm, LineIs, MayBeTold}
+use Rattle.eds_host.specs.Runs.{Course, LineGoes}
+use Rattle.eds_host.specs.Steps.{IsLine}
 use Rattle.eds_host.specs.Settings.{AtRest, running, world}
-use Rattle.eds_host.specs.Systems.{StateNow}
+use Rattle.eds_host.specs.Systems.{StateNow, World}
 
 module _ (s : Setting) (now : ℕ) (states : List StateNow) (queue : List Signal) (dues : List (Option (ℕ × ℕ))) where
   pub fresh_told : (l : Told) → l ≡ starts → now ≡ 0 → MayBeTold s l now states queue dues
@@ -35,3 +37,8 @@ module _ (s : Setting) (now : ℕ) (states : List StateNow) (queue : List Signal
   pub calm_after : (done : Handled) → now < 2 ^ 63 → AreStates s.table.now s.plan.now now states → dues ≡ dues_of (running s) 0 states → AllByRecursion (Arrives s.table.now s.plan.now) queue → AtRest done now s.plan.now states → IsCalm (standing_after done) s.table.now s.plan.now s.links.now now states queue dues
   calm_after Done lt all tied placed rest = (lt, all, rest, tied, placed)
   calm_after Storm lt all tied placed rest = tt
+
+-- a call that had a course happen handled the line of which it is a course
+pub line_is : (s : Setting) (l : Told) (w v : World) (o q : List Report) (course : Course) (res : Result Handled Memory) → LineGoes (running s) (reading s.table.now s.plan.now) l w course → IfOk res (λ h. IsLine h course v o q) → IfOk res (λ h. LineIs s l w h v o q)
+line_is s l w v o q course (Ok h) goes is = record { course = course; goes = goes; is = is }
+line_is s l w v o q course (Err e) goes is = tt

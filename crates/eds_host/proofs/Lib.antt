@@ -18,3 +18,4 @@ pub mod WiresFitted
 pub mod Joined
 pub mod Handling
 pub mod PunctualComponents
+pub mod FrameTypes
