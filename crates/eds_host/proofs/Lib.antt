@@ -19,3 +19,4 @@ pub mod Joined
 pub mod Handling
 pub mod PunctualComponents
 pub mod FrameTypes
+pub mod OneFrame

@@ -3,12 +3,15 @@ use Rattle.std.specs.Prelude.{◌≡◌, ◌≤◌, ◌<◌, ◌+◌, ◌^◌, �
 use Rattle.std.specs.BTreeMap.{BTreeMap}
 use Rattle.std.specs.List.{AllByRecursion}
 use Rattle.eds_base.specs.declared.fault.Fault.{Fault}
-use Rattle.eds_bits.specs.Bits.{bits_of}
+use Rattle.eds_bits.specs.Bits.{Bits, bits_of}
 use Rattle.eds_types.specs.Overlap.{IsClear}
 use Rattle.eds_types.specs.Plain.{Plain}
 use Rattle.eds_types.specs.Rows.{Table}
+use Rattle.eds_types.specs.Rules.{KeepsRules}
+use Rattle.eds_overlap.specs.Laws.{IsReadable}
 use Rattle.eds_plan.specs.Carried.{arriving, carried}
 use Rattle.eds_plan.specs.Ends.{end_at, end_named}
+use Rattle.eds_plan.specs.Fitting.{PlanFits}
 use Rattle.eds_plan.specs.Lines.{Told, starts, passes, framed}
 use Rattle.eds_plan.specs.Lines as lines
 use Rattle.eds_plan.specs.Outs.{Report}
@@ -22,6 +25,7 @@ use Rattle.eds_plan.specs.declared.run.End.{End}
 use Rattle.eds_plan.specs.declared.run.Way.{Way}
 use Rattle.eds_plan.specs.declared.run.Way.TheVariants.{Down}
 use Rattle.eds_plan.specs.declared.run.Wire.{Wire}
+use Rattle.eds_act.specs.Does.{Conforms}
 use Rattle.eds_host.specs.declared.handled.Handled.{Handled}
 use Rattle.eds_host.specs.declared.handled.Handled.TheVariants as handled
 use Rattle.eds_host.specs.declared.host.Phase.{Phase}
@@ -29,7 +33,7 @@ use Rattle.eds_host.specs.declared.host.Phase.TheVariants.{Fresh, Rests, Storm, 
 use Rattle.eds_host.specs.declared.wiring.Asked.{Asked}
 use Rattle.eds_host.specs.declared.wiring.Place.{Place}
 use Rattle.eds_host.specs.Frames.{FrameIs}
-use Rattle.eds_host.specs.Laws.{IsPunctual}
+use Rattle.eds_host.specs.Laws.{IsPunctual, ReadsOne}
 use Rattle.eds_host.specs.Links.{link_of}
 use Rattle.eds_host.specs.Plans.{Arrives, system}
 use Rattle.eds_host.specs.Runs.{Course, LineGoes, Reading}
@@ -144,3 +148,11 @@ asked_by plan w = record { line = w.line; lower = end_named plan w.lower; upper 
 -- moment is passed over
 abbrev pub ComponentsArePunctual : Type 0
 ComponentsArePunctual = (t : Table) (plan : List ComponentPlan) (tied : End → Option End) → IsPunctual (system t plan tied)
+
+-- a frame comes to one thing alone
+abbrev pub FramesHaveOneOutcome : Type 0
+FramesHaveOneOutcome = (t : Table) (id : ℕ) → IsReadable t id → (bits : Bits) (r s : Result Plain Fault) → FrameIs t id bits r → FrameIs t id bits s → r ≡ s
+
+-- and so do the frames of a plan that fits, under whose arguments no two containers overlap
+abbrev pub PlansReadOne : Type 0
+PlansReadOne = (t : Table) (plan : List ComponentPlan) → KeepsRules t → PlanFits t (Conforms t) plan → ArgumentsAreClear t plan → ReadsOne (reading t plan)

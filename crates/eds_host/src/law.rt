@@ -1,7 +1,9 @@
 //! Laws of runs.
 
-ghost use Rattle.eds_host.specs.Hosts.{ComponentsArePunctual};
+ghost use Rattle.eds_host.specs.Hosts.{ComponentsArePunctual, FramesHaveOneOutcome, PlansReadOne};
 ghost use Rattle.eds_host.specs.Laws.{CoursesAreChains, CoursesGoOnOrStorm, EachIsDelivered, NoneIsLate, RunsHaveOneOutcome, RunsJoin, TicksAdd, TimeGoesOn};
+
+use eds_overlap::law::one_outcome;
 
 /// A tick is two ticks of the same time together, unless it is a storm.
 pub fn ticks_add()
@@ -36,3 +38,11 @@ pub fn runs_join()
     ensures join { RunsJoin }
     ensures one { RunsHaveOneOutcome }
 {}
+
+/// A frame comes to one thing alone, and so do all frames of a plan that fits.
+pub fn frames_have_one_outcome()
+    ensures frame { FramesHaveOneOutcome }
+    ensures plan { PlansReadOne }
+{
+    one_outcome();
+}
