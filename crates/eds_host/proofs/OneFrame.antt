@@ -70,7 +70,7 @@ module _ (t : Table) (plan : List ComponentPlan) (rules : KeepsRules t) (fits : 
     clear = one_has (λ n. IsClear t n) way args id [] e (free (members.Command name args) refl);
   }
 
-  end_readable : (at : End) (end : Option EndPlan) (number id : ℕ) → end_at plan at ≡ end → brought_to end number ≡ id ∷ [] → IsReadable t id
+  pub end_readable : (at : End) (end : Option EndPlan) (number id : ℕ) → end_at plan at ≡ end → brought_to end number ≡ id ∷ [] → IsReadable t id
   end_readable at None number id is e = absurd cc
   end_readable at (Some end) number id is e = go (slice_get plan at.comp.0) refl is
     where
@@ -81,6 +81,13 @@ module _ (t : Table) (plan : List ComponentPlan) (rules : KeepsRules t) (fits : 
           let ends = all_at (λ (x : ComponentPlan). AllByRecursion (λ (y : EndPlan). AllByRecursion (HasClearArguments t) y.instance.members) x.ends) plan at.comp.0 c p clear in
           let free = all_at (λ (y : EndPlan). AllByRecursion (HasClearArguments t) y.instance.members) c.ends at.face end q ends in
           command_readable (arriving end.required) (slice_get end.instance.members number) id (own.members at.face number end q) (λ x there. all_at (HasClearArguments t) end.instance.members number x there free) e
+
+-- the first type is the one
+pub brought_one : (o : Option EndPlan) (e : EndPlan) (number x y : ℕ) (xs : List ℕ) → brought_to o number ≡ x ∷ xs → o ≡ Some e → brought_to (Some e) number ≡ y ∷ [] → brought_to (Some e) number ≡ x ∷ []
+brought_one o e number x y xs h is one =
+    let f : x ∷ xs ≡ y ∷ [] = sym h ∙ ap (λ p. brought_to p number) is ∙ one in
+    let same : x ≡ y = cc in
+    one ∙ ap (λ n. n ∷ []) (sym same)
 
 pub plans_read_one : OneOutcome → PlansReadOne
 plans_read_one law t plan rules fits clear comp face number octets r s h k =

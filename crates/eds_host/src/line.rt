@@ -242,6 +242,7 @@ pub(crate) fn frame_line(
     ensures rest { IfOk result (λ h. AtRest h now.new setting.now.plan.now states.new) }
     ensures ok { IfOk result (λ h. LineIs setting.now (lines.framed end.comp.0 end.face member octets.now) (world now.old states.old queue.old) h (world now.new states.new queue.new) (map report out.old) (map report out.new)) }
 {
+    setting.table.keeps_rules();
     let Some(id) = frame_type(setting.plan, end, member) else {
         return Err(Memory);
     };
