@@ -55,7 +55,7 @@ AllConform t [] (v ∷ vs) = ⊥
 AllConform t (id ∷ ids) [] = ⊥
 AllConform t (id ∷ ids) (v ∷ vs) = Conforms t id v × AllConform t ids vs
 
--- the types of a component's variables, and of an activity's arguments
+-- the types of a component's variables
 abbrev pub variable_types : ComponentPlan → List ℕ
 variable_types c = map (λ (x : VarPlan). x.id.0) c.variables
 
@@ -176,6 +176,7 @@ value_of t args vars (source.Argument i path) = entry_of t (slice_get args i) pa
 
 -- two values are one
 abbrev mutual
+  -- two values of one kind with the same content; values of two kinds are never one
   pub same_value : Plain → Plain → Bool
   same_value (num m) (num n) = int_le m n && int_le n m
   same_value (label l) (label m) = same_text l m
@@ -186,6 +187,7 @@ abbrev mutual
   same_value (fields k vs) (fields j ws) = if k == j then same_values vs ws else false
   same_value v w = false
 
+  -- two lists of values that have one value at each place
   pub same_values : Plains → Plains → Bool
   same_values plains.none plains.none = true
   same_values (plains.more v vs) (plains.more w ws) = if same_value v w then same_values vs ws else false
@@ -213,15 +215,18 @@ both_compared r (Some v) None = false
 both_compared r (Some v) (Some w) = compared r v w
 
 abbrev mutual
+  -- a condition holds of these arguments and variables
   pub holds : Table → List Plain → List Plain → Condition → Bool
   holds t args vars (compare r a b) = both_compared r (value_of t args vars a) (value_of t args vars b)
   holds t args vars (every cs) = all_hold t args vars cs
   holds t args vars (some cs) = any_holds t args vars cs
 
+  -- each of some conditions holds, which is so where there are none
   pub all_hold : Table → List Plain → List Plain → Conditions → Bool
   all_hold t args vars none = true
   all_hold t args vars (more c cs) = if holds t args vars c then all_hold t args vars cs else false
 
+  -- at least one of some conditions holds, which is not so where there are none
   pub any_holds : Table → List Plain → List Plain → Conditions → Bool
   any_holds t args vars none = false
   any_holds t args vars (more c cs) = if holds t args vars c then true else any_holds t args vars cs

@@ -44,6 +44,7 @@ breaks_cycle faces f = cycles_from faces f 0 faces
 
 -- ---- what the search gives
 
+-- a course is known, and its number leads to itself
 abbrev pub circular_by : Option Course → Bool
 circular_by None = false
 circular_by (Some c) = is_circular c

@@ -16,6 +16,7 @@ use Rattle.eds_generic.specs.Faces.{generics, bases, mapped}
 
 -- ---- what a name stands for
 
+-- what a name stands for, unknown where nothing is said of it
 abbrev pub bound_by : Option Bound → Bound
 bound_by None = bound.Unknown
 bound_by (Some b) = b
@@ -88,6 +89,7 @@ most faces = suc (suc (length faces))
 
 -- ---- two of one interface under one map
 
+-- two names both stand for nothing, or both for what isn't known, or for one type
 abbrev pub same_bound : Bound → Bound → Bool
 same_bound bound.Unmapped bound.Unmapped = true
 same_bound bound.Unknown bound.Unknown = true
@@ -114,6 +116,7 @@ same_pair p q = (p.face.0 == q.face.0) && (same_types p.types q.types && (all_wi
 
 -- ---- each counts once
 
+-- an interface under a map is among those that were found
 abbrev pub is_among : List Pair → Pair → Bool
 is_among found p = list_any (same_pair p) found
 
@@ -132,6 +135,7 @@ IsClosed faces found = (p : Pair) → is_among found p ≡ true → list_all (is
 
 -- ---- what the code notes of a map
 
+-- what generic names stand for, with this at one position; the same as before where no position is given
 abbrev pub set_at : Option ℕ → Bound → List Bound → List Bound
 set_at None b bound = bound
 set_at (Some k) b bound = set bound k b

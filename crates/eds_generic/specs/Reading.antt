@@ -58,6 +58,7 @@ names_among all id = unwrap_or (slice_get all id.0) []
 
 -- ---- what references find
 
+-- the type among items of all kinds
 abbrev pub type_of : Item → Option TypeId
 type_of (item.Sort id) = Some id
 type_of (item.Face id) = None
@@ -87,6 +88,7 @@ face_or_first id = unwrap_or id (record { 0 = 0 })
 
 -- ---- types as an interface names them
 
+-- a type as an interface names it: by the position of an own generic name, where there is one, or by itself
 abbrev pub source_by : Option ℕ → TypeId → Source
 source_by None id = source.Sort id
 source_by (Some k) id = source.Generic k
@@ -134,6 +136,7 @@ module _ (t : List Node) (names : Names) (file : ℕ) where
 
   -- ---- members
 
+  -- a parameter may be read and not set, as its element says
   abbrev pub read_only : ℕ → Bool
   read_only n = is_yes (unwrap_or (attribute_at t n (codes "readOnly")) [])
 
@@ -155,6 +158,7 @@ module _ (t : List Node) (names : Names) (file : ℕ) where
 
   -- ---- an interface
 
+  -- what the element of an interface says, of which the elements of its generic types are given
   abbrev pub face_by : (all : List (List (List ℕ))) → (generics : List ℕ) → ℕ → Face
   face_by all generics n =
       let own = map (own_name t) generics in
@@ -171,6 +175,7 @@ module _ (t : List Node) (names : Names) (file : ℕ) where
 
 -- ---- all interfaces
 
+-- a declared item is an interface
 abbrev pub is_face_of : Declared → Bool
 is_face_of d = is_face d.item
 

@@ -16,20 +16,25 @@ use Rattle.eds_generic.specs.Pairs.{same_bound, same_types, same_further, all_wi
 
 -- ---- tests that are joined
 
+-- of two tests one holds where the first does
 pub or-left : (a b : Bool) → a ≡ true → (a || b) ≡ true
 or-left a b e = rw e refl
 
+-- of two tests one holds where the second does
 pub or-right : (a b : Bool) → b ≡ true → (a || b) ≡ true
 or-right true b e = refl
 or-right false b e = e
 
+-- two tests that hold, hold together
 pub and-both : (a b : Bool) → a ≡ true → b ≡ true → (a && b) ≡ true
 and-both a b e f = rw e f
 
+-- where two tests hold together, the first holds
 pub and-left : (a b : Bool) → (a && b) ≡ true → a ≡ true
 and-left true b e = refl
 and-left false b e = e
 
+-- where two tests hold together, the second holds
 pub and-right : (a b : Bool) → (a && b) ≡ true → b ≡ true
 and-right true b e = e
 and-right false b e = cc
@@ -67,6 +72,7 @@ pair-itself p =
 
 -- ---- the same have one interface and one map
 
+-- what two names stand for is equal, where it is found the same
 pub bound-equal : (a b : Bound) → same_bound a b ≡ true → a ≡ b
 bound-equal bound.Unmapped bound.Unmapped e = refl
 bound-equal bound.Unmapped bound.Unknown e = cc
@@ -158,6 +164,7 @@ same_pair-partial = partial_equiv_from_equiv same_pair-is
 
 -- ---- hashing
 
+-- what a name stands for: one octet that tells nothing, unknown and a type apart, and the type's number
 abbrev pub bound_input : Bound → HashWrites
 bound_input bound.Unmapped = fed.u8 0
 bound_input bound.Unknown = fed.u8 1

@@ -90,12 +90,19 @@ module _ (g : List (List ℕ)) (states : List State) where
 
   -- a segment, with those above it and those below
   pub record IsSegment (above : List ℕ) (s : Segment) (below : List Segment) : Type 0 where
+    -- each member leads to each other one
     pub strong : (a b : ℕ) → Has s.members a → Has s.members b → (a ≡ b) ⊎ (leads g a b ≡ true)
+    -- where its members were seen to lie on a circle, each leads to itself
     pub ring : s.circle ≡ true → (a : ℕ) → Has s.members a → leads g a a ≡ true
+    -- where no circle was seen, it has one member at most
     pub alone : s.circle ≡ false → (a b : ℕ) → Has s.members a → Has s.members b → a ≡ b
+    -- each number of the segments below leads to each member
     pub under : (a b : ℕ) → Has (members_of below) a → Has s.members b → leads g a b ≡ true
+    -- each member leads to each number that waits
     pub next : (a b : ℕ) → Has s.members a → Has s.waiting b → leads g a b ≡ true
+    -- what a member leads to was seen already, or waits to be looked at
     pub seen : (a b : ℕ) → Has s.members a → Has (children g a) b → IsSeen above s b
+    -- it has a member, unless no number lies below it
     pub some : (members_of below ≡ []) ⊎ (0 < length s.members)
 
   -- the segments are cut from the numbers above

@@ -11,6 +11,7 @@ use Rattle.eds_host.specs.Systems.{due_at, first_of}
 abbrev pub when_cmp : When → When → Ordering
 when_cmp a b = ordering_then (nat_cmp a.moment b.moment) (nat_cmp a.comp b.comp)
 
+-- the machine of the first moment for which a component waits, where that is this moment
 abbrev pub machine_at : ℕ → Option (ℕ × ℕ) → Option ℕ
 machine_at t None = None
 machine_at t (Some d) = if d.0 == t then Some d.1 else None

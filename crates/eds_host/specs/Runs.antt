@@ -52,6 +52,7 @@ storm = record { outs = []; end = None }
 abbrev pub rests : World → Course
 rests w = record { outs = []; end = Some w }
 
+-- the course of what is next in a world; where nothing is, it rests there
 abbrev pub go_by : World → Option Happening → (Happening → Course) → Course
 go_by w None on = rests w
 go_by w (Some h) on = on h
@@ -75,6 +76,7 @@ follows sys h = after h.outs (go_on sys most None h.world)
 abbrev pub nothing : World
 nothing = record { now = 0; states = []; queue = [] }
 
+-- a world, with what left the run on the way there
 abbrev pub happening : World → List Report → Happening
 happening w outs = record { world = w; outs = outs }
 

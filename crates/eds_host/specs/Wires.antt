@@ -19,6 +19,7 @@ abbrev pub type_named : List (List ℕ × TypeId) → List ℕ → Option ℕ
 type_named [] name = None
 type_named (p ∷ ps) name = if same p.0 name then Some (p.1).0 else type_named ps name
 
+-- two types that may be there are one, or neither is there
 abbrev pub same_type : Option ℕ → Option ℕ → Bool
 same_type None None = true
 same_type None (Some b) = false
@@ -40,6 +41,7 @@ same_interface a b = a.face.0 == b.face.0 && same_map a.map b.map
 
 -- ---- one wire
 
+-- two ends are the same end of one component
 abbrev pub same_end : End → End → Bool
 same_end a b = a.comp.0 == b.comp.0 && a.face == b.face
 
@@ -61,10 +63,12 @@ wrong_between ts l u lp up =
     if is_some (other_end ts l) then Some WireTwice else
     if is_some (other_end ts u) then Some WireTwice else None
 
+-- the tie of a lower and an upper end, unless something is wrong between them
 abbrev pub tie_unless : Option WireWhy → End → End → Result Tie WireWhy
 tie_unless None l u = Ok (record { lower = l; upper = u })
 tie_unless (Some why) l u = Err why
 
+-- the tie of two ends by what the plan has of each; of an end that it hasn't there is no tie
 abbrev pub tie_at : List Tie → End → End → Option EndPlan → Option EndPlan → Result Tie WireWhy
 tie_at ts l u None up = Err WireEnd
 tie_at ts l u (Some lp) None = Err WireEnd
@@ -79,6 +83,7 @@ tie_of plan ts (Some l) (Some u) = tie_at ts l u (plan_of plan l) (plan_of plan 
 
 -- ---- all wires
 
+-- goes on with what the wire of a line ties, or stops with what is wrong with it
 abbrev pub tie_next : ℕ → Result Tie WireWhy → (Tie → Result (List Tie) HostFail) → Result (List Tie) HostFail
 tie_next line (Err why) on = Err (record { why = why; line = line })
 tie_next line (Ok t) on = on t

@@ -14,6 +14,7 @@ use Rattle.eds_overlap.specs.declared.common.Common.{Common}
 use Rattle.eds_overlap.specs.Pairs.{Steps, set_on}
 use Rattle.eds_overlap.specs.PathTexts.{path_text, count_up_to, AreInOrder}
 
+-- the paths that the numbers are on
 abbrev pub paths_of : List Common → List Steps
 paths_of common = map (λ (c : Common). c.path) common
 

@@ -40,6 +40,7 @@ is_form n some few = record { some = leb-true 1 n some; few = leb-true n 64 few;
 abbrev pub unsigned_form : (n : ℕ) → nat_le 1 n ≡ true → nat_le n 64 ≡ true → IntForm
 unsigned_form n some few = record { bits = n; encoding = Unsigned; order = Big; valid = is_form n some few }
 
+-- the numbers from one to another
 abbrev span : ℕ → ℕ → Span
 span low high = record { low = pos low; high = pos high }
 
@@ -47,12 +48,15 @@ span low high = record { low = pos low; high = pos high }
 abbrev pub any_number : (n : ℕ) → nat_le 1 n ≡ true → nat_le n 64 ≡ true → Kind
 any_number n some few = kind.Int (unsigned_form n some few) (span 0 (2 ^ n - 1) ∷ [])
 
+-- a type that is no container, by its name and kind
 abbrev pub scalar : List ℕ → Kind → TypeRow
 scalar name k = record { name = name; base = None; kind = k }
 
+-- a container by its name, its base, whether it is abstract, its constraints, entries and trailers
 abbrev pub container : List ℕ → Option TypeId → Bool → List Constraint → List Part → List Part → TypeRow
 container name base hidden constraints entries trailers = record { name = name; base = base; kind = kind.Con (record { hidden = hidden; constraints = constraints; entries = entries; trailers = trailers }) }
 
+-- an entry by its name and the number of its type
 abbrev pub entry : List ℕ → ℕ → Part
 entry name id = part.Plain name (id_of id)
 
@@ -62,6 +66,7 @@ where_entry y i s = record { path = (id_of y, i) ∷ []; set = s ∷ []; on_kind
 
 -- ---- the table
 
+-- the labels of the sequence flags of a space packet, with their values
 abbrev pub flags : List (List ℕ × ℤ)
 flags = (codes "CONT", pos 0) ∷ (codes "FIRST", pos 1) ∷ (codes "LAST", pos 2) ∷ (codes "UNSEG", pos 3) ∷ []
 
@@ -77,9 +82,11 @@ sum_trailer = part.Check (codes "Cs") (id_of 8) Checksum ∷ []
 abbrev type_is : List (TypeId × ℕ) → ℕ → Constraint
 type_is path id = record { path = path; set = span id id ∷ []; on_kind = true }
 
+-- the entry that a path leads to has this number
 abbrev number_is : List (TypeId × ℕ) → ℕ → Constraint
 number_is path n = record { path = path; set = span n n ∷ []; on_kind = false }
 
+-- the container that is nested in a frame
 abbrev pub mode_path : List (TypeId × ℕ)
 mode_path = (id_of 27, 0) ∷ []
 
@@ -87,6 +94,7 @@ mode_path = (id_of 27, 0) ∷ []
 abbrev pub kind_path : List (TypeId × ℕ)
 kind_path = (id_of 27, 0) ∷ (id_of 24, 0) ∷ []
 
+-- the rows of all types; a row's position is its type's number
 abbrev pub example : Table
 example =
     -- telemetry packets: an abstract packet with a length entry, and the one that its application number tells
@@ -153,6 +161,7 @@ Reads t id v b n = (n ≤ length b) × Spells t id v (take n b)
 abbrev pub busy : Plain
 busy = fields 29 (plains_of (fields 26 (plains_of (num (pos 2) ∷ items (plains_of (num (pos 3) ∷ num (pos 4) ∷ [])) ∷ [])) ∷ text (codes "hi") ∷ bits 12 (0xAB ∷ 0xC0 ∷ []) ∷ num (pos 238) ∷ []))
 
+-- nested containers with a number, a text of two octets, twelve bits and a last octet
 abbrev pub idle : Plain
 idle = fields 28 (plains_of (fields 25 (plains_of (num (pos 1) ∷ num (pos 7) ∷ [])) ∷ text (codes "hi") ∷ bits 12 (0xAB ∷ 0xC0 ∷ []) ∷ num (pos 238) ∷ []))
 
@@ -160,6 +169,7 @@ idle = fields 28 (plains_of (fields 25 (plains_of (num (pos 1) ∷ num (pos 7) �
 abbrev pub tail_packet : ℕ → List ℕ → Plain
 tail_packet k os = fields k (plains_of (num (pos 1) ∷ bits (8 * length os) os ∷ []))
 
+-- which values some frames spell, and where and why reading others fails
 pub record WorkedFrames : Type 0 where
   pub packet : Spells example 6 housekeeping (bits_of (0x01 ∷ 0x23 ∷ 0xC0 ∷ 0x05 ∷ 0x00 ∷ 0x01 ∷ 0xBE ∷ 0xEF ∷ []))
   -- the length entry tells one octet more than there are

@@ -42,6 +42,7 @@ least_in_all sets = least_of (filter (is_in_all sets) (beginnings sets))
 
 -- ---- domains
 
+-- one number alone
 abbrev pub single : ℤ → Span
 single n = record { low = n; high = n }
 
@@ -117,6 +118,7 @@ pub record Pair : Type 0 where
   pub first : ℕ
   pub second : ℕ
 
+-- two types as a pair, where they overlap
 abbrev pub pair_at : ℕ → ℕ → Option ℕ → Option Pair
 pair_at k l None = None
 pair_at k l (Some x) = Some (record { ancestor = x; first = k; second = l })
@@ -143,5 +145,6 @@ pub record FindsOverlaps (t : Table) (used : List TypeId) : Type 0 where
   pub found : (p : Pair) → first_pair t used ≡ Some p → IsFirstPair t (Named used) p.ancestor p.first p.second
   pub nothing : first_pair t used ≡ None → (x k l : ℕ) → Overlapping t (Named used) x k l → ⊥
 
+-- in a table that keeps the rules the functions find what overlaps, and no more, whatever types are used
 abbrev pub OverlapsAreFound : Type 0
 OverlapsAreFound = (t : Table) (used : List TypeId) → KeepsRules t → FindsOverlaps t used

@@ -47,6 +47,7 @@ pub record HasOneOutcome (t : Table) (id : ℕ) (b : Bits) : Type 0 where
   pub one_place : (g h : Fault) → FailsAt t id b g → FailsAt t id b h → g ≡ h
   pub not_both : (v : Plain) (c x : Bits) (g : Fault) → b ≡ c ++ x → Spells t id v c → FailsAt t id b g → ⊥
 
+-- read as a type that is readable, any bits have just one outcome
 abbrev pub OneOutcome : Type 0
 OneOutcome = (t : Table) (id : ℕ) → IsReadable t id → (b : Bits) → HasOneOutcome t id b
 
@@ -84,6 +85,7 @@ pub record HasRoom (t : Table) : Type 0 where
   pub least : (n id : ℕ) → 32 ≤ n → least_within n t id ≡ least_size t id
   pub sizes : (n id : ℕ) → 32 ≤ n → size_within n t id ≡ type_size t id
 
+-- in a table that keeps the rules, the bounds on chains and nesting leave nothing out
 abbrev pub BoundsSuffice : Type 0
 BoundsSuffice = (t : Table) → KeepsRules t → HasRoom t
 
@@ -104,5 +106,6 @@ pub record PacksAgain (t : Table) (id : ℕ) (v : Plain) (n : ℕ) : Type 0 wher
   pub size : length spelling ≡ n
   pub no_fault : (g : PackFault) → PackFailsAt t id v g → ⊥
 
+-- a value that some bits spell, no more than a packed one may have, packs to as many bits
 abbrev pub ReadIsPacked : Type 0
 ReadIsPacked = (t : Table) (id : ℕ) → IsThere t id → (v : Plain) (b : Bits) → Spells t id v b → length b ≤ most_bits → PacksAgain t id v (length b)

@@ -18,6 +18,7 @@ lone [] = None
 lone (s ∷ []) = lone_in s
 lone (s ∷ r ∷ set) = None
 
+-- the lone number of a set, where there is a set and it has one
 abbrev pub lone_by : Option (List Span) → Option ℤ
 lone_by None = None
 lone_by (Some set) = lone set
@@ -28,6 +29,7 @@ lone_on sets path = lone_by (set_on sets path)
 
 -- ---- marks
 
+-- a number in front of others, where it and they are there
 abbrev pub before : Option ℤ → Option (List ℤ) → Option (List ℤ)
 before None more = None
 before (Some n) more = option_map (λ ns. n ∷ ns) more

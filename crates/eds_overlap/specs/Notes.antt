@@ -12,6 +12,7 @@ use Rattle.eds_overlap.specs.declared.common.Common.{Common}
 use Rattle.eds_overlap.specs.declared.find.Overlap.{Overlap}
 use Rattle.eds_overlap.specs.PathTexts.{path_text}
 
+-- the name of a row, empty where there is none
 abbrev pub name_in : Option TypeRow → List ℕ
 name_in None = []
 name_in (Some row) = row.name

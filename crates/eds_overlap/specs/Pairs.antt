@@ -13,6 +13,7 @@ use Rattle.eds_types.specs.Domains.{int_domain}
 use Rattle.eds_types.specs.Rules.{AreDistinct}
 use Rattle.eds_types.specs.Overlap.{IsSolution, IsConstrained, Overlapping}
 
+-- a path to an entry, step by step: a container in whose entries or trailers a part stands, and the part's place there
 abbrev pub Steps : Type 0
 Steps = List (TypeId × ℕ)
 
@@ -52,6 +53,7 @@ abbrev pub int_domain_by : Table → Option ℕ → Option (List Span)
 int_domain_by t None = None
 int_domain_by t (Some id) = int_domain t id
 
+-- the domain of the integer type or sub-range that a path leads to
 abbrev pub int_domain_on : Table → Steps → Option (List Span)
 int_domain_on t path = int_domain_by t (type_on t path)
 

@@ -11,6 +11,7 @@ use Rattle.eds_types.specs.Rules.{name_of}
 
 -- ---- texts
 
+-- the name of a part, empty where there is no part or no name
 abbrev pub name_in : Option Part → List ℕ
 name_in None = []
 name_in (Some p) = unwrap_or (name_of p) []

@@ -43,19 +43,23 @@ abbrev pub IfThere : (Plain → Bits → Type 0) → Option Plain → Bits → T
 IfThere P None b = ⊥
 IfThere P (Some v) b = P v b
 
--- the bits are the canonical ones of a number, a label, a truth value, a text, a binary
+-- the value is a number, and the bits are its canonical ones
 abbrev pub NumberSpells : IntForm → Plain → Bits → Type 0
 NumberSpells form v b = (n : ℤ) × (v ≡ num n) × IsNumber canonical form n b
 
+-- the value is a label, and the bits are the canonical ones of the number that is listed for it
 abbrev pub LabelSpells : IntForm → List (List ℕ × ℤ) → Plain → Bits → Type 0
 LabelSpells form listing v b = (l : List ℕ) × (n : ℤ) × (v ≡ label l) × (listed listing l ≡ Some n) × IsNumber canonical form n b
 
+-- the value is a truth value, and the bits are its canonical ones
 abbrev pub TruthSpells : BoolForm → Plain → Bits → Type 0
 TruthSpells form v b = (x : Bool) × (v ≡ truth x) × IsBool canonical form x b
 
+-- the value is a text, and the bits are its canonical ones
 abbrev pub TextSpells : TextForm → Plain → Bits → Type 0
 TextSpells form v b = (s : List ℕ) × (v ≡ text s) × IsText canonical form s b
 
+-- the value is a binary of just these bits
 abbrev pub BitsSpell : Plain → Bits → Type 0
 BitsSpell v b = v ≡ bits (length b) (octets_of b)
 
@@ -65,11 +69,12 @@ ListSpells SpellsInner v b = (vs : Plains) × (v ≡ items vs) × ItemsSpell Spe
 
 -- ---- containers
 
--- the octets of the container k with these values, where at most n types are nested in its parts
+-- the whole octets that a size needs, none where packing fails
 abbrev pub octets_in : Size → ℕ
 octets_in (Ok n) = octets_for n
 octets_in (Err g) = 0
 
+-- the octets of the container k with these values, where at most n types are nested in its parts
 abbrev pub own_octets : Table → ℕ → ℕ → List Plain → ℕ
 own_octets t n k f = octets_in (own_size t (packed_size_within n t) k f)
 
@@ -79,10 +84,11 @@ pub record IsSized (t : Table) (n k : ℕ) (f : List Plain) : Type 0 where
   pub is : own_size t (packed_size_within n t) k f ≡ Ok bits
   pub few : bits ≤ most_bits
 
--- the parts of containers, one container after the other
+-- the entries of containers, one container after the other
 abbrev pub entry_parts : Table → List TypeId → List Part
 entry_parts t ids = flat_map (λ (id : TypeId). entries_of t id.0) ids
 
+-- the trailers of containers, one container after the other
 abbrev pub trailer_parts : Table → List TypeId → List Part
 trailer_parts t ids = flat_map (λ (id : TypeId). trailers_of t id.0) ids
 

@@ -13,13 +13,16 @@ abbrev pub seek : List Placed → ℕ → ℕ → ℕ → Result ℕ ℕ
 seek [] n y i = Err n
 seek (p ∷ ps) n y i = if has_value p.part then (if p.container == y && p.place == i then Ok n else seek ps (n + 1) y i) else seek ps n y i
 
+-- the value behind so many others, where the part was found
 abbrev pub nth : List Plain → Result ℕ ℕ → Option Plain
 nth vs (Ok n) = slice_get vs n
 nth vs (Err n) = None
 
+-- the entries of containers with their places, one container after the other
 abbrev pub entries_along : Table → List TypeId → List Placed
 entries_along t ids = flat_map (λ (id : TypeId). placed_entries t id.0) ids
 
+-- the trailers of containers with their places, one container after the other
 abbrev pub trailers_along : Table → List TypeId → List Placed
 trailers_along t ids = flat_map (λ (id : TypeId). placed_trailers t id.0) ids
 
@@ -28,6 +31,7 @@ abbrev pub values_in : List Part → ℕ
 values_in [] = 0
 values_in (p ∷ ps) = (if has_value p then 1 else 0) + values_in ps
 
+-- the numbers of types in the table
 abbrev pub numbers_of : List TypeId → List ℕ
 numbers_of ids = map (λ (id : TypeId). id.0) ids
 

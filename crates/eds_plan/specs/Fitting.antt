@@ -110,11 +110,13 @@ module _ (t : Table) (Conforms : ℕ → Plain → Type 0) (vars args : List ℕ
   IsOrder r = Unit {0}
 
   abbrev mutual
+    -- each two operands that a condition compares fit each other, and are numbers where an order is asked for
     pub ConditionFits : Condition → Type 0
     ConditionFits (compare r a b) = BothFit a b × (IsOrder r → IsNumber a × IsNumber b)
     ConditionFits (every cs) = ConditionsFit cs
     ConditionFits (some cs) = ConditionsFit cs
 
+    -- each of some conditions fits
     pub ConditionsFit : Conditions → Type 0
     ConditionsFit none = Unit {0}
     ConditionsFit (more c cs) = ConditionFits c × ConditionsFit cs
@@ -140,6 +142,7 @@ module _ (t : Table) (Conforms : ℕ → Plain → Type 0) (vars args : List ℕ
     list_of_option (Some a) = a ∷ []
 
     abbrev mutual
+      -- what a statement sets, calls or sends is there, its operands fit it, and so do the statements inside it
       pub StatementFits : Stmt → Type 0
       StatementFits (assign x a) = (id : ℕ) × TargetHas x id × OperandFits id a
       StatementFits (calculate x is) = (id : ℕ) × TargetHas x id × IsNumberType t id × LeavesOne 0 is
@@ -149,6 +152,7 @@ module _ (t : Table) (Conforms : ℕ → Plain → Type 0) (vars args : List ℕ
       StatementFits (send_command end member operands name) = (ids : List ℕ) × Carries end member op.Command ids × OperandsFit ids operands
       StatementFits (send_parameter end member o operand name) = (ids : List ℕ) × Carries end member o ids × OperandsFit ids (list_of_option operand)
 
+      -- each of some statements fits
       pub StatementsFit : Stmts → Type 0
       StatementsFit done = Unit {0}
       StatementsFit (next s ss) = StatementFits s × StatementsFit ss
@@ -161,7 +165,7 @@ MemberKnown t None = Unit {0}
 MemberKnown t (Some (member.Parameter name id read_only)) = id.0 < length t
 MemberKnown t (Some (member.Command name args)) = AllByRecursion (λ (a : Argument). a.id.0 < length t) args
 
--- what a member carries in the way of its end, by its own op
+-- the first values of a component pack, its types are there and its statements fit, where Carries says what a member carries
 pub record ComponentFits (t : Table) (Conforms : ℕ → Plain → Type 0) (Carries : ℕ → ℕ → Op → List ℕ → Type 0) (c : ComponentPlan) : Type 0 where
   -- each variable's first value packs, and so its type is there
   pub initial : AllByRecursion (λ (x : VarPlan). Conforms x.id.0 (plain x.initial)) c.variables

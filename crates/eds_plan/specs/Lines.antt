@@ -14,6 +14,7 @@ pub data Told : Type 0 where
   arrives : (component end member : ℕ) → Way → Op → List Plain → Told
   framed : (component end member : ℕ) → List ℕ → Told
 
+-- the plain data of what a line has happen
 abbrev pub told : Line → Told
 told Start = starts
 told (Tick n) = passes n

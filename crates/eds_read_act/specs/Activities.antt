@@ -31,6 +31,7 @@ abbrev pub circular_by : Option Course → Bool
 circular_by None = false
 circular_by (Some c) = is_circular c
 
+-- the activity of a number calls itself, by the courses of all
 abbrev pub circular_at : List Course → ℕ → Bool
 circular_at courses number = circular_by (slice_get courses number)
 
@@ -65,6 +66,7 @@ pub record Planned : Type 0 where
   pub arguments : List Field
   pub body : List Stmt
 
+-- an activity of a plan with its statements as plain data
 abbrev pub planned : Activity → Planned
 planned a = record { name = a.name; arguments = a.arguments; body = stmts a.body }
 

@@ -75,6 +75,7 @@ is_unsendable operation (Some p) = p.required && (p.read_only && same operation 
 
 -- ---- the rule
 
+-- an element of this sort breaks BadReference, which one of a sort that names nothing never does
 abbrev pub is_bad_as : ActivitySort → Scope → Link → Bool
 is_bad_as sort.VariableRef s link = is_none (found_as sort.VariableRef s link.node)
 is_bad_as sort.ArgumentRef s link = is_none (found_as sort.ArgumentRef s link.node)

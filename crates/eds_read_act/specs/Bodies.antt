@@ -49,6 +49,7 @@ module _ (s : Scope) where
   action_by n None = record { activity = 0; operands = [] }
   action_by n (Some a) = record { activity = short a.0; operands = given_operands n a.1 }
 
+  -- the action that an element is: the activity that it names is called, with what it gives for the arguments
   abbrev pub action_at : ℕ → Action
   action_at n = action_by n (activity_of s n)
 
@@ -82,6 +83,7 @@ is_condition sort.Every = true
 is_condition sort.Some = true
 is_condition k = false
 
+-- the element of a number is a condition
 abbrev pub is_condition_at : List Node → ℕ → Bool
 is_condition_at t n = is_condition (sort_at t n)
 
@@ -91,11 +93,13 @@ wanted_by None = wanted.Number
 wanted_by (Some id) = wanted.Type id
 
 module _ (s : Scope) where
+  -- a comparison of two operands, each wanted to fit the other's type; with fewer or more of them it always holds
   abbrev pub comparison_of : ℕ → List ℕ → Condition
   comparison_of n (one ∷ other ∷ []) =
       compare (relation_of (text_at s.tree n (codes "operator"))) (operand_at s (wanted_by (type_of s other)) one) (operand_at s (wanted_by (type_of s one)) other)
   comparison_of n ns = every none
 
+  -- the condition that an element of this sort is, where `inner` gives those inside it; of another sort it always holds
   abbrev pub condition_as : ActivitySort → (inner : ℕ → Condition) → ℕ → Condition
   condition_as sort.Comparison inner n = comparison_of n (operands_of s.tree n)
   condition_as sort.Every inner n = every (conditions_of (map inner (filter (is_condition_at s.tree) (children_at s.tree n))))
@@ -107,6 +111,7 @@ module _ (s : Scope) where
   condition_at zero n = every none
   condition_at (suc depth) n = condition_as (sort_at s.tree n) (λ child. condition_at depth child) n
 
+  -- the condition that an element is; where there is none, one that always holds
   abbrev pub condition_if : (depth : ℕ) → Option ℕ → Condition
   condition_if depth None = every none
   condition_if depth (Some n) = condition_at depth n
@@ -126,6 +131,7 @@ module _ (s : Scope) where
 abbrev pub operator_of : List ℕ → MathOp
 operator_of word = if same word (codes "subtract") then math_op.Subtract else if same word (codes "multiply") then math_op.Multiply else math_op.Add
 
+-- an element is an item of a calculation: an operand or an operator
 abbrev pub is_item : ActivitySort → Bool
 is_item sort.Value = true
 is_item sort.VariableRef = true
@@ -133,14 +139,17 @@ is_item sort.ArgumentRef = true
 is_item sort.Operator = true
 is_item k = false
 
+-- the element of a number is an item of a calculation
 abbrev pub is_item_at : List Node → ℕ → Bool
 is_item_at t n = is_item (sort_at t n)
 
 module _ (s : Scope) where
+  -- the item of a calculation that an element of this sort is: an operator, or an operand that is to be a number
   abbrev pub item_as : ActivitySort → ℕ → MathItem
   item_as sort.Operator n = math.Operator (operator_of (text_at s.tree n (codes "operator")))
   item_as k n = math.Operand (operand_at s wanted.Number n)
 
+  -- the item of a calculation that an element is
   abbrev pub item_at : ℕ → MathItem
   item_at n = item_as (sort_at s.tree n) n
 
@@ -157,6 +166,7 @@ is_statement sort.SendCommand = true
 is_statement sort.SendParameter = true
 is_statement k = false
 
+-- the element of a number is a statement
 abbrev pub is_statement_at : List Node → ℕ → Bool
 is_statement_at t n = is_statement (sort_at t n)
 
@@ -188,13 +198,16 @@ module _ (s : Scope) where
   step_if None = pos 1
   step_if (Some n) = unwrap_or (number_in s.tree (operand_of s.tree n)) (pos 1)
 
+  -- the sending of a command with what an element gives for its arguments; where none is found, command 0 of end 0 is sent
   abbrev pub command_by : ℕ → Option ℕ → Option Taker → Stmt
   command_by n name None = send_command 0 0 [] name
   command_by n name (Some c) = send_command c.end c.member (given_operands s n c.fields) name
 
+  -- what an element gives as the value of a parameter, if it gives one
   abbrev pub value_of : ℕ → Held → Option Operand
   value_of n p = option_map (operand_at s (wanted.Type p.id)) (operand_of s.tree n)
 
+  -- the sending of a parameter; where none is found, parameter 0 of end 0 is asked for
   abbrev pub parameter_by : ℕ → Option ℕ → Option Held → Stmt
   parameter_by n name None = send_parameter 0 0 op.Get None name
   parameter_by n name (Some p) = send_parameter p.end p.member (op_of p (text_at s.tree n (codes "operation"))) (value_of n p) name

@@ -18,6 +18,7 @@ abbrev pub called_as : ActivitySort → Scope → ℕ → List ℕ
 called_as sort.Call s n = number_if (option_map (λ (a : ℕ × List Field). a.0) (activity_of s n))
 called_as k s n = []
 
+-- the activity that an element calls, if it is a call
 abbrev pub called_at : Scope → Link → List ℕ
 called_at s link = called_as (sort_at s.tree link.node) s link.node
 

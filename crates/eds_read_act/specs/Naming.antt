@@ -13,6 +13,7 @@ use Rattle.eds_read_act.specs.Scopes.{Field}
 
 -- ---- names in a text
 
+-- an octet is a point
 abbrev pub is_point : ℕ → Bool
 is_point c = c == 46
 

@@ -29,6 +29,7 @@ use Rattle.eds_read_act.specs.Scopes.{Scope}
 abbrev pub kind_in : Option TypeRow → Option Kind
 kind_in row = option_map (λ (r : TypeRow). r.kind) row
 
+-- the kind of a type, if the table has it
 abbrev pub kind_of : Table → TypeId → Option Kind
 kind_of t id = kind_in (slice_get t id.0)
 
@@ -49,6 +50,7 @@ are_alike t a (kind.Arr i m) b (kind.Arr j n) = a.0 == b.0
 are_alike t a (kind.Con c) b (kind.Con d) = list_has (chain t b.0) a.0 || list_has (chain t a.0) b.0
 are_alike t a k b l = false
 
+-- values of the two kinds may stand for each other, where both kinds are known
 abbrev pub both_alike : Table → TypeId → Option Kind → TypeId → Option Kind → Bool
 both_alike t a (Some k) b (Some l) = are_alike t a k b l
 both_alike t a k b l = false
@@ -82,6 +84,7 @@ found_as sort.VariableRef s n = found_in s.table (fields_of s.variables) (text_a
 found_as sort.ArgumentRef s n = found_in s.table s.arguments (text_at s.tree n (codes "argumentRef"))
 found_as k s n = None
 
+-- what an element finds that is a reference to a variable or an argument
 abbrev pub found_at : Scope → ℕ → Option Found
 found_at s n = found_as (sort_at s.tree n) s n
 
@@ -104,26 +107,32 @@ abbrev pub fits_as : ActivitySort → Scope → Wanted → ℕ → Bool
 fits_as sort.Value s w n = is_some (literal s.table w (text_at s.tree n (codes "value")))
 fits_as k s w n = found_fits s.table w (found_as k s n)
 
+-- the operand that an element is fits what is wanted
 abbrev pub operand_fits : Scope → Wanted → ℕ → Bool
 operand_fits s w n = fits_as (sort_at s.tree n) s w n
 
 -- ---- as plan data; 0 stands for what is not there
 
+-- the number 0, in place of an operand that is not there
 abbrev pub zero_operand : Operand
 zero_operand = source.Value (value.Num (pos 0))
 
+-- a value as an operand, 0 where a text stands for none
 abbrev pub literal_operand : Option Plain → Operand
 literal_operand None = zero_operand
 literal_operand (Some v) = source.Value (stored v)
 
+-- a variable or an entry of it as an operand, 0 where none is found
 abbrev pub variable_operand : Option Found → Operand
 variable_operand None = zero_operand
 variable_operand (Some f) = source.Variable f.at f.path
 
+-- an argument or an entry of it as an operand, 0 where none is found
 abbrev pub argument_operand : Option Found → Operand
 argument_operand None = zero_operand
 argument_operand (Some f) = source.Argument f.at f.path
 
+-- the operand that an element of this sort is, where this is wanted; 0 where it is none
 abbrev pub operand_as : ActivitySort → Scope → Wanted → ℕ → Operand
 operand_as sort.Value s w n = literal_operand (literal s.table w (text_at s.tree n (codes "value")))
 operand_as sort.VariableRef s w n = variable_operand (found_as sort.VariableRef s n)
@@ -134,6 +143,7 @@ operand_as k s w n = zero_operand
 abbrev pub operand_at : Scope → Wanted → ℕ → Operand
 operand_at s w n = operand_as (sort_at s.tree n) s w n
 
+-- the operand that an element is, where this is wanted; 0 where there is no element
 abbrev pub operand_if : Scope → Wanted → Option ℕ → Operand
 operand_if s w None = zero_operand
 operand_if s w (Some n) = operand_at s w n

@@ -71,5 +71,6 @@ taken_by sort.Call s n = option_map (λ a. a.1) (activity_of s n)
 taken_by sort.SendCommand s n = option_map (λ (c : Taker). c.fields) (command_of leaving s n)
 taken_by k s n = None
 
+-- the arguments, with their types, to which an element gives values, if it names something that takes some
 abbrev pub taken_at : Scope → ℕ → Option (List Field)
 taken_at s n = taken_by (sort_at s.tree n) s n

@@ -61,6 +61,7 @@ misfits_held s n operation p =
     if not p.required || same operation (codes "set") then not (fits_if s (wanted.Type p.id) (operand_of s.tree n)) else
     if same operation (codes "get") then is_some (operand_of s.tree n) else true
 
+-- the operand of an element doesn't fit the parameter that it names; without such a parameter nothing is judged
 abbrev pub misfits_parameter : Scope → ℕ → Option Held → Bool
 misfits_parameter s n None = false
 misfits_parameter s n (Some p) = misfits_held s n (text_at s.tree n (codes "operation")) p
@@ -118,6 +119,7 @@ abbrev pub leaves : Scope → ℕ → List ℕ → Option ℕ
 leaves s left [] = Some left
 leaves s left (n ∷ ns) = item_leaves (sort_at s.tree n) s left n >>= λ more. leaves s more ns
 
+-- exactly one number is left
 abbrev pub is_one : Option ℕ → Bool
 is_one None = false
 is_one (Some n) = n == 1
@@ -136,6 +138,7 @@ number_in t (Some n) = whole_number (text_at t n (codes "value"))
 
 -- ---- the rule
 
+-- an element of this sort breaks TypeMismatch, which one of a sort that takes no operands never does
 abbrev pub mismatches_as : ActivitySort → Scope → Link → Bool
 mismatches_as sort.Assignment s link = misfits_found s link.node (output_of s link.node)
 mismatches_as sort.ArgumentValue s link = misfits_argument s link (taken_at s link.parent)

@@ -16,6 +16,7 @@ use Rattle.eds_read_comp.specs.Ends.{end_elements, use_at}
 
 -- ---- levels
 
+-- the level that a word names, that of applications where it names none
 abbrev pub level_named : List ℕ → Level
 level_named text = if same text (codes "functional") then Functional else if same text (codes "access") then Access else if same text (codes "subnetwork") then Subnetwork else Application
 
@@ -24,6 +25,7 @@ abbrev pub level_in : Option (List Node) → ℕ → Level
 level_in None n = Application
 level_in (Some t) n = level_named (unwrap_or (attribute_at t n (codes "level")) [])
 
+-- the level of an interface, that of applications where there is none
 abbrev pub level_by : List (List Node) → Option Face → Level
 level_by trees None = Application
 level_by trees (Some f) = level_in (slice_get trees f.place.file) f.place.node
@@ -35,6 +37,7 @@ level_of trees faces id = level_by trees (slice_get faces id.0)
 -- ---- ends
 
 module _ (trees : List (List Node)) (names : Names) (faces : List Face) (t : List Node) (file : ℕ) where
+  -- an end as a plan has it: its name, whether it is required, and the level and the instance of its interface
   abbrev pub end_plan : EndElement → EndPlan
   end_plan e = record {
     name = own_name t e.node;

@@ -28,6 +28,7 @@ map_nodes t n = implemented t (codes "ParameterMapSet") (codes "ParameterMap") n
 
 -- ---- what a map names
 
+-- a member is the parameter of this name
 abbrev pub is_parameter : List ℕ → Member → Bool
 is_parameter name (member.Parameter own id read_only) = same own name
 is_parameter name (member.Command own arguments) = false
@@ -43,12 +44,15 @@ parameter_of None name = None
 parameter_of (Some e) name = parameter_from 0 e.instance.members name
 
 module _ (ends : List EndPlan) (variables : List VariableHead) (t : List Node) where
+  -- the position of the end that a map names
   abbrev pub end_found : ℕ → Option ℕ
   end_found n = place_among (map (λ e. e.name) ends) (text_at t (codes "interface") n)
 
+  -- the position of the variable that a map names
   abbrev pub variable_found : ℕ → Option ℕ
   variable_found n = place_among (map (λ v. v.name) variables) (text_at t (codes "variableRef") n)
 
+  -- the position of the parameter that a map names, among the members of an end that is found
   abbrev pub member_found : Option ℕ → ℕ → Option ℕ
   member_found None n = None
   member_found (Some e) n = parameter_of (slice_get ends e) (text_at t (codes "parameter") n)
@@ -63,6 +67,7 @@ mapped_name t n = joined (text_at t (codes "interface") n) (text_at t (codes "pa
 
 -- ---- rule BadReference: its end, its parameter or its variable is not there
 
+-- the parameter and the variable that a map names are there, and so is the parameter's end
 abbrev pub is_whole : Mapping → Bool
 is_whole m = is_some m.member && is_some m.variable
 
@@ -79,12 +84,15 @@ lacks_write (Some e) (Some (member.Parameter name id read_only)) (Some v) = not 
 lacks_write e m v = false
 
 module _ (ends : List EndPlan) (variables : List VariableHead) where
+  -- the end that a map names, where it is there
   abbrev pub end_of : Mapping → Option EndPlan
   end_of m = m.face >>= λ i. slice_get ends i
 
+  -- the parameter that a map names, where it is there
   abbrev pub member_of : Mapping → Option Member
   member_of m = end_of m >>= λ e. m.member >>= λ i. slice_get e.instance.members i
 
+  -- the variable that a map names, where it is there
   abbrev pub variable_of : Mapping → Option VariableHead
   variable_of m = m.variable >>= λ i. slice_get variables i
 
@@ -116,6 +124,7 @@ abbrev pub position : Option ℕ → ℕ
 position None = 0
 position (Some i) = i
 
+-- a map as a plan has it, with 0 for what is not there
 abbrev pub map_plan : Mapping → MapPlan
 map_plan m = record { face = position m.face; member = position m.member; variable = position m.variable }
 

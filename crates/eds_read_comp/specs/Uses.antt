@@ -24,6 +24,7 @@ abbrev pub uses_by : Names → Place → Option (List Node) → List FaceUse
 uses_by names at None = []
 uses_by names at (Some t) = uses_of t names at.file at.node
 
+-- what the ends of the component at a place use
 abbrev pub uses_at : List (List Node) → Names → Place → List FaceUse
 uses_at trees names at = uses_by names at (slice_get trees at.file)
 

@@ -28,5 +28,6 @@ module _ (t : List Node) (names : Names) (file : ℕ) where
     read_only = is_yes (text_at t (codes "readOnly") n);
   }
 
+  -- the variables of a component, in document order
   abbrev pub variables_of : ℕ → List VariableHead
   variables_of n = map variable_at (variable_nodes t n)

@@ -15,6 +15,7 @@ abbrev pub misses_listing_by : Option IntForm → List (List ℕ × ℤ) → Boo
 misses_listing_by None listing = false
 misses_listing_by (Some form) listing = not (is_listing form listing)
 
+-- the element is an enumerated type, and its labels and values are none that it may list
 abbrev pub misses_listing : List Node → ℕ → Bool
 misses_listing t n = if is_enumerated t n then misses_listing_by (int_form_of t n) (listing_of t n) else false
 

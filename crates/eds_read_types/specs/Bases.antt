@@ -34,6 +34,7 @@ bases_of trees names = map (base_found trees names) (type_places names)
 abbrev pub base_at : List (Option TypeId) → ℕ → Option TypeId
 base_at bases id = slice_get bases id >>= λ base. base
 
+-- a base, with those above it that `up` gives; none where there is no base
 abbrev pub bases_above : (ℕ → List ℕ) → Option TypeId → List ℕ
 bases_above up None = []
 bases_above up (Some base) = base.0 ∷ up base.0

@@ -15,9 +15,11 @@ use Rattle.eds_read_types.specs.Places.{attribute, held}
 abbrev pub whole_or_zero : Option (List ℕ) → ℤ
 whole_or_zero text = unwrap_or (text >>= whole_number) (pos 0)
 
+-- the exponent of a term, 0 where it gives no whole number
 abbrev pub exponent_at : List (List Node) → Place → ℤ
 exponent_at trees at = whole_or_zero (attribute trees (codes "exponent") at)
 
+-- the coefficient of a term, 0 where it gives no whole number
 abbrev pub coefficient_at : List (List Node) → Place → ℤ
 coefficient_at trees at = whole_or_zero (attribute trees (codes "coefficient") at)
 
@@ -25,6 +27,7 @@ coefficient_at trees at = whole_or_zero (attribute trees (codes "coefficient") a
 abbrev pub calibrators_at : List (List Node) → Place → List Place
 calibrators_at trees at = held trees (codes "PolynomialCalibrator") at
 
+-- the terms of a length entry's calibrator, in document order
 abbrev pub terms_at : List (List Node) → Place → List Place
 terms_at trees at = flat_map (held trees (codes "Term")) (calibrators_at trees at)
 
@@ -45,14 +48,16 @@ repeats_exponent trees (at ∷ ats) = has_exponent trees (exponent_at trees at) 
 
 -- ---- the scale
 
+-- the calibrated number, or the plain one where there is no calibrator
 abbrev pub or_plain : ℤ → ℤ → List Place → ℤ
 or_plain plain calibrated [] = plain
 or_plain plain calibrated (at ∷ ats) = calibrated
 
--- c0 is the coefficient of exponent 0, and c1 that of exponent 1; without a calibrator they are 0 and 1
+-- c0 is the coefficient of exponent 0, or 0 without a calibrator
 abbrev pub c0_at : List (List Node) → Place → ℤ
 c0_at trees at = or_plain (pos 0) (coefficient_of trees (pos 0) (terms_at trees at)) (calibrators_at trees at)
 
+-- c1 is the coefficient of exponent 1, or 1 without a calibrator
 abbrev pub c1_at : List (List Node) → Place → ℤ
 c1_at trees at = or_plain (pos 1) (coefficient_of trees (pos 1) (terms_at trees at)) (calibrators_at trees at)
 
@@ -64,9 +69,10 @@ is_scale c0 c1 = int_le (pos 1) c1 && int_le c1 (pos 4294967296) && int_le (negs
 abbrev pub has_scale : List (List Node) → Place → Bool
 has_scale trees at = is_scale (c0_at trees at) (c1_at trees at) && not (repeats_exponent trees (terms_at trees at))
 
--- the scale, or 0 and 1 where it has none
+-- c0 of a length entry, or 0 where it has no scale
 abbrev pub c0_or_plain : List (List Node) → Place → ℤ
 c0_or_plain trees at = if is_scale (c0_at trees at) (c1_at trees at) then c0_at trees at else pos 0
 
+-- c1 of a length entry, or 1 where it has no scale
 abbrev pub c1_or_plain : List (List Node) → Place → ℤ
 c1_or_plain trees at = if is_scale (c0_at trees at) (c1_at trees at) then c1_at trees at else pos 1

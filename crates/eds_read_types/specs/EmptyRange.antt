@@ -26,6 +26,7 @@ abbrev pub lacks_numbers_by : Option IntForm → Range → Bool
 lacks_numbers_by None range = false
 lacks_numbers_by (Some form) range = has_none (domain_of form range)
 
+-- the element is an integer type, and its range admits no number of its form
 abbrev pub lacks_numbers : List Node → ℕ → Bool
 lacks_numbers t n = if is_integer t n then lacks_numbers_by (int_form_of t n) (range_of t n) else false
 

@@ -71,6 +71,7 @@ has_name_by given (Some sort.List) = true
 has_name_by given (Some sort.Length) = true
 has_name_by given (Some sort.ErrorControl) = true
 
+-- the part at a place has a name
 abbrev pub has_name : List (List Node) → Place → Bool
 has_name trees at = has_name_by (is_some (attribute trees (codes "name") at)) (sort_at trees at)
 

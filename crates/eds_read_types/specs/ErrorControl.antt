@@ -20,6 +20,7 @@ use Rattle.eds_read_types.specs.PartElements.{ElementJudgement, at_part_elements
 
 -- ---- the type of a check
 
+-- an encoding is that of unsigned numbers
 abbrev pub is_unsigned : Encoding → Bool
 is_unsigned Unsigned = true
 is_unsigned TwosComplement = false
@@ -37,10 +38,12 @@ fits_check check (Some form) = is_unsigned form.encoding && (form.bits == check_
 abbrev pub holds_check : CheckKind → List Node → ℕ → Bool
 holds_check check t n = is_integer t n && (not (is_some (child_named t n (codes "Range"))) && fits_check check (int_form_of t n))
 
+-- an element of a file, if there is such a file, is a type that holds a check
 abbrev pub holds_check_in : CheckKind → Option (List Node) → ℕ → Bool
 holds_check_in check None n = false
 holds_check_in check (Some t) n = holds_check check t n
 
+-- the element at a place, if there is such a place, is a type that holds a check
 abbrev pub holds_check_at : List (List Node) → CheckKind → Option Place → Bool
 holds_check_at trees check None = false
 holds_check_at trees check (Some at) = holds_check_in check (slice_get trees at.file) at.node

@@ -17,10 +17,11 @@ use Rattle.eds_read_types.specs.Places.{attribute, own_name, held}
 abbrev pub held_in : List (List Node) → (set name : List ℕ) → Place → List Place
 held_in trees set name at = flat_map (held trees name) (held trees set at)
 
--- its generic types, and their names
+-- its generic types
 abbrev pub generic_places : List (List Node) → Place → List Place
 generic_places trees at = held_in trees (codes "GenericTypeSet") (codes "GenericType") at
 
+-- the names of an interface's generic types
 abbrev pub generic_names : List (List Node) → Place → List (List ℕ)
 generic_names trees at = map (own_name trees) (generic_places trees at)
 
@@ -32,10 +33,11 @@ base_places trees at = held_in trees (codes "BaseInterfaceSet") (codes "Base") a
 abbrev pub map_places : List (List Node) → Place → List Place
 map_places trees at = held_in trees (codes "GenericTypeMapSet") (codes "GenericTypeMap") at
 
--- its parameters, and the arguments of its commands
+-- its parameters
 abbrev pub parameter_places : List (List Node) → Place → List Place
 parameter_places trees at = held_in trees (codes "ParameterSet") (codes "Parameter") at
 
+-- the arguments of an interface's commands
 abbrev pub argument_places : List (List Node) → Place → List Place
 argument_places trees at = flat_map (held trees (codes "Argument")) (held_in trees (codes "CommandSet") (codes "Command") at)
 
@@ -52,6 +54,7 @@ is_own own BaseInterface text = is_among own text
 is_own own EndInterface text = false
 is_own own MemberType text = is_among own text
 
+-- the reference that an attribute's text is, if there is one, in an interface with these generic names
 abbrev pub by_text : List (List ℕ) → Sought → Place → Option (List ℕ) → List FaceReference
 by_text own sought at None = []
 by_text own sought at (Some text) = record { place = at; text = text; sought = sought; own = is_own own sought text } ∷ []

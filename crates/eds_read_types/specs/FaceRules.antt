@@ -24,9 +24,11 @@ use Rattle.eds_read_types.specs.InnerReferences.{FaceJudgement, at_faces}
 
 -- ---- a reference finds something; an own generic name need not be looked up
 
+-- what breaks Unresolved at one reference inside an interface or a component
 abbrev pub unresolved_in_face : FaceJudgement
 unresolved_in_face trees names rows r = if r.own then [] else unresolved_by r.place r.text (look_up names r.place r.text)
 
+-- what breaks Unresolved at all references inside interfaces and components
 abbrev pub breaks_face_unresolved : List (List Node) → Names → List Refusal
 breaks_face_unresolved trees names = at_faces unresolved_in_face trees names
 
@@ -43,12 +45,14 @@ is_for_end trees names (item.Sort id) = false
 is_for_end trees names (item.Face id) = not (is_abstract_at trees (slice_get (face_places names) id.0))
 is_for_end trees names (item.Comp id) = false
 
+-- an item is of the kind that a reference with this purpose seeks
 abbrev pub suits : List (List Node) → Names → Sought → Item → Bool
 suits trees names BaseInterface found = is_face found
 suits trees names EndInterface found = is_for_end trees names found
 suits trees names GenericBase found = is_sort found
 suits trees names MemberType found = is_sort found
 
+-- what breaks WrongKind at one reference, by the item that it finds; where it finds nothing, Unresolved is broken instead
 abbrev pub unsuited_by : List (List Node) → Names → FaceReference → Option Item → List Refusal
 unsuited_by trees names r None = []
 unsuited_by trees names r (Some found) = if suits trees names r.sought found then [] else broken_with WrongKind r.place r.text ∷ []
@@ -60,24 +64,30 @@ generic_as r EndInterface = []
 generic_as r GenericBase = []
 generic_as r MemberType = []
 
+-- what breaks WrongKind at one reference inside an interface or a component
 abbrev pub wrong_kind_in_face : FaceJudgement
 wrong_kind_in_face trees names rows r = if r.own then generic_as r r.sought else unsuited_by trees names r (look_up names r.place r.text)
 
+-- what breaks WrongKind at all references inside interfaces and components
 abbrev pub breaks_face_kind : List (List Node) → Names → List Refusal
 breaks_face_kind trees names = at_faces wrong_kind_in_face trees names
 
 -- ---- none names an open binary, whose size is told by a container alone
 
+-- the break of LengthField at a place where an open binary is named; `most` are the bits that it may have
 abbrev pub untold_where : Place → (most : Option ℕ) → List Refusal
 untold_where at None = []
 untold_where at (Some most) = broken LengthField at ∷ []
 
+-- what breaks LengthField at one reference, by the type that it finds; where it finds none nothing is judged
 abbrev pub open_by : FaceReference → Table → Option TypeId → List Refusal
 open_by r rows None = []
 open_by r rows (Some id) = untold_where r.place (open_of rows id.0)
 
+-- what breaks LengthField at one reference inside an interface or a component
 abbrev pub open_in_face : FaceJudgement
 open_in_face trees names rows r = if r.own then [] else open_by r rows (id_found names r.place (Some r.text))
 
+-- what breaks LengthField at all references inside interfaces and components
 abbrev pub breaks_face_open : List (List Node) → Names → List Refusal
 breaks_face_open trees names = at_faces open_in_face trees names

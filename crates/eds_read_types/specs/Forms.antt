@@ -42,6 +42,7 @@ order_of (Some word) =
     if same word (codes "bigEndian") then Some Big else
     if same word (codes "littleEndian") then Some Little else None
 
+-- the integer form of these parts, where it is known that they go together
 abbrev pub form_if : (bits : ℕ) (encoding : Encoding) (order : ByteOrder) (fits : Bool) → go_together bits encoding order ≡ fits → Option IntForm
 form_if bits encoding order true e = Some (record { bits = bits; encoding = encoding; order = order; valid = is_form bits encoding order e })
 form_if bits encoding order false e = None
@@ -77,6 +78,7 @@ reads_zero_as_false (Some word) =
     if same word (codes "zeroIsFalse") then Some true else
     if same word (codes "nonZeroIsFalse") then Some false else None
 
+-- the form of a truth value of so many bits, where it is known that a scalar may have as many
 abbrev pub bool_form_if : (bits : ℕ) (zero_is_false fits : Bool) → is_size bits ≡ fits → Option BoolForm
 bool_form_if bits zero_is_false true e = Some (record { bits = bits; zero_is_false = zero_is_false; some = some_bits bits e; few = few_bits bits e })
 bool_form_if bits zero_is_false false e = None

@@ -23,11 +23,13 @@ inner_references trees names = face_references trees names ++ component_referenc
 abbrev pub FaceJudgement : Type 0
 FaceJudgement = List (List Node) → Names → Table → FaceReference → List Refusal
 
+-- what breaks a rule that is judged at each reference inside interfaces and components
 abbrev pub at_faces : FaceJudgement → List (List Node) → Names → List Refusal
 at_faces judge trees names = flat_map (judge trees names (table_rows trees names)) (inner_references trees names)
 
 -- ---- the types that are used
 
+-- the type that a reference uses: only those that seek a member's type use one, and own generic names none
 abbrev pub used_by : Names → FaceReference → (own : Bool) → Sought → List TypeId
 used_by names r own GenericBase = []
 used_by names r own BaseInterface = []
@@ -39,5 +41,6 @@ used_by names r Bool.false MemberType = id_or_first (id_found names r.place (Som
 abbrev pub used_at : Names → FaceReference → List TypeId
 used_at names r = used_by names r r.own r.sought
 
+-- the types that interfaces and components use, in the order of their references
 abbrev pub inner_types : List (List Node) → Names → List TypeId
 inner_types trees names = flat_map (used_at names) (inner_references trees names)

@@ -46,6 +46,7 @@ values_in (Some t) n spans =
     if is_enumerated t n then different (map value (listing_of t n)) else
     if is_boolean t n then 2 else set_size spans
 
+-- how many values the type at a place has; where there is no place, as many as its domain has numbers
 abbrev pub values_at : List (List Node) → Option Place → List Span → ℕ
 values_at trees None spans = set_size spans
 values_at trees (Some at) spans = values_in (slice_get trees at.file) at.node spans
@@ -69,6 +70,7 @@ values_found trees names id = id >>= λ (id : TypeId). values_of trees (type_pla
 
 -- ---- dimensions
 
+-- the size that a text gives, or another where there is no text
 abbrev pub size_or : Option ℕ → Option (List ℕ) → Option ℕ
 size_or other None = other
 size_or other (Some text) = whole_number text >>= natural

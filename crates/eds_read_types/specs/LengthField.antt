@@ -26,6 +26,7 @@ use Rattle.eds_read_types.specs.PartElements.{ElementJudgement, at_part_elements
 
 -- ---- the type of a length entry
 
+-- the kind is that of integer types and sub-ranges
 abbrev pub is_int_by : Kind → Bool
 is_int_by (kind.Int form spans) = true
 is_int_by (kind.Enum form listing) = false
@@ -35,6 +36,7 @@ is_int_by (kind.Bin n free) = false
 is_int_by (kind.Arr item n) = false
 is_int_by (kind.Con c) = false
 
+-- a row, if there is one, is that of an integer type or a sub-range
 abbrev pub is_int_in : Option TypeRow → Bool
 is_int_in None = false
 is_int_in (Some row) = is_int_by row.kind
@@ -45,6 +47,7 @@ is_int t id = is_int_in (slice_get t id)
 
 -- ---- open binaries
 
+-- a number is there, and it is this one
 abbrev pub is_number : ℕ → Option ℕ → Bool
 is_number id None = false
 is_number id (Some other) = other == id
@@ -114,5 +117,6 @@ second_length_at trees t id at = map (broken LengthField) (further (has_length_a
 
 -- ---- all containers
 
+-- what breaks LengthField at all parts by their types, at length entries by their scales, and at each but the first of a chain
 abbrev pub breaks_length : List (List Node) → Names → List Refusal
 breaks_length trees names = at_parts length_field_at trees names ++ (at_part_elements scale_at trees names ++ at_rows second_length_at trees names)

@@ -12,6 +12,7 @@ use Rattle.eds_types.specs.declared.row.Kind.TheVariants as kind
 use Rattle.eds_read_types.specs.References.{broken_with}
 use Rattle.eds_read_types.specs.Parts.{RowJudgement, at_rows}
 
+-- the kind is that of an array of more than 65,536 items
 abbrev pub has_too_many : Kind → Bool
 has_too_many (kind.Int form spans) = false
 has_too_many (kind.Enum form listing) = false

@@ -31,6 +31,7 @@ counts_by (kind.Bin n free) = false
 counts_by (kind.Arr item n) = false
 counts_by (kind.Con c) = false
 
+-- the type of a row counts, if there is a row
 abbrev pub counts_in : Option TypeRow → Bool
 counts_in None = false
 counts_in (Some row) = counts_by row.kind
@@ -54,6 +55,7 @@ stands_before t y i container place = if y == container then nat_lt i place else
 abbrev pub is_told : Table → (y i : ℕ) → (container place : ℕ) → Bool
 is_told t y i container place = stands_before t y i container place && is_count t (slice_get (entries_in (container_of t y)) i)
 
+-- what breaks ListField at one part: a list, unless an entry that counts and stands before it tells its number of items
 abbrev pub list_field_by : Table → (container place : ℕ) → Place → Part → List Refusal
 list_field_by t container place at (part.Plain name id) = []
 list_field_by t container place at (part.Fixed name id v) = []

@@ -27,12 +27,15 @@ listing_of t n = map (entry_at t) (enumerations t (child_named t n (codes "Enume
 
 -- ---- what may be listed
 
+-- the label of an enumeration
 abbrev pub label : List ℕ × ℤ → List ℕ
 label e = e.0
 
+-- the value of an enumeration
 abbrev pub value : List ℕ × ℤ → ℤ
 value e = e.1
 
+-- there is nothing in a list
 abbrev pub is_empty : {A : Type 0} → List A → Bool
 is_empty [] = true
 is_empty (x ∷ xs) = false

@@ -51,6 +51,7 @@ text_or_octet form = unwrap_or form octet_text
 abbrev pub numbers_with : IntForm → Range → FormAndDomain
 numbers_with form range = record { form = form; spans = domain_of form range }
 
+-- all numbers of 64 bits in two's complement
 abbrev pub all_numbers : FormAndDomain
 all_numbers = numbers_with wide_form no_range
 
@@ -58,14 +59,17 @@ all_numbers = numbers_with wide_form no_range
 abbrev pub own_numbers : List Node → ℕ → FormAndDomain
 own_numbers t n = if is_integer t n then numbers_with (form_or_wide (int_form_of t n)) (range_of t n) else all_numbers
 
+-- the numbers of the type that an element is, and all numbers where there is no such file
 abbrev pub own_numbers_in : Option (List Node) → ℕ → FormAndDomain
 own_numbers_in None n = all_numbers
 own_numbers_in (Some t) n = own_numbers t n
 
+-- the own numbers of the type at a place, and all numbers where there is no such place
 abbrev pub own_numbers_at : List (List Node) → Option Place → FormAndDomain
 own_numbers_at trees None = all_numbers
 own_numbers_at trees (Some at) = own_numbers_in (slice_get trees at.file) at.node
 
+-- the range of the type that an element is, which admits any number where there is no such file
 abbrev pub range_held_in : Option (List Node) → ℕ → Range
 range_held_in None n = no_range
 range_held_in (Some t) n = range_of t n

@@ -28,6 +28,7 @@ entry_type trees names at = id_found names at (type_named trees at)
 abbrev pub id_or_first : Option TypeId → TypeId
 id_or_first id = unwrap_or id (record { 0 = 0 })
 
+-- the number of the type that a part names, 0 where it finds none
 abbrev pub entry_id : List (List Node) → Names → Place → TypeId
 entry_id trees names at = id_or_first (entry_type trees names at)
 
@@ -38,6 +39,7 @@ padding_size text = do
   bits ← natural size
   only (is_binary_size false bits) bits
 
+-- the bits of padding that a text gives, where there is a text and it gives any
 abbrev pub padding_size_in : Option (List ℕ) → Option ℕ
 padding_size_in text = text >>= padding_size
 

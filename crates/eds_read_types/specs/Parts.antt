@@ -32,6 +32,7 @@ parts_in c = entries_in c ++ trailers_in c
 abbrev pub PartJudgement : Type 0
 PartJudgement = Table → Placed → Place → List Refusal
 
+-- what breaks a rule at the part of a position in a container, and nothing where there is none
 abbrev pub judged_part_by : PartJudgement → Table → (container i : ℕ) → Place → Option Part → List Refusal
 judged_part_by judge t container i at None = []
 judged_part_by judge t container i at (Some part) = judge t (record { container = container; place = i; part = part }) at

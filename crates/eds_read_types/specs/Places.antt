@@ -10,6 +10,7 @@ use Rattle.eds_names.specs.LookUp.{Names}
 
 -- ---- the element at a place
 
+-- the element at a place, none where there is no such file or no such element
 abbrev pub element : List (List Node) → Place → Option Node
 element trees at = slice_get trees at.file >>= λ t. node_at t at.node
 
@@ -74,6 +75,7 @@ elements trees = places_from 0 trees
 
 -- ---- all types
 
+-- a declared item is a type
 abbrev pub is_type : Declared → Bool
 is_type d = is_sort d.item
 

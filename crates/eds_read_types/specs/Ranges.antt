@@ -30,26 +30,29 @@ pub record Admits (range : Range) (n : ℤ) : Type 0 where
 
 -- ---- the range that an element gives
 
--- an end at a number, open where there is none
+-- an end at a number that is admitted itself, open where there is no number
 abbrev pub inclusive_end : Option ℤ → End
 inclusive_end None = Open
 inclusive_end (Some n) = Inclusive n
 
+-- an end at a number that is not admitted itself, open where there is no number
 abbrev pub exclusive_end : Option ℤ → End
 exclusive_end None = Open
 exclusive_end (Some n) = Exclusive n
 
--- the types of ranges whose least number is admitted, and those whose least number is not
+-- the types of ranges whose least number is admitted
 abbrev pub includes_least : List ℕ → Bool
 includes_least range_type = list_any (same range_type) (map codes ("inclusiveMinInclusiveMax" ∷ "inclusiveMinExclusiveMax" ∷ "atLeast" ∷ []))
 
+-- the types of ranges whose least number is not admitted
 abbrev pub excludes_least : List ℕ → Bool
 excludes_least range_type = list_any (same range_type) (map codes ("exclusiveMinInclusiveMax" ∷ "exclusiveMinExclusiveMax" ∷ "greaterThan" ∷ []))
 
--- the same of the greatest number
+-- the types of ranges whose greatest number is admitted
 abbrev pub includes_greatest : List ℕ → Bool
 includes_greatest range_type = list_any (same range_type) (map codes ("inclusiveMinInclusiveMax" ∷ "exclusiveMinInclusiveMax" ∷ "atMost" ∷ []))
 
+-- the types of ranges whose greatest number is not admitted
 abbrev pub excludes_greatest : List ℕ → Bool
 excludes_greatest range_type = list_any (same range_type) (map codes ("inclusiveMinExclusiveMax" ∷ "exclusiveMinExclusiveMax" ∷ "lessThan" ∷ []))
 
@@ -65,10 +68,12 @@ upper_end range_type greatest = if includes_greatest range_type then inclusive_e
 abbrev pub no_range : Range
 no_range = record { low = Open; high = Open }
 
+-- the range of bounds of this type, which admits any number where they have no type
 abbrev pub range_by : List Node → (bounds : ℕ) → Option (List ℕ) → Range
 range_by t bounds None = no_range
 range_by t bounds (Some range_type) = record { low = lower_end range_type (number_at t bounds (codes "min")); high = upper_end range_type (number_at t bounds (codes "max")) }
 
+-- the range of bounds, which admits any number where there are none
 abbrev pub range_with : List Node → Option ℕ → Range
 range_with t None = no_range
 range_with t (Some bounds) = range_by t bounds (attribute_at t bounds (codes "rangeType"))
@@ -77,6 +82,7 @@ range_with t (Some bounds) = range_by t bounds (attribute_at t bounds (codes "ra
 abbrev pub range_in : List Node → ℕ → Range
 range_in t n = range_with t (child_named t n (codes "MinMaxRange"))
 
+-- the range of an element that holds bounds, which admits any number where there is no such element
 abbrev pub range_held : List Node → Option ℕ → Range
 range_held t None = no_range
 range_held t (Some n) = range_in t n

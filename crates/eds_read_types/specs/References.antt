@@ -35,9 +35,11 @@ pub record Reference : Type 0 where
   pub attribute : List ℕ
   pub wanted : Wanted
 
+-- a row: an element, the attribute by which it refers, and what this is to find
 abbrev pub reference : List ℕ → List ℕ → Wanted → Reference
 reference element attribute wanted = record { element = element; attribute = attribute; wanted = wanted }
 
+-- the attributes by which types, and the elements inside them, refer to types
 abbrev pub references : List Reference
 references =
     reference (codes "Entry") (codes "type") AnyType
@@ -71,6 +73,7 @@ word_place trees = record { file = length trees; node = 0 }
 abbrev pub ReferenceJudgement : Type 0
 ReferenceJudgement = Place → (text : List ℕ) → Wanted → List Refusal
 
+-- what breaks a rule by a text that is to find something, and nothing where there is no text
 abbrev pub judged_text : ReferenceJudgement → Place → Wanted → Option (List ℕ) → List Refusal
 judged_text judge at wanted None = []
 judged_text judge at wanted (Some text) = judge at text wanted
@@ -82,6 +85,7 @@ text_by NumberType size text = text
 text_by ContainerType size text = text
 text_by IndexType size text = if is_some size then None else text
 
+-- what breaks a rule at an element by its row, and nothing where it has no row
 abbrev pub judged_by : ReferenceJudgement → List (List Node) → Place → Option Reference → List Refusal
 judged_by judge trees at None = []
 judged_by judge trees at (Some row) = judged_text judge at row.wanted (text_by row.wanted (attribute trees (codes "size") at) (attribute trees row.attribute at))

@@ -13,18 +13,23 @@ use Rattle.eds_read_types.specs.References.{broken}
 
 -- ---- kinds of types
 
+-- the element is an integer type
 abbrev pub is_integer : List Node → ℕ → Bool
 is_integer t n = is_named t (codes "IntegerDataType") n
 
+-- the element is an enumerated type
 abbrev pub is_enumerated : List Node → ℕ → Bool
 is_enumerated t n = is_named t (codes "EnumeratedDataType") n
 
+-- the element is a boolean type
 abbrev pub is_boolean : List Node → ℕ → Bool
 is_boolean t n = is_named t (codes "BooleanDataType") n
 
+-- the element is a string
 abbrev pub is_string : List Node → ℕ → Bool
 is_string t n = is_named t (codes "StringDataType") n
 
+-- the element is a binary
 abbrev pub is_binary : List Node → ℕ → Bool
 is_binary t n = is_named t (codes "BinaryDataType") n
 
@@ -34,6 +39,7 @@ is_binary t n = is_named t (codes "BinaryDataType") n
 abbrev pub broken_where : Bool → Rule → Place → List Refusal
 broken_where fails rule at = if fails then broken rule at ∷ [] else []
 
+-- what breaks a rule at a place of a file, and nothing where there is no such file
 abbrev pub breaks_in : (List Node → Place → List Refusal) → Option (List Node) → Place → List Refusal
 breaks_in breaks None at = []
 breaks_in breaks (Some t) at = breaks t at

@@ -10,9 +10,11 @@ use Rattle.eds_bits.specs.Encodings.{IsForm, digit_bits, order_bits}
 abbrev pub is_size : ℕ → Bool
 is_size bits = nat_le 1 bits && nat_le bits 64
 
+-- a size that a scalar may have is at least 1 bit
 pub some_bits : (bits : ℕ) → is_size bits ≡ true → 1 ≤ bits
 some_bits bits e = leb-true 1 bits (and_parts (nat_le 1 bits) (nat_le bits 64) e).0
 
+-- a size that a scalar may have is at most 64 bits
 pub few_bits : (bits : ℕ) → is_size bits ≡ true → bits ≤ 64
 few_bits bits e = leb-true bits 64 (and_parts (nat_le 1 bits) (nat_le bits 64) e).1
 
@@ -24,6 +26,7 @@ are_whole bits encoding order = (bits % digit_bits encoding == 0) && (bits % ord
 abbrev pub go_together : ℕ → Encoding → ByteOrder → Bool
 go_together bits encoding order = is_size bits && are_whole bits encoding order
 
+-- a size, an encoding and an order that go together make a form
 pub is_form : (bits : ℕ) (encoding : Encoding) (order : ByteOrder) → go_together bits encoding order ≡ true → IsForm bits encoding order
 is_form bits encoding order e =
     let size = and_parts (is_size bits) (are_whole bits encoding order) e in

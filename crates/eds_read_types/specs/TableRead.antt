@@ -16,6 +16,7 @@ use Rattle.eds_read_types.specs.Used.{used_types}
 abbrev pub typed_of : List (List Node) → Names → Option (List ℕ) → SheetTypes
 typed_of trees names word = record { table = table_rows trees names; used = used_types (table_rows trees names) (word_type trees names word) ++ inner_types trees names; asked_type = word_type trees names word }
 
+-- the types of a sheet, or why it is refused
 abbrev pub unless : Option Refusal → SheetTypes → Result SheetTypes Refusal
 unless None typed = Ok typed
 unless (Some r) typed = Err r

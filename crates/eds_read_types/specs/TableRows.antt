@@ -62,9 +62,11 @@ scalar_kind_by (Some sort.Array) t n numbers = kind.Int numbers.form numbers.spa
 scalar_kind_by (Some sort.SubRange) t n numbers = kind.Int numbers.form numbers.spans
 scalar_kind_by (Some sort.Container) t n numbers = kind.Int numbers.form numbers.spans
 
+-- what a type is that is no container and no array: by its element, or a type of these numbers
 abbrev pub scalar_kind : List Node → ℕ → FormAndDomain → Kind
 scalar_kind t n numbers = scalar_kind_by (sort_of (name_at t n)) t n numbers
 
+-- what the type of an element is, or a type of these numbers where there is no such file
 abbrev pub scalar_kind_in : Option (List Node) → ℕ → FormAndDomain → Kind
 scalar_kind_in None n numbers = kind.Int numbers.form numbers.spans
 scalar_kind_in (Some t) n numbers = scalar_kind t n numbers

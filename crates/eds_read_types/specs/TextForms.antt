@@ -25,6 +25,7 @@ is_length octets = nat_le 1 octets && nat_le octets 65536
 abbrev pub is_text : (octets stop : ℕ) → Bool
 is_text octets stop = is_length octets && nat_le stop 127
 
+-- the form of a string of these parts, where it is known that they go together
 abbrev pub text_form_if : (octets stop : ℕ) (fixed ascii fits : Bool) → is_text octets stop ≡ fits → Option TextForm
 text_form_if octets stop fixed ascii true e =
     let parts = and_parts (is_length octets) (nat_le stop 127) e in
@@ -65,6 +66,7 @@ text_form_sized t n encoding octets = do
 abbrev pub length_of : List Node → ℕ → Option ℕ
 length_of t n = number_at t n (codes "length") >>= natural
 
+-- the form of a string, by its encoding if it has one
 abbrev pub text_form_by : List Node → ℕ → Option ℕ → Option TextForm
 text_form_by t n encoding = length_of t n >>= text_form_sized t n encoding
 

@@ -8,6 +8,7 @@ use Rattle.eds_names.specs.declared.declared.Item.{Item}
 use Rattle.eds_names.specs.LookUp.{Names, look_up}
 use Rattle.eds_read_types.specs.References.{ReferenceJudgement, broken_with, at_references}
 
+-- what breaks Unresolved at one reference, by the item that it finds, if it finds one
 abbrev pub unresolved_by : Place → List ℕ → Option Item → List Refusal
 unresolved_by at text None = broken_with Unresolved at text ∷ []
 unresolved_by at text (Some found) = []

@@ -10,6 +10,7 @@ use Rattle.eds_types.specs.declared.row.Part.TheVariants as part
 use Rattle.eds_types.specs.Rows.{Table}
 use Rattle.eds_types.specs.Sizes.{open_of}
 
+-- the type that may be there, as a list
 abbrev pub optional : Option TypeId → List TypeId
 optional None = []
 optional (Some id) = id ∷ []

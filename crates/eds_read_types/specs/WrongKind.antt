@@ -9,10 +9,12 @@ use Rattle.eds_names.specs.LookUp.{Names, look_up}
 use Rattle.eds_read_types.specs.declared.reference_row.Wanted.{Wanted}
 use Rattle.eds_read_types.specs.References.{ReferenceJudgement, broken_with, at_references, type_of, admits}
 
+-- what breaks WrongKind at one reference, by the element of the type that it finds; what it finds besides is no type
 abbrev pub kind_by : List (List Node) → Place → List ℕ → Wanted → Option Place → List Refusal
 kind_by trees at text wanted None = broken_with WrongKind at text ∷ []
 kind_by trees at text wanted (Some found) = if admits trees wanted found then [] else broken_with WrongKind at text ∷ []
 
+-- what breaks WrongKind at one reference, by the item that it finds; where it finds nothing, Unresolved is broken instead
 abbrev pub wrong_kind_by : List (List Node) → Names → Place → List ℕ → Wanted → Option Item → List Refusal
 wrong_kind_by trees names at text wanted None = []
 wrong_kind_by trees names at text wanted (Some found) = kind_by trees at text wanted (type_of names found)

@@ -28,6 +28,7 @@ fits Get required = not required
 fits Set required = not required
 fits Val required = required
 
+-- an operation with values that arrives for the member at a place of an end, which is required or provided
 abbrev pub arrived : End → (place : ℕ) → Bool → Op → List Plain → Told
 arrived e place required o vs = arrives e.comp.0 e.face place (arriving required) o vs
 
@@ -67,6 +68,7 @@ val_told t e p name json = do
   vs ← given_value t m.id.0 json
   Ok (arrived e m.place p.required op.Val vs)
 
+-- what a line of this verb has arrive for a member of an end, by what stands behind the member's name
 abbrev pub member_told : Table → Verb → End → EndPlan → (name rest : List ℕ) → Result Told LineWhy
 member_told t Cmd e p name rest = command_told t e p name rest
 member_told t Frame e p name rest = frame_told e p name rest

@@ -8,6 +8,7 @@ use Rattle.eds_plan.specs.declared.run.End.{End}
 
 -- ---- `Qualified/Component:end`
 
+-- the text of an end: the qualified name of its component, a colon, and its own name
 abbrev pub end_text : List ℕ → List ℕ → List ℕ
 end_text component name = component ++ codes ":" ++ name
 
@@ -15,6 +16,7 @@ end_text component name = component ++ codes ":" ++ name
 abbrev pub Called : Type 0
 Called = List ℕ × End
 
+-- an end with its text, by the number of its component and its own
 abbrev pub called : List ℕ → (comp face : ℕ) → EndPlan → Called
 called component comp face e = (end_text component e.name, record { comp = record { 0 = comp }; face = face })
 
@@ -30,10 +32,12 @@ all_ends comp (c ∷ cs) = ends_from c.name comp 0 c.ends ++ all_ends (comp + 1)
 
 -- ---- look-up
 
+-- the first of two ends that may be there
 abbrev pub or_else : Option End → Option End → Option End
 or_else None other = other
 or_else (Some e) other = Some e
 
+-- an end, where this is its text
 abbrev pub end_called : Called → List ℕ → Option End
 end_called c text = if same text c.0 then Some c.1 else None
 

@@ -24,6 +24,7 @@ abbrev pub json_why : ValueFail → LineWhy
 json_why NotJson = why.Json
 json_why (WrongShape path) = why.Shape
 
+-- what a JSON text stands for, or why a line with it means nothing
 abbrev pub or_why : {A : Type 0} → Result A ValueFail → Result A LineWhy
 or_why (Ok x) = Ok x
 or_why (Err fail) = Err (json_why fail)

@@ -14,6 +14,7 @@ abbrev pub IsKnown : Table → Member → Type 0
 IsKnown t (member.Parameter name id read_only) = id.0 < length t
 IsKnown t (member.Command name args) = AllByRecursion (λ (a : Argument). a.id.0 < length t) args
 
+-- the types of all members of an end are the table's
 abbrev pub AreKnown : Table → EndPlan → Type 0
 AreKnown t e = AllByRecursion (IsKnown t) e.instance.members
 

@@ -7,6 +7,7 @@ is_feed c = c == 10
 
 -- ---- cut at line feeds
 
+-- an octet in front of the first of some pieces
 abbrev pub before_others : ℕ → List (List ℕ) → List (List ℕ)
 before_others c [] = (c ∷ []) ∷ []
 before_others c (piece ∷ pieces) = (c ∷ piece) ∷ pieces
@@ -16,6 +17,7 @@ abbrev pub pieces : List ℕ → List (List ℕ)
 pieces [] = [] ∷ []
 pieces (c ∷ cs) = if is_feed c then [] ∷ pieces cs else before_others c (pieces cs)
 
+-- a line without its last octet, where that is a carriage return
 abbrev pub without_return_by : Option ℕ → List ℕ → List ℕ
 without_return_by None line = line
 without_return_by (Some c) line = if c == 13 then take (length line - 1) line else line
@@ -36,6 +38,7 @@ ended (piece ∷ other ∷ pieces) = without_return piece ∷ ended (other ∷ p
 abbrev pub Numbered : Type 0
 Numbered = ℕ × List ℕ
 
+-- lines with their numbers, the first of which is n
 abbrev pub numbered_from : ℕ → List (List ℕ) → List Numbered
 numbered_from n [] = []
 numbered_from n (line ∷ lines) = (n, line) ∷ numbered_from (n + 1) lines
@@ -45,6 +48,7 @@ abbrev pub is_skipped : List ℕ → Bool
 is_skipped [] = true
 is_skipped (c ∷ cs) = c == 35
 
+-- those of some lines that aren't skipped, in their order
 abbrev pub unskipped : List Numbered → List Numbered
 unskipped [] = []
 unskipped (line ∷ lines) = if is_skipped line.1 then unskipped lines else line ∷ unskipped lines

@@ -21,6 +21,7 @@ pub data Meaning : Type 0 where
   tick : ℕ → Meaning
   comes : Told → Meaning
 
+-- a line means a wire
 abbrev pub is_wire : Meaning → Bool
 is_wire (wire lower upper) = true
 is_wire (tick n) = false
@@ -41,6 +42,7 @@ is_tie (Ok (ticks number)) = false
 is_tie (Ok (arrives verb end name rest)) = false
 is_tie (Err w) = false
 
+-- a number, or 0 where there is none
 abbrev pub or_none : Option ℕ → ℕ
 or_none None = 0
 or_none (Some n) = n
@@ -71,9 +73,11 @@ tied (Err w) = []
 abbrev pub wired_in : List Numbered → List ℕ → Bool
 wired_in lines end = list_any (same end) (flat_map (λ line. tied (form line.1)) lines)
 
+-- the tick that a text spells, after so much time, or why it spells none
 abbrev pub tick_meaning : (time : ℕ) → (number : List ℕ) → Result Meaning LineWhy
 tick_meaning time number = tick_of time number >>= λ n. Ok (tick n)
 
+-- a wire between two ends, which is too late behind another line than a wire line
 abbrev pub tie_meaning : (late : Bool) → (lower upper : List ℕ) → Result Meaning LineWhy
 tie_meaning late lower upper = if late then Err why.Late else Ok (wire lower upper)
 

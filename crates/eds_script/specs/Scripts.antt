@@ -17,12 +17,14 @@ pub record Plot : Type 0 where
 
 -- ---- from the meanings of lines
 
+-- the wires that lines mean, each with its line's number, in their order
 abbrev pub wires_of : List (ℕ × Meaning) → List Wire
 wires_of [] = []
 wires_of ((n, wire lower upper) ∷ ms) = record { line = n; lower = lower; upper = upper } ∷ wires_of ms
 wires_of ((n, tick k) ∷ ms) = wires_of ms
 wires_of ((n, comes x) ∷ ms) = wires_of ms
 
+-- what lines have happen that are no wires, each with its line's number, in their order
 abbrev pub happenings_of : List (ℕ × Meaning) → List (ℕ × Told)
 happenings_of [] = []
 happenings_of ((n, wire lower upper) ∷ ms) = happenings_of ms
@@ -35,6 +37,7 @@ plot_of ms = record { wires = wires_of ms; lines = (0, starts) ∷ happenings_of
 
 -- ---- from lines
 
+-- what is found in a line, or why nothing is, with the line's number
 abbrev pub at_line : {A : Type 0} → ℕ → Result A LineWhy → Result A BadLine
 at_line n (Ok x) = Ok x
 at_line n (Err w) = Err (record { line = n; why = w })
@@ -48,9 +51,11 @@ module _ (t : Table) (plan : List ComponentPlan) (wired : List ℕ → Bool) whe
     ms ← meanings (before ++ line.1 ∷ []) lines
     Ok ((line.0, m) ∷ ms)
 
+  -- the script that lines stand for, or the first of them that means nothing, and why
   abbrev pub plot_by : List Numbered → Result Plot BadLine
   plot_by lines = meanings [] lines >>= λ ms. Ok (plot_of ms)
 
+-- the script that lines stand for, or the first bad one, where the ends in their own wires are the wired ones
 abbrev pub plot_in : Table → List ComponentPlan → List Numbered → Result Plot BadLine
 plot_in t plan lines = plot_by t plan (wired_in lines) lines
 

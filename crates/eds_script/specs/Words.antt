@@ -17,6 +17,7 @@ pub data Saying : Type 0 where
 
 -- ---- words, each cut from the next by one space
 
+-- an octet is a space
 abbrev pub is_space : ℕ → Bool
 is_space c = c == 32
 
@@ -34,6 +35,7 @@ two_words text = word_and_rest text >>= λ p. option_map (λ b. (p.0, b)) (last_
 
 -- ---- lines
 
+-- `END END`
 abbrev pub ties_in : List ℕ → Option Saying
 ties_in rest = option_map (λ p. ties p.0 p.1) (two_words rest)
 
@@ -49,6 +51,7 @@ given_in verb rest = word_and_rest rest >>= λ p. option_map (λ q. arrives verb
 abbrev pub framed_in : List ℕ → Option Saying
 framed_in rest = word_and_rest rest >>= λ p. option_map (λ q. arrives Frame p.0 q.0 q.1) (two_words p.1)
 
+-- what a line says by its first word and the rest behind it, if a line may begin with that word
 abbrev pub said_by : List ℕ → List ℕ → Option Saying
 said_by word rest =
     if same word (codes "wire") then ties_in rest else

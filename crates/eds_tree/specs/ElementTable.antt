@@ -204,6 +204,7 @@ element_twice name first second = record { name = codes name; shapes = first ∷
 
 -- ---- the table: the name, what it needs, what it may have, what it holds
 
+-- the elements from ANDedConditions to Component
 unfoldable pub table_one : List ElementRow
 table_one =
     element "ANDedConditions" (anywhere [] [] (at_least_one "CONDITION" ∷ [])) ∷
@@ -226,6 +227,7 @@ table_one =
     element "Comparison" (anywhere (relation ∷ []) [] (two "OPERAND" ∷ [])) ∷
     element "Component" (anywhere (name ∷ []) [] (any "DataTypeSet" ∷ any "DeclaredInterfaceSet" ∷ at_most_one "ProvidedInterfaceSet" ∷ at_most_one "RequiredInterfaceSet" ∷ at_most_one "Implementation" ∷ [])) ∷ []
 
+-- the elements from ComponentSet to ErrorControlEntry
 unfoldable pub table_two : List ElementRow
 table_two =
     element "ComponentSet" (anywhere [] [] (any "Component" ∷ [])) ∷
@@ -248,6 +250,7 @@ table_two =
     element "EnumerationList" (anywhere [] [] (any "Enumeration" ∷ [])) ∷
     element "ErrorControlEntry" (anywhere (name ∷ type_ ∷ errorControlType ∷ []) [] []) ∷ []
 
+-- the elements from ExitState to OnConditionFalse
 unfoldable pub table_three : List ElementRow
 table_three =
     element "ExitState" (anywhere (name ∷ []) [] []) ∷
@@ -270,6 +273,7 @@ table_three =
     element "OnCommandPrimitive" (anywhere (interface ∷ command ∷ []) [] []) ∷
     element "OnConditionFalse" (anywhere [] [] (any "STATEMENT" ∷ [])) ∷ []
 
+-- the elements from OnConditionTrue to SendCommandPrimitive
 unfoldable pub table_four : List ElementRow
 table_four =
     element "OnConditionTrue" (anywhere [] [] (any "STATEMENT" ∷ [])) ∷
@@ -292,6 +296,7 @@ table_four =
     element "RequiredInterfaceSet" (anywhere [] [] (any "Interface" ∷ [])) ∷
     element "SendCommandPrimitive" (anywhere (interface ∷ command ∷ []) [] (any "ArgumentValue" ∷ [])) ∷ []
 
+-- the elements from SendParameterPrimitive to VariableSet
 unfoldable pub table_five : List ElementRow
 table_five =
     element "SendParameterPrimitive" (anywhere (interface ∷ parameter ∷ []) (operation ∷ []) (at_most_one "OPERAND" ∷ [])) ∷

@@ -140,6 +140,7 @@ pub record Opening : Type 0 where
 
 -- how many arrays there are
 abbrev mutual
+  -- how many arrays are in some data, which may be one itself
   pub size : Data → ℕ
   size null = 0
   size (boolean b) = 0
@@ -148,12 +149,14 @@ abbrev mutual
   size (array ds) = suc (items_size ds)
   size (object ms) = 0
 
+  -- how many arrays are in all of some items
   pub items_size : Items → ℕ
   items_size no_items = 0
   items_size (item d ds) = size d + items_size ds
 
 -- all arrays in the order in which they open, numbered from `at`
 abbrev mutual
+  -- the arrays in some data, which may be one itself, in an element of the name `parent`
   pub openings : (parent : List ℕ) → ℕ → Data → List Opening
   openings parent at null = []
   openings parent at (boolean b) = []
@@ -162,6 +165,7 @@ abbrev mutual
   openings parent at (array ds) = record { parent = parent; number = at; items = ds } ∷ openings_in (name_in ds) (at + 1) ds
   openings parent at (object ms) = []
 
+  -- the arrays in all of some items, which an element of the name `parent` has
   pub openings_in : (parent : List ℕ) → ℕ → Items → List Opening
   openings_in parent at no_items = []
   openings_in parent at (item d ds) = openings parent at d ++ openings_in parent (at + size d) ds
@@ -192,6 +196,7 @@ tree_of d = map node_of (openings [] 0 d)
 
 -- the numbers of the arrays that are no elements, in document order, where the first that opens has the number `at`
 abbrev mutual
+  -- the numbers of those in some data, which may be one itself
   pub not_elements : ℕ → Data → List ℕ
   not_elements at null = []
   not_elements at (boolean b) = []
@@ -200,6 +205,7 @@ abbrev mutual
   not_elements at (array ds) = (if is_element ds then [] else at ∷ []) ++ not_elements_in (at + 1) ds
   not_elements at (object ms) = []
 
+  -- the numbers of those in all of some items
   pub not_elements_in : ℕ → Items → List ℕ
   not_elements_in at no_items = []
   not_elements_in at (item d ds) = not_elements at d ++ not_elements_in (at + size d) ds

@@ -45,7 +45,7 @@ pub record IsInner (t : Table) (n id : ℕ) : Type 0 where
   pub there : id < length t
   pub low : IsLow t n id
 
--- so are the types of a part; and a length entry has a number of an integer type, and coefficients in range
+-- a length entry has a number of an integer type, and coefficients in range; of other parts nothing is asked
 abbrev pub LengthIsRead : Table → Part → Type 0
 LengthIsRead t (part.Plain name id) = Unit {0}
 LengthIsRead t (part.Fixed name id v) = Unit {0}
@@ -54,6 +54,7 @@ LengthIsRead t (part.List name id y i) = Unit {0}
 LengthIsRead t (part.Length name id c0 c1) = IsInt t id.0 (λ form spans. Unit {0}) × IsScale c0 c1
 LengthIsRead t (part.Check name id k) = Unit {0}
 
+-- a part's type is there, with fewer than n types nested under it, and a length entry is as it must be
 pub record PartIsRead (t : Table) (n : ℕ) (p : Part) : Type 0 where
   pub inner : (id : ℕ) → type_by (Some p) ≡ Some id → IsInner t n id
   pub length : LengthIsRead t p
