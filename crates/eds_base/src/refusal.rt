@@ -64,7 +64,7 @@ fn phase_by(rule: Rule, kept: &Kept) -> u8
         Rule::NotJson => 1,
         Rule::NotElement => 1,
         Rule::UnknownElement => 2,
-        Rule::Unsupported => { if kept.keeps("Entry") { 4 } else { 2 } }
+        Rule::Unsupported => 2,
         Rule::MissingAttribute => 2,
         Rule::BadAttribute => 2,
         Rule::BadName => 2,

@@ -1,6 +1,5 @@
 -- What interfaces say themselves, by their numbers.
-use Rattle.std.specs.Prelude.{ℕ, ◌+◌, List, [], ◌∷◌, map, Bool, false, ◌==◌, Option, Some, None, slice_get, if◌then◌else◌}
-use Rattle.eds_base.specs.Reading.{same}
+use Rattle.std.specs.Prelude.{ℕ, List, [], ◌∷◌, map, Bool, false, ◌==◌, Option, Some, None, slice_get, if◌then◌else◌}
 use Rattle.eds_generic.specs.declared.face.Face.{Face}
 use Rattle.eds_generic.specs.declared.face.Base.{Base}
 use Rattle.eds_generic.specs.declared.face.Generic.{Generic}
@@ -38,15 +37,6 @@ own faces f = own_by (slice_get faces f)
 -- the names of some generic types
 abbrev pub names_of : List Generic → List (List ℕ)
 names_of gs = map (λ g. g.name) gs
-
--- the position of a name among some, of which the first has the number k; of several of one name the first counts
-abbrev pub place_from : ℕ → List (List ℕ) → List ℕ → Option ℕ
-place_from k [] name = None
-place_from k (n ∷ ns) name = if same n name then Some k else place_from (k + 1) ns name
-
--- the position of a name among some, of several of one name the first
-abbrev pub place_among : List (List ℕ) → List ℕ → Option ℕ
-place_among names name = place_from 0 names name
 
 -- a position that is known, and is the one asked for
 abbrev pub is_at : Option ℕ → ℕ → Bool

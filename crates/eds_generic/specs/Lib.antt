@@ -1,5 +1,4 @@
 pub mod Faces
-pub mod Names
 pub mod Stops
 pub mod Pairs
 pub mod Members

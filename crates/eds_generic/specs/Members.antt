@@ -18,7 +18,8 @@ use Rattle.eds_generic.specs.declared.face.OwnMember.TheVariants as own_member
 use Rattle.eds_generic.specs.declared.pair.Bound.{Bound}
 use Rattle.eds_generic.specs.declared.pair.Bound.TheVariants as bound
 use Rattle.eds_generic.specs.declared.pair.Pair.{Pair}
-use Rattle.eds_generic.specs.Faces.{generics, names_of, place_among, own}
+use Rattle.eds_names.specs.Positions.{place_among}
+use Rattle.eds_generic.specs.Faces.{generics, names_of, own}
 use Rattle.eds_generic.specs.Pairs.{meant, below_by, gathered, most, put_all}
 
 -- ---- own members, each generic name replaced

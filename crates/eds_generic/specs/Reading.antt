@@ -23,7 +23,7 @@ use Rattle.eds_generic.specs.declared.face.Source.TheVariants as source
 use Rattle.eds_generic.specs.declared.face.OwnArgument.{OwnArgument}
 use Rattle.eds_generic.specs.declared.face.OwnMember.{OwnMember}
 use Rattle.eds_generic.specs.declared.face.OwnMember.TheVariants as own_member
-use Rattle.eds_generic.specs.Faces.{place_among}
+use Rattle.eds_names.specs.Positions.{place_among}
 
 -- ---- elements of one file
 

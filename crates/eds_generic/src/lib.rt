@@ -8,7 +8,6 @@ mod every;
 mod face;
 mod found;
 mod gather;
-mod generic_names;
 pub mod law;
 mod members;
 mod name_rule;
@@ -24,7 +23,6 @@ pub use elements::{
 };
 pub use every::judge_faces;
 pub use face::{Base, Face, Faces, Generic, Mapped, OwnArgument, OwnMember, Source};
-pub use generic_names::GenericNames;
 pub use read::read_faces;
 pub use resolving::resolve_face;
 pub use sheet::{bases_of, check_faces, resolve};

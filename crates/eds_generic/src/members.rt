@@ -12,9 +12,9 @@ ghost use Rattle.eds_generic.specs.NameRules.{first};
 use crate::face::{Base, Face, Generic, Mapped, OwnArgument, OwnMember, Source, generics, own};
 use crate::found::Found;
 use crate::gather::{Gathered, TooMany, gather};
-use crate::generic_names::GenericNames;
 use crate::pair::{Bound, Pair, below_by, meant};
 use eds_base::{FaceId, Fail, Items, Memory, Text, TypeId};
+use eds_names::NameList;
 use eds_plan::{Argument, Member};
 use std::alloc::Global;
 
@@ -144,7 +144,7 @@ fn names_of(alloc: Global, generics: &[Generic]) -> Result<Vec<Text>, Memory>
     Ok(names)
 }
 
-fn mapped_given(alloc: Global, own: &GenericNames, one: &(Text, TypeId)) -> Result<Mapped, Memory>
+fn mapped_given(alloc: Global, own: &NameList, one: &(Text, TypeId)) -> Result<Mapped, Memory>
     ensures { IfOk result (λ m. m ≡ mapped_given_in own.now one.now) }
 {
     let name = Text::of(alloc, one.0.as_str())?;
@@ -157,7 +157,7 @@ fn mapped_given(alloc: Global, own: &GenericNames, one: &(Text, TypeId)) -> Resu
 
 fn maps_given(
     alloc: Global,
-    own: &GenericNames,
+    own: &NameList,
     given: &[(Text, TypeId)],
 ) -> Result<Vec<Mapped>, Memory>
     ensures { IfOk result (λ m. m.items ≡ map (mapped_given_in own.now) given.now) }
@@ -180,7 +180,7 @@ pub(crate) fn under(
     ensures { IfOk result (λ p. p ≡ under_map faces.now face given.now) }
 {
     let names = names_of(alloc, generics(faces, face))?;
-    let own = GenericNames::of(alloc, names)?;
+    let own = NameList::of(alloc, names)?;
     let maps = maps_given(alloc, &own, given)?;
     let base = Base {
         face,

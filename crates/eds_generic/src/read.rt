@@ -4,16 +4,15 @@ ghost use Rattle.std.specs.Prelude.{◌≡◌, ◌++◌, [], ◌∷◌, map, cod
 ghost use Rattle.std.specs.Option.{option_copied};
 ghost use Rattle.std.specs.List.{flat_map};
 ghost use Rattle.eds_tree.specs.Trees.{attribute_at};
-ghost use Rattle.eds_generic.specs.Faces.{place_among};
+ghost use Rattle.eds_names.specs.Positions.{place_among};
 ghost use Rattle.eds_generic.specs.Reading.{own_name as own_name_of, type_or_first, names_among, names_at as names_at_place, base_type as base_type_of, generic_of as generic_at, source_named as source_at_name, source_of as source_at, mapped_of as mapped_at, base_face as base_face_of, base_of as base_at, mode_named as mode_by_name, parameter_of, argument_of as argument_at, command_of, members_of, face_at, face_of_place, face_places as face_places_of, faces_of};
 
 use crate::elements::{
     face_found, held_by, held_in_sets, own_name, place, read_only, text_of, type_found,
 };
 use crate::face::{Base, Face, Generic, Mapped, OwnArgument, OwnMember, Source};
-use crate::generic_names::GenericNames;
 use eds_base::{FaceId, Items, Memory, Place, Text, TypeId};
-use eds_names::Space;
+use eds_names::{NameList, Space};
 use eds_plan::Mode;
 use eds_tree::Tree;
 use std::alloc::Global;
@@ -25,7 +24,7 @@ struct File<'a> {
     space: &'a Space,
     file: u16,
     /// The generic names of each interface.
-    all: &'a [GenericNames],
+    all: &'a [NameList],
 }
 
 fn names_of(alloc: Global, tree: &Tree, nodes: &[u32]) -> Result<Vec<Text>, Memory>
@@ -78,7 +77,7 @@ fn type_or_zero(id: Option<TypeId>) -> TypeId
 fn source_named(
     alloc: Global,
     file: &File,
-    own: &GenericNames,
+    own: &NameList,
     node: u32,
     text: &str,
 ) -> Result<Source, Memory>
@@ -93,14 +92,14 @@ fn source_named(
     }
 }
 
-fn source_of(alloc: Global, file: &File, own: &GenericNames, node: u32) -> Result<Source, Memory>
+fn source_of(alloc: Global, file: &File, own: &NameList, node: u32) -> Result<Source, Memory>
     ensures { IfOk result (λ s. s ≡ source_at file.now.tree.now file.now.space.now file.now.file own.now node) }
 {
     source_named(alloc, file, own, node, text_of(file.tree, node, "type"))
 }
 
 /// The position of a name among the generic names of the interface of a number.
-fn position_in(all: &[GenericNames], id: FaceId, name: &str) -> Option<usize>
+fn position_in(all: &[NameList], id: FaceId, name: &str) -> Option<usize>
     ensures { result ≡ place_among (names_among all.now id) name.now }
 {
     match all.get(id.0 as usize) {
@@ -112,7 +111,7 @@ fn position_in(all: &[GenericNames], id: FaceId, name: &str) -> Option<usize>
 fn mapped_of(
     alloc: Global,
     file: &File,
-    own: &GenericNames,
+    own: &NameList,
     id: FaceId,
     node: u32,
 ) -> Result<Mapped, Memory>
@@ -131,7 +130,7 @@ fn mapped_of(
 fn maps_of(
     alloc: Global,
     file: &File,
-    own: &GenericNames,
+    own: &NameList,
     id: FaceId,
     nodes: &[u32],
 ) -> Result<Vec<Mapped>, Memory>
@@ -155,7 +154,7 @@ fn base_face(alloc: Global, file: &File, node: u32) -> Result<FaceId, Memory>
     }
 }
 
-fn base_of(alloc: Global, file: &File, own: &GenericNames, node: u32) -> Result<Base, Memory>
+fn base_of(alloc: Global, file: &File, own: &NameList, node: u32) -> Result<Base, Memory>
     ensures { IfOk result (λ b. b ≡ base_at file.now.tree.now file.now.space.now file.now.file file.now.all.now own.now node) }
 {
     let face = base_face(alloc, file, node)?;
@@ -176,7 +175,7 @@ fn base_of(alloc: Global, file: &File, own: &GenericNames, node: u32) -> Result<
 fn bases_of(
     alloc: Global,
     file: &File,
-    own: &GenericNames,
+    own: &NameList,
     nodes: &[u32],
 ) -> Result<Vec<Base>, Memory>
     ensures { IfOk result (λ v. v.items ≡ map (base_at file.now.tree.now file.now.space.now file.now.file file.now.all.now own.now) nodes.now) }
@@ -207,7 +206,7 @@ fn push_parameter(
     alloc: Global,
     members: &mut Vec<OwnMember>,
     file: &File,
-    own: &GenericNames,
+    own: &NameList,
     node: u32,
 ) -> Result<(), Memory>
     ensures { OnOk result (members.new.items ≡ members.old.items ++ parameter_of file.now.tree.now file.now.space.now file.now.file own.now node ∷ []) }
@@ -221,7 +220,7 @@ fn push_parameter(
 fn argument_of(
     alloc: Global,
     file: &File,
-    own: &GenericNames,
+    own: &NameList,
     node: u32,
 ) -> Result<OwnArgument, Memory>
     ensures { IfOk result (λ a. a ≡ argument_at file.now.tree.now file.now.space.now file.now.file own.now node) }
@@ -238,7 +237,7 @@ fn argument_of(
 fn arguments_of(
     alloc: Global,
     file: &File,
-    own: &GenericNames,
+    own: &NameList,
     nodes: &[u32],
 ) -> Result<Vec<OwnArgument>, Memory>
     ensures { IfOk result (λ v. v.items ≡ map (argument_at file.now.tree.now file.now.space.now file.now.file own.now) nodes.now) }
@@ -255,7 +254,7 @@ fn push_command(
     alloc: Global,
     members: &mut Vec<OwnMember>,
     file: &File,
-    own: &GenericNames,
+    own: &NameList,
     node: u32,
 ) -> Result<(), Memory>
     ensures { OnOk result (members.new.items ≡ members.old.items ++ command_of file.now.tree.now file.now.space.now file.now.file own.now node ∷ []) }
@@ -271,7 +270,7 @@ fn push_parameters(
     alloc: Global,
     members: &mut Vec<OwnMember>,
     file: &File,
-    own: &GenericNames,
+    own: &NameList,
     nodes: &[u32],
 ) -> Result<(), Memory>
     ensures { OnOk result (members.new.items ≡ members.old.items ++ map (parameter_of file.now.tree.now file.now.space.now file.now.file own.now) nodes.now) }
@@ -286,7 +285,7 @@ fn push_commands(
     alloc: Global,
     members: &mut Vec<OwnMember>,
     file: &File,
-    own: &GenericNames,
+    own: &NameList,
     nodes: &[u32],
 ) -> Result<(), Memory>
     ensures { OnOk result (members.new.items ≡ members.old.items ++ map (command_of file.now.tree.now file.now.space.now file.now.file own.now) nodes.now) }
@@ -300,7 +299,7 @@ fn push_commands(
 fn own_members(
     alloc: Global,
     file: &File,
-    own: &GenericNames,
+    own: &NameList,
     node: u32,
 ) -> Result<Vec<OwnMember>, Memory>
     ensures { IfOk result (λ v. v.items ≡ members_of file.now.tree.now file.now.space.now file.now.file own.now node) }
@@ -318,7 +317,7 @@ fn read_face(alloc: Global, file: &File, node: u32) -> Result<Face, Memory>
 {
     let nodes = held_in_sets(alloc, file.tree, "GenericTypeSet", "GenericType", node)?;
     let names = names_of(alloc, file.tree, nodes.as_slice())?;
-    let own = GenericNames::of(alloc, names)?;
+    let own = NameList::of(alloc, names)?;
     let generics = generics_of(alloc, file, nodes.as_slice())?;
     let found = held_in_sets(alloc, file.tree, "BaseInterfaceSet", "Base", node)?;
     let bases = bases_of(alloc, file, &own, found.as_slice())?;
@@ -342,7 +341,7 @@ fn push_face(
     faces: &mut Vec<Face>,
     trees: &[Tree],
     space: &Space,
-    all: &[GenericNames],
+    all: &[NameList],
     at: Place,
 ) -> Result<(), Memory>
     ensures { OnOk result (faces.new.items ≡ faces.old.items ++ face_of_place trees.now space.now all.now at) }
@@ -375,21 +374,21 @@ fn face_places(alloc: Global, space: &Space) -> Result<Vec<Place>, Memory>
     Ok(places)
 }
 
-fn names_at(alloc: Global, trees: &[Tree], at: Place) -> Result<GenericNames, Memory>
+fn names_at(alloc: Global, trees: &[Tree], at: Place) -> Result<NameList, Memory>
     ensures { IfOk result (λ g. g ≡ names_at_place trees.now at) }
 {
     match tree_at(trees, at.file) {
-        None => GenericNames::of(alloc, Vec::new(alloc)),
+        None => NameList::of(alloc, Vec::new(alloc)),
         Some(tree) => {
             let nodes = held_in_sets(alloc, tree, "GenericTypeSet", "GenericType", at.node)?;
             let names = names_of(alloc, tree, nodes.as_slice())?;
-            GenericNames::of(alloc, names)
+            NameList::of(alloc, names)
         }
     }
 }
 
 /// The generic names of the interfaces at some places.
-fn all_names(alloc: Global, trees: &[Tree], places: &[Place]) -> Result<Vec<GenericNames>, Memory>
+fn all_names(alloc: Global, trees: &[Tree], places: &[Place]) -> Result<Vec<NameList>, Memory>
     ensures { IfOk result (λ v. v.items ≡ map (names_at_place trees.now) places.now) }
 {
     let mut all = Vec::new(alloc);

@@ -8,3 +8,4 @@ pub mod Differing
 pub mod Numbering
 pub mod Surrounded
 pub mod Own
+pub mod Positions

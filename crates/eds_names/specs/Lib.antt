@@ -1,3 +1,4 @@
+pub mod Positions
 pub mod Standings
 pub mod Repeats
 pub mod Declarations

@@ -4,10 +4,12 @@
 mod around;
 mod declared;
 pub mod law;
+mod name_list;
 mod owned;
 mod repeat;
 mod space;
 mod standing;
 
 pub use declared::{Declared, Item};
+pub use name_list::NameList;
 pub use space::Space;

@@ -146,6 +146,9 @@ text_encoding = attribute "encoding" (words ("ASCII" ∷ "UTF-8" ∷ []))
 abbrev pub toState : AttributeRow
 toState = attribute "toState" Name
 
+abbrev pub transaction : AttributeRow
+transaction = attribute "transaction" Name
+
 abbrev pub type_ : AttributeRow
 type_ = attribute "type" Reference
 
@@ -270,7 +273,7 @@ table_three =
     element "MathOperation" (anywhere (outputVariableRef ∷ []) [] (any "OPERAND" ∷ any "Operator" ∷ [])) ∷
     element "MinMaxRange" (anywhere (rangeType ∷ []) (min ∷ max ∷ []) []) ∷
     element "ORedConditions" (anywhere [] [] (at_least_one "CONDITION" ∷ [])) ∷
-    element "OnCommandPrimitive" (anywhere (interface ∷ command ∷ []) [] []) ∷
+    element "OnCommandPrimitive" (anywhere (interface ∷ command ∷ []) (transaction ∷ []) []) ∷
     element "OnConditionFalse" (anywhere [] [] (any "STATEMENT" ∷ [])) ∷ []
 
 -- the elements from OnConditionTrue to SendCommandPrimitive
@@ -279,7 +282,7 @@ table_four =
     element "OnConditionTrue" (anywhere [] [] (any "STATEMENT" ∷ [])) ∷
     element "OnEntry" (anywhere (activity ∷ []) [] (any "ArgumentValue" ∷ [])) ∷
     element "OnExit" (anywhere (activity ∷ []) [] (any "ArgumentValue" ∷ [])) ∷
-    element "OnParameterPrimitive" (anywhere (interface ∷ parameter ∷ []) (operation ∷ []) []) ∷
+    element "OnParameterPrimitive" (anywhere (interface ∷ parameter ∷ []) (operation ∷ transaction ∷ []) []) ∷
     element "OnTimer" (anywhere (nanosecondsAfterEntry ∷ []) [] []) ∷
     element "Operator" (anywhere (operator ∷ []) [] []) ∷
     element "Package" (anywhere (package_name ∷ []) [] (any "DataTypeSet" ∷ any "DeclaredInterfaceSet" ∷ any "ComponentSet" ∷ [])) ∷
@@ -294,12 +297,12 @@ table_four =
     element "Range" (anywhere [] [] (one "MinMaxRange" ∷ [])) ∷
     element "RangeConstraint" (anywhere (entry ∷ []) [] (one "MinMaxRange" ∷ [])) ∷
     element "RequiredInterfaceSet" (anywhere [] [] (any "Interface" ∷ [])) ∷
-    element "SendCommandPrimitive" (anywhere (interface ∷ command ∷ []) [] (any "ArgumentValue" ∷ [])) ∷ []
+    element "SendCommandPrimitive" (anywhere (interface ∷ command ∷ []) (transaction ∷ []) (any "ArgumentValue" ∷ [])) ∷ []
 
 -- the elements from SendParameterPrimitive to VariableSet
 unfoldable pub table_five : List ElementRow
 table_five =
-    element "SendParameterPrimitive" (anywhere (interface ∷ parameter ∷ []) (operation ∷ []) (at_most_one "OPERAND" ∷ [])) ∷
+    element "SendParameterPrimitive" (anywhere (interface ∷ parameter ∷ []) (operation ∷ transaction ∷ []) (at_most_one "OPERAND" ∷ [])) ∷
     element "StartAt" (anywhere [] [] (one "OPERAND" ∷ [])) ∷
     element "State" (anywhere (name ∷ []) [] (at_most_one "OnEntry" ∷ at_most_one "OnExit" ∷ [])) ∷
     element "StateMachine" (anywhere (name ∷ []) [] (any "EntryState" ∷ any "State" ∷ any "ExitState" ∷ any "Transition" ∷ [])) ∷

@@ -41,7 +41,7 @@ have_texts (member k d ms) = has_text d && have_texts ms
 
 -- the attributes that make an element unsupported wherever they stand
 abbrev pub is_watched : List ℕ → Bool
-is_watched name = list_any (same name) (map codes ("failed" ∷ "fixedValue" ∷ "transaction" ∷ []))
+is_watched name = list_any (same name) (map codes ("failed" ∷ "fixedValue" ∷ []))
 
 -- the attributes that a tree keeps: not those with a prefix, nor those that the table doesn't list and no rule asks for
 abbrev pub is_kept : Option ElementShape → List ℕ → Bool

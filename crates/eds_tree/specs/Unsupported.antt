@@ -74,10 +74,6 @@ has_failed name held = may_fail name && spells_flag true (text_among held (codes
 abbrev pub has_fixed_value : (name : List ℕ) → List (List ℕ × List ℕ) → Bool
 has_fixed_value name held = same name (codes "GenericTypeMap") && has_attribute held (codes "fixedValue")
 
--- a primitive of a transaction
-abbrev pub has_transaction : List (List ℕ × List ℕ) → Bool
-has_transaction held = has_attribute held (codes "transaction")
-
 -- ---- the rule
 
 -- a word, where a test holds
@@ -93,8 +89,7 @@ abbrev pub unsupported_words : (parent name : List ℕ) → List (List ℕ × Li
 unsupported_words parent name held =
     word_if (is_element_unsupported parent name held) name
     ++ (word_if (has_failed name held) (codes "failed")
-    ++ (word_if (has_fixed_value name held) (codes "fixedValue")
-    ++ word_if (has_transaction held) (codes "transaction")))
+    ++ word_if (has_fixed_value name held) (codes "fixedValue"))
 
 -- the first in byte order of what isn't supported of an element below the root
 abbrev pub unsupported_word : List Node → Link → Option (List ℕ)

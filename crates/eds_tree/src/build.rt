@@ -21,7 +21,7 @@ fn is_foreign(name: &str) -> bool
 fn is_watched(name: &str) -> bool
     ensures { result ≡ watched name.now }
 {
-    name == "failed" || name == "fixedValue" || name == "transaction"
+    name == "failed" || name == "fixedValue"
 }
 
 fn is_kept(shape: Option<&'static Shape>, name: &str) -> bool

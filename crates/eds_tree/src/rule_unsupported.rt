@@ -2,7 +2,7 @@
 
 ghost use Rattle.std.specs.Prelude.{◌≡◌, option_map, map};
 ghost use Rattle.eds_tree.specs.ByteOrder.{first_from, first_in_order};
-ghost use Rattle.eds_tree.specs.Unsupported.{is_named_unsupported as is_named, is_zero_or_one as zero_or_one, is_other_exponent as other_exponent, is_fractional as fractional, is_other_word as other_word, has_unsupported_text as unsupported_text, spells_flag as flag_spelled, has_failed as waits_for_failure, has_fixed_value as fixed_value, has_transaction as transaction, is_element_unsupported as element_unsupported, word_if, unsupported_words, unsupported_word as unsupported_word_of, is_unsupported as is_unsupported_at};
+ghost use Rattle.eds_tree.specs.Unsupported.{is_named_unsupported as is_named, is_zero_or_one as zero_or_one, is_other_exponent as other_exponent, is_fractional as fractional, is_other_word as other_word, has_unsupported_text as unsupported_text, spells_flag as flag_spelled, has_failed as waits_for_failure, has_fixed_value as fixed_value, is_element_unsupported as element_unsupported, word_if, unsupported_words, unsupported_word as unsupported_word_of, is_unsupported as is_unsupported_at};
 
 use crate::attributes::has_attribute;
 use crate::breaks::{ElementRule, refusal};
@@ -122,12 +122,6 @@ fn has_fixed_value(name: &str, attributes: &[(Text, Text)]) -> bool
     name == "GenericTypeMap" && has_attribute(attributes, "fixedValue")
 }
 
-fn has_transaction(attributes: &[(Text, Text)]) -> bool
-    ensures { result ≡ transaction attributes.now }
-{
-    has_attribute(attributes, "transaction")
-}
-
 fn is_element_unsupported(parent: &str, name: &str, attributes: &[(Text, Text)]) -> bool
     ensures { result ≡ element_unsupported parent.now name.now attributes.now }
 {
@@ -149,8 +143,7 @@ fn first_unsupported<'a>(
 {
     let found = first_if(None, is_element_unsupported(parent, name, attributes), name);
     let found = first_if(found, has_failed(name, attributes), "failed");
-    let found = first_if(found, has_fixed_value(name, attributes), "fixedValue");
-    first_if(found, has_transaction(attributes), "transaction")
+    first_if(found, has_fixed_value(name, attributes), "fixedValue")
 }
 
 /// The first in byte order of what is not supported of an element below the root.

@@ -143,6 +143,9 @@ macro_rules! attribute {
     (toState) => {
         Attribute { name: "toState", form: Form::Name }
     };
+    (transaction) => {
+        Attribute { name: "transaction", form: Form::Name }
+    };
     (type) => {
         Attribute { name: "type", form: Form::Reference }
     };
@@ -267,7 +270,7 @@ static THREE: [Row; 19] = rows! {
     MathOperation { needs (outputVariableRef) may () holds (any OPERAND, any Operator) }
     MinMaxRange { needs (rangeType) may (min max) holds () }
     ORedConditions { needs () may () holds (at_least_one CONDITION) }
-    OnCommandPrimitive { needs (interface command) may () holds () }
+    OnCommandPrimitive { needs (interface command) may (transaction) holds () }
     OnConditionFalse { needs () may () holds (any STATEMENT) }
 };
 
@@ -282,7 +285,7 @@ static FOUR: [Row; 19] = rows! {
     OnConditionTrue { needs () may () holds (any STATEMENT) }
     OnEntry { needs (activity) may () holds (any ArgumentValue) }
     OnExit { needs (activity) may () holds (any ArgumentValue) }
-    OnParameterPrimitive { needs (interface parameter) may (operation) holds () }
+    OnParameterPrimitive { needs (interface parameter) may (operation transaction) holds () }
     OnTimer { needs (nanosecondsAfterEntry) may () holds () }
     Operator { needs (operator) may () holds () }
     Package { needs (package_name) may () holds (any DataTypeSet, any DeclaredInterfaceSet, any ComponentSet) }
@@ -297,7 +300,7 @@ static FOUR: [Row; 19] = rows! {
     Range { needs () may () holds (one MinMaxRange) }
     RangeConstraint { needs (entry) may () holds (one MinMaxRange) }
     RequiredInterfaceSet { needs () may () holds (any Interface) }
-    SendCommandPrimitive { needs (interface command) may () holds (any ArgumentValue) }
+    SendCommandPrimitive { needs (interface command) may (transaction) holds (any ArgumentValue) }
 };
 
 #[tactic(auto, unfolding(crate::specs::ElementTable::table_four))]
@@ -308,7 +311,7 @@ fn rows_four() -> &'static [Row]
 }
 
 static FIVE: [Row; 18] = rows! {
-    SendParameterPrimitive { needs (interface parameter) may (operation) holds (at_most_one OPERAND) }
+    SendParameterPrimitive { needs (interface parameter) may (operation transaction) holds (at_most_one OPERAND) }
     StartAt { needs () may () holds (one OPERAND) }
     State { needs (name) may () holds (at_most_one OnEntry, at_most_one OnExit) }
     StateMachine { needs (name) may () holds (any EntryState, any State, any ExitState, any Transition) }

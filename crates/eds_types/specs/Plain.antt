@@ -1,6 +1,7 @@
 -- Values as plain data.
-use Rattle.std.specs.Prelude.{ℕ, ℤ, List, [], ◌∷◌, Bool}
+use Rattle.std.specs.Prelude.{ℕ, ℤ, pos, List, [], ◌∷◌, Bool}
 use Rattle.eds_types.specs.declared.value.Value.{Value, fold-Value}
+use Rattle.eds_types.specs.declared.value.Value.TheVariants as value
 use Rattle.eds_types.specs.declared.value.Value.TheOpen.{Value-F}
 
 mutual
@@ -42,3 +43,13 @@ plain_step (Value-F.Fields k vs) = fields k.0 (plains_of vs.items)
 -- the plain data of a value
 abbrev pub plain : Value → Plain
 plain = fold-Value Plain plain_step
+
+-- the value of which this is the plain data, 0 in the place of a list of others
+abbrev pub stored : Plain → Value
+stored (num n) = value.Num n
+stored (label l) = value.Label l
+stored (truth b) = value.Bool b
+stored (text s) = value.Text s
+stored (bits n o) = value.Bits n o
+stored (items vs) = value.Num (pos 0)
+stored (fields k vs) = value.Num (pos 0)

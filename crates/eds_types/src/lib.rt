@@ -28,6 +28,6 @@ pub use row::{
 pub use sequence::Sequence;
 pub use sets::{PathSet, Sets};
 pub use table::TypeTable;
-pub use texts::{number_of_label, text_value};
+pub use texts::{number_of_label, stored, text_value};
 pub use value::Value;
 pub use values::Values;

@@ -4,7 +4,7 @@ ghost use Rattle.std.specs.Prelude.{◌≡◌, ◌↔◌, IfOk, IsTrue, nat_eq, 
 ghost use Rattle.std.specs.List.{list_any};
 ghost use Rattle.eds_bits.specs.Scalars.{IsCoded};
 ghost use Rattle.eds_types.specs.Fields.{listed};
-ghost use Rattle.eds_types.specs.Plain.{plain};
+ghost use Rattle.eds_types.specs.Plain.{plain, stored as stored_of};
 ghost use Rattle.eds_types.specs.PackedSizes.{text_fits as text_fits_of};
 ghost use Rattle.eds_types.specs.Reading.{is_within};
 ghost use Rattle.eds_types.specs.TextValues.{number_value as number_value_of, label_value as label_value_of, truth_value as truth_value_of, string_value as string_value_of, octets_value as octets_value_of, binary_value as binary_value_of, text_value_of};
@@ -139,5 +139,20 @@ pub fn text_value(alloc: Global, kind: &Kind, text: &str) -> Result<Option<Value
         Kind::Str(form) => string_value(alloc, *form, text),
         Kind::Bin(size, is_open) => binary_value(alloc, *size, *is_open, text),
         Kind::Arr(_, _) | Kind::Con(_) => Ok(None),
+    }
+}
+
+/// A value that is no list of others, 0 in its place.
+pub fn stored(value: Value) -> Value
+    ensures { result ≡ stored_of (plain value) }
+{
+    match value {
+        Value::Num(n) => Value::Num(n),
+        Value::Label(label) => Value::Label(label),
+        Value::Bool(truth) => Value::Bool(truth),
+        Value::Text(text) => Value::Text(text),
+        Value::Bits(bits, octets) => Value::Bits(bits, octets),
+        Value::Items(_) => Value::Num(0),
+        Value::Fields(_, _) => Value::Num(0),
     }
 }

@@ -2,25 +2,24 @@
 
 ghost use Rattle.std.specs.Prelude.{◌≡◌, ℕ, List, OnOk, IfOk};
 ghost use Rattle.std.specs.HashMap.{get_by_text};
-ghost use Rattle.eds_generic.specs.Faces.{place_among};
-ghost use Rattle.eds_generic.specs.Names.{or_else, entry_at};
+ghost use Rattle.eds_names.specs.Positions.{place_among, or_else, entry_at};
 
 use eds_base::{Items, Memory, Text};
 use indexmap::IndexMap;
 use std::alloc::Global;
 use std::marker::Model;
 
-/// Names in order, as the generic names of an interface. The position of a name is found by hash.
+/// Names in order, as the generic names of an interface or the variables of a component. The position of a name is found by hash.
 #[derive(Drop)]
-pub struct GenericNames {
+pub struct NameList {
     names: Items<Text>,
     index: IndexMap<String, usize>,
 }
 
-impl Model for GenericNames {
+impl Model for NameList {
     ghost use Rattle.std.specs.Prelude.{◌≡◌, ℕ, List};
     ghost use Rattle.std.specs.HashMap.{get_by_text};
-    ghost use Rattle.eds_generic.specs.Faces.{place_among};
+    ghost use Rattle.eds_names.specs.Positions.{place_among};
 
     ghost Value = { List (List ℕ) };
 
@@ -55,13 +54,13 @@ fn index_of(alloc: Global, names: &[Text]) -> Result<IndexMap<String, usize>, Me
     Ok(index)
 }
 
-impl GenericNames {
+impl NameList {
     /// These names.
-    pub fn of(alloc: Global, names: Vec<Text>) -> Result<GenericNames, Memory>
+    pub fn of(alloc: Global, names: Vec<Text>) -> Result<NameList, Memory>
         ensures { IfOk result (λ g. g ≡ names.items) }
     {
         let index = index_of(alloc, names.as_slice())?;
-        Ok(GenericNames {
+        Ok(NameList {
             names: Items::from_vec(names),
             index,
         })

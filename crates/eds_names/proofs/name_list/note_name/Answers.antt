@@ -3,8 +3,8 @@ use Rattle.std.specs.HashMap.{get_by_text}
 use Rattle.std.specs.Map.{update}
 use Rattle.std.specs.Str.{bytes_eq}
 use Rattle.std.proofs.lemmas.Map.Text.{hash_map_updates_text}
-use Rattle.eds_generic.proofs.Indexing.{noted, kept}
-use Rattle.eds_generic.proofs.generic_names.note_name.Goals as goal
+use Rattle.eds_names.proofs.Positions.{noted, kept}
+use Rattle.eds_names.proofs.name_list.note_name.Goals as goal
 
 pub returns-then-contains_key : goal.returns-then-contains_key
 returns-then-contains_key c q = kept (get_by_text c.args.index.now) c.args.at c.args.name.now q (sym c.contains_key.ensures ∙ c.if-contains_key.true)

@@ -1,7 +1,7 @@
 use Rattle.std.proofs.Common.{◌∙◌, arith}
 use Rattle.std.specs.HashMap.{get_by_text}
-use Rattle.eds_generic.proofs.Indexing.{place-next}
-use Rattle.eds_generic.proofs.generic_names.index_of.Goals as goal
+use Rattle.eds_names.proofs.Positions.{place-next}
+use Rattle.eds_names.proofs.name_list.index_of.Goals as goal
 
 pub loop-at-preserved : goal.loop-at-preserved
 loop-at-preserved c =
