@@ -1,5 +1,5 @@
 -- Plans that fit their table: what is named is there, and operands fit what takes them.
-use Rattle.std.specs.Prelude.{◌≡◌, ◌≢◌, ℕ, suc, ◌+◌, ◌<◌, ℤ, pos, List, [], ◌∷◌, length, map, Option, Some, None, slice_get, ◌⊎◌}
+use Rattle.std.specs.Prelude.{◌≡◌, ◌≢◌, ◌≤◌, ◌<◌, ◌+◌, ◌^◌, ℕ, suc, ℤ, pos, List, [], ◌∷◌, length, Bool, true, Option, Some, None, slice_get, ◌⊎◌}
 use Rattle.std.specs.List.{AllByRecursion}
 use Rattle.eds_base.specs.declared.ids.TypeId.{TypeId}
 use Rattle.eds_bits.specs.Lists.{Has}
@@ -10,7 +10,9 @@ use Rattle.eds_types.specs.declared.row.Part.TheVariants as part
 use Rattle.eds_types.specs.Fields.{part_at, IsAtOrUnder}
 use Rattle.eds_types.specs.Plain.{Plain, plain, num}
 use Rattle.eds_types.specs.Rows.{Table, chain}
+use Rattle.eds_plan.specs.declared.activity.Action.{Action}
 use Rattle.eds_plan.specs.declared.activity.Activity.{Activity}
+use Rattle.eds_plan.specs.declared.activity.Guard.{Guard}
 use Rattle.eds_plan.specs.declared.activity.MathItem.{MathItem}
 use Rattle.eds_plan.specs.declared.activity.MathItem.TheVariants as math
 use Rattle.eds_plan.specs.declared.activity.Op.{Op}
@@ -22,11 +24,23 @@ use Rattle.eds_plan.specs.declared.activity.Relation.TheVariants.{Equal, NotEqua
 use Rattle.eds_plan.specs.declared.activity.Target.{Target}
 use Rattle.eds_plan.specs.declared.component.ComponentPlan.{ComponentPlan}
 use Rattle.eds_plan.specs.declared.component.EndPlan.{EndPlan}
+use Rattle.eds_plan.specs.declared.component.MapPlan.{MapPlan}
 use Rattle.eds_plan.specs.declared.instance.Argument.{Argument}
 use Rattle.eds_plan.specs.declared.instance.Member.{Member}
 use Rattle.eds_plan.specs.declared.instance.Member.TheVariants as member
 use Rattle.eds_plan.specs.declared.component.VarPlan.{VarPlan}
-use Rattle.eds_plan.specs.Statements.{Condition, Conditions, compare, every, some, none, more, Stmt, Stmts, assign, calculate, choose, iterate, call, send_command, send_parameter, done, next, stmts, stmts_of}
+use Rattle.eds_plan.specs.declared.machine.Machine.{Machine}
+use Rattle.eds_plan.specs.declared.machine.State.{State}
+use Rattle.eds_plan.specs.declared.machine.Transition.{Transition}
+use Rattle.eds_plan.specs.declared.machine.Trigger.{Trigger}
+use Rattle.eds_plan.specs.declared.machine.Trigger.TheVariants as trigger
+use Rattle.eds_plan.specs.declared.run.End.{End}
+use Rattle.eds_plan.specs.declared.run.Way.{Way}
+use Rattle.eds_plan.specs.Carried.{OpFits, arriving, carried, leaving}
+use Rattle.eds_plan.specs.Ends.{end_at}
+use Rattle.eds_plan.specs.Interfaces.{same_interface}
+use Rattle.eds_plan.specs.Plans.{argument_types, variable_types}
+use Rattle.eds_plan.specs.Statements.{Condition, condition, Conditions, compare, every, some, none, more, Stmt, Stmts, assign, calculate, choose, iterate, call, send_command, send_parameter, done, next, stmts, stmts_of}
 
 -- ---- types
 
@@ -62,6 +76,23 @@ IsNumeric k = ⊥
 -- the type is of numbers
 abbrev pub IsNumberType : Table → ℕ → Type 0
 IsNumberType t id = (row : TypeRow) × (slice_get t id ≡ Some row) × IsNumeric row.kind
+
+-- ---- members and transactions
+
+-- at an end of the component, over which things go this way, such a thing may be done at a member, which then carries values
+-- of these types
+pub record CarriesAt (way : Bool → Way) (c : ComponentPlan) (face number : ℕ) (o : Op) (ids : List ℕ) : Type 0 where
+  pub end : EndPlan
+  pub end_is : slice_get c.ends face ≡ Some end
+  pub member : Member
+  pub member_is : slice_get end.instance.members number ≡ Some member
+  pub op : OpFits o (way end.required) member
+  pub types : ids ≡ carried o (way end.required) (Some member)
+
+-- a transaction, if one is named, is one of so many
+abbrev pub IsNumbered : ℕ → Option ℕ → Type 0
+IsNumbered count None = Unit {0}
+IsNumbered count (Some name) = name < count
 
 -- ---- operands; Conforms says which values pack as a type
 
@@ -129,9 +160,10 @@ module _ (t : Table) (Conforms : ℕ → Plain → Type 0) (vars args : List ℕ
   LeavesOne n (math.Operand a ∷ is) = IsNumber a × LeavesOne (n + 1) is
   LeavesOne n (math.Operator o ∷ is) = (m : ℕ) × (n ≡ suc (suc m)) × LeavesOne (suc m) is
 
-  -- ---- statements, where Calls says which activities have which types of arguments, and Carries what a member carries
+  -- ---- statements, where Calls says which activities have which types of arguments, Carries what a member carries, and
+  -- there are so many transactions
 
-  module _ (Calls : ℕ → List ℕ → Type 0) (Carries : ℕ → ℕ → Op → List ℕ → Type 0) where
+  module _ (Calls : ℕ → List ℕ → Type 0) (Carries : ℕ → ℕ → Op → List ℕ → Type 0) (transactions : ℕ) where
     -- the target has the type
     abbrev pub TargetHas : Target → ℕ → Type 0
     TargetHas x id = HasType vars x.variable x.path id
@@ -149,13 +181,53 @@ module _ (t : Table) (Conforms : ℕ → Plain → Type 0) (vars args : List ℕ
       StatementFits (choose g a b) = ConditionFits g × StatementsFit a × StatementsFit b
       StatementFits (iterate x a b step body) = (id : ℕ) × (slice_get vars x ≡ Some id) × IsNumberType t id × IsNumber a × IsNumber b × (step ≢ pos 0) × StatementsFit body
       StatementFits (call action) = (ids : List ℕ) × Calls action.activity ids × OperandsFit ids action.operands
-      StatementFits (send_command end member operands name) = (ids : List ℕ) × Carries end member op.Command ids × OperandsFit ids operands
-      StatementFits (send_parameter end member o operand name) = (ids : List ℕ) × Carries end member o ids × OperandsFit ids (list_of_option operand)
+      StatementFits (send_command end member operands name) = (ids : List ℕ) × Carries end member op.Command ids × OperandsFit ids operands × IsNumbered transactions name
+      StatementFits (send_parameter end member o operand name) = (ids : List ℕ) × Carries end member o ids × OperandsFit ids (list_of_option operand) × IsNumbered transactions name
 
       -- each of some statements fits
       pub StatementsFit : Stmts → Type 0
       StatementsFit done = Unit {0}
       StatementsFit (next s ss) = StatementFits s × StatementsFit ss
+
+-- ---- machines
+
+-- a trigger's event carries values of these types; a timer waits for at most 10^18 nanoseconds
+abbrev pub Brings : ComponentPlan → Trigger → List ℕ → Type 0
+Brings c trigger.Start ids = ids ≡ []
+Brings c (trigger.Command face number) ids = CarriesAt arriving c face number op.Command ids
+Brings c (trigger.Param face number o) ids = CarriesAt arriving c face number o ids
+Brings c (trigger.Timer n) ids = (n ≤ 10 ^ 18) × (ids ≡ [])
+
+-- an action, if there is one, is of an activity that is there, with operands that fit its arguments
+abbrev pub ActionFits : Table → (Conforms : ℕ → Plain → Type 0) → ComponentPlan → (args : List ℕ) → Option Action → Type 0
+ActionFits t Conforms c args None = Unit {0}
+ActionFits t Conforms c args (Some a) = (b : Activity) × (slice_get c.activities a.activity ≡ Some b) × OperandsFit t Conforms (variable_types c) args (argument_types b) a.operands
+
+-- the operands of a guard, if there is one, fit each other
+abbrev pub GuardFits : Table → (Conforms : ℕ → Plain → Type 0) → ComponentPlan → (args : List ℕ) → Option Guard → Type 0
+GuardFits t Conforms c args None = Unit {0}
+GuardFits t Conforms c args (Some g) = ConditionFits t Conforms (variable_types c) args (condition g)
+
+-- what is done where a state is entered and left sees no arguments
+pub record StateFits (t : Table) (Conforms : ℕ → Plain → Type 0) (c : ComponentPlan) (s : State) : Type 0 where
+  pub at_entry : ActionFits t Conforms c [] s.at_entry
+  pub at_exit : ActionFits t Conforms c [] s.at_exit
+
+-- a transition leads from a state to a state, and its guard and action see what its event carries
+pub record TransitionFits (t : Table) (Conforms : ℕ → Plain → Type 0) (c : ComponentPlan) (machine : Machine) (x : Transition) : Type 0 where
+  pub from : x.from < length machine.states
+  pub to : x.to < length machine.states
+  pub brought : List ℕ
+  pub event : Brings c x.event brought
+  pub transaction : IsNumbered (length c.transactions) x.transaction
+  pub guard : GuardFits t Conforms c brought x.guard
+  pub action : ActionFits t Conforms c brought x.action
+
+-- a machine begins in one of its states
+pub record MachineFits (t : Table) (Conforms : ℕ → Plain → Type 0) (c : ComponentPlan) (machine : Machine) : Type 0 where
+  pub entry : machine.entry < length machine.states
+  pub states : AllByRecursion (StateFits t Conforms c) machine.states
+  pub transitions : AllByRecursion (TransitionFits t Conforms c machine) machine.transitions
 
 -- ---- components
 
@@ -165,15 +237,42 @@ MemberKnown t None = Unit {0}
 MemberKnown t (Some (member.Parameter name id read_only)) = id.0 < length t
 MemberKnown t (Some (member.Command name args)) = AllByRecursion (λ (a : Argument). a.id.0 < length t) args
 
--- the first values of a component pack, its types are there and its statements fit, where Carries says what a member carries
-pub record ComponentFits (t : Table) (Conforms : ℕ → Plain → Type 0) (Carries : ℕ → ℕ → Op → List ℕ → Type 0) (c : ComponentPlan) : Type 0 where
+-- a map is of a parameter at an end and of a variable of the parameter's type
+pub record MapFits (c : ComponentPlan) (m : MapPlan) : Type 0 where
+  pub end : EndPlan
+  pub end_is : slice_get c.ends m.face ≡ Some end
+  pub name : List ℕ
+  pub id : TypeId
+  pub read_only : Bool
+  pub member_is : slice_get end.instance.members m.member ≡ Some (member.Parameter name id read_only)
+  pub variable : VarPlan
+  pub variable_is : slice_get c.variables m.variable ≡ Some variable
+  pub same : variable.id ≡ id
+
+-- an activity of which the types of arguments are these
+pub record TakesArguments (c : ComponentPlan) (activity : ℕ) (ids : List ℕ) : Type 0 where
+  pub body : Activity
+  pub is : slice_get c.activities activity ≡ Some body
+  pub types : ids ≡ argument_types body
+
+-- a component's variables, members, maps, activities and machines fit
+pub record ComponentFits (t : Table) (Conforms : ℕ → Plain → Type 0) (c : ComponentPlan) : Type 0 where
   -- each variable's first value packs, and so its type is there
   pub initial : AllByRecursion (λ (x : VarPlan). Conforms x.id.0 (plain x.initial)) c.variables
-  pub known : (i j : ℕ) (a : Activity) (id : ℕ) → slice_get c.activities i ≡ Some a → slice_get (map (λ (p : List ℕ × TypeId). (p.1).0) a.arguments) j ≡ Some id → id < length t
+  pub known : (i j : ℕ) (a : Activity) (id : ℕ) → slice_get c.activities i ≡ Some a → slice_get (argument_types a) j ≡ Some id → id < length t
   pub members : (i j : ℕ) (e : EndPlan) → slice_get c.ends i ≡ Some e → MemberKnown t (slice_get e.instance.members j)
+  pub maps : AllByRecursion (MapFits c) c.maps
   -- calls lead down, so that there is no cycle of them
   pub rank : ℕ → ℕ
   pub bodies : (i : ℕ) (a : Activity) → slice_get c.activities i ≡ Some a →
-      StatementsFit t Conforms (map (λ (x : VarPlan). x.id.0) c.variables) (map (λ (p : List ℕ × TypeId). (p.1).0) a.arguments)
-      (λ j ids. (b : Activity) × (slice_get c.activities j ≡ Some b) × (ids ≡ map (λ (p : List ℕ × TypeId). (p.1).0) b.arguments) × (rank j < rank i))
-      Carries (stmts_of (stmts a.body))
+      StatementsFit t Conforms (variable_types c) (argument_types a) (λ j ids. TakesArguments c j ids × (rank j < rank i)) (CarriesAt leaving c) (length c.transactions) (stmts_of (stmts a.body))
+  pub few : length c.machines ≤ 16
+  pub machines : AllByRecursion (MachineFits t Conforms c) c.machines
+
+-- ---- plans
+
+-- its components fit, and one interface under equal maps has the same members at each end
+pub record PlanFits (t : Table) (Conforms : ℕ → Plain → Type 0) (plan : List ComponentPlan) : Type 0 where
+  pub few : length plan ≤ 64
+  pub components : AllByRecursion (ComponentFits t Conforms) plan
+  pub same : (a b : End) (x y : EndPlan) → end_at plan a ≡ Some x → end_at plan b ≡ Some y → same_interface x.instance y.instance ≡ true → y.instance.members ≡ x.instance.members

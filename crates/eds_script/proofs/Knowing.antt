@@ -6,7 +6,7 @@ use Rattle.std.specs.List.{AllByRecursion}
 use Rattle.eds_plan.specs.declared.component.ComponentPlan.{ComponentPlan}
 use Rattle.eds_plan.specs.declared.component.EndPlan.{EndPlan}
 use Rattle.eds_plan.specs.declared.run.End.{End}
-use Rattle.eds_script.specs.Ends.{end_at, end_named, found_end}
+use Rattle.eds_plan.specs.Ends.{end_at, end_named, found_end}
 use Rattle.eds_plan.specs.Carried.{carried_fields, goes}
 use Rattle.eds_plan.specs.declared.instance.Argument.{Argument}
 use Rattle.eds_plan.specs.declared.instance.Member.{Member}

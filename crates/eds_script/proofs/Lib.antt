@@ -1,5 +1,4 @@
 mod Among
-mod Called
 mod Digits
 mod Knowing
 mod Packing

@@ -15,7 +15,7 @@ use Rattle.eds_script.specs.declared.why.LineWhy.{LineWhy}
 use Rattle.eds_script.specs.declared.why.LineWhy.TheVariants as why
 use Rattle.eds_script.specs.declared.words.Verb.{Verb}
 use Rattle.eds_script.specs.declared.words.Verb.TheVariants.{Cmd, Frame, Get, Set, Val}
-use Rattle.eds_script.specs.Ends.{found_end}
+use Rattle.eds_plan.specs.Ends.{found_end}
 use Rattle.eds_script.specs.Given.{frame_octets, given_arguments, given_value}
 use Rattle.eds_script.specs.Members.{Commanded, Parametered, command_from, parameter_from}
 use Rattle.eds_script.specs.Stops.{unless_stop}

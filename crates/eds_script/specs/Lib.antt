@@ -3,7 +3,6 @@ pub mod Words
 pub mod Seen
 pub mod Stops
 pub mod Numbers
-pub mod Ends
 pub mod Members
 pub mod Known
 pub mod Given

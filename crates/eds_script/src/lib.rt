@@ -2,7 +2,6 @@
 #![tactic(auto)]
 
 mod arrival;
-mod ends;
 mod given;
 mod lines;
 mod meaning;

@@ -5,19 +5,18 @@ ghost use Rattle.std.specs.HashMap.{get_by_text};
 ghost use Rattle.eds_base.specs.Answering.{Answers};
 ghost use Rattle.eds_plan.specs.Lines.{told};
 ghost use Rattle.eds_script.specs.Arrivals.{arrival_told};
-ghost use Rattle.eds_script.specs.Ends.{end_named};
+ghost use Rattle.eds_plan.specs.Ends.{end_named};
 ghost use Rattle.eds_script.specs.Known.{KnowsTypes};
 ghost use Rattle.eds_script.specs.Meaning.{is_wire as wire_form, ticks_by, saying_meaning as meaning_of_saying, tie_meaning as meaning_of_tie, tick_meaning as meaning_of_tick};
 ghost use Rattle.eds_script.specs.Seen.{is_among, meaning_of, said_of as saying_of};
 
 use crate::LineWhy;
 use crate::arrival::{fits, member_line};
-use crate::ends::{EndIndex, find_end};
 use crate::number::tick_of;
 use crate::wired::{EndSet, is_held};
 use crate::words::{Saying, Verb};
 use eds_base::Fail;
-use eds_plan::{Line, Plan};
+use eds_plan::{EndIndex, Line, Plan, find_end};
 use eds_types::TypeTable;
 use std::alloc::Global;
 

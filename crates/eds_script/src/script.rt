@@ -4,20 +4,19 @@ ghost use Rattle.std.specs.Prelude.{◌≡◌, ◌<◌, ◌++◌, ◌∷◌, ◌
 ghost use Rattle.std.specs.HashMap.{get_by_text};
 ghost use Rattle.eds_base.specs.Answering.{Answers};
 ghost use Rattle.eds_plan.specs.Lines.{starts};
-ghost use Rattle.eds_script.specs.Ends.{end_named};
+ghost use Rattle.eds_plan.specs.Ends.{end_named};
 ghost use Rattle.eds_script.specs.Known.{KnowsTypes};
 ghost use Rattle.eds_script.specs.Meaning.{is_wire as wire_form, line_says, ticks_by};
 ghost use Rattle.eds_script.specs.Scripts.{happenings_of, plot_by, script_of, wires_of};
 ghost use Rattle.eds_script.specs.Seen.{bad_line, is_among, line_of, meaning_of, numbered_told, plot_seen};
 
-use crate::ends::index_ends;
 use crate::lines::{ScriptLine, script_lines};
 use crate::meaning::{Meaning, Setting, saying_meaning};
 use crate::wired::wired_ends;
 use crate::words::form;
 use crate::{BadLine, LineWhy};
 use eds_base::{Fail, Items, Memory, Text};
-use eds_plan::{Line, Plan, Wire, Wires};
+use eds_plan::{Line, Plan, Wire, Wires, index_ends};
 use eds_types::TypeTable;
 use std::alloc::Global;
 

@@ -2,7 +2,7 @@ use Rattle.std.proofs.Common.{rules, ℕ, List, ◌≡◌, ◌+◌, length, sym,
 use Rattle.eds_base.specs.declared.ids.TypeId.{TypeId}
 use Rattle.eds_types.specs.PackedSizes.{packs}
 use Rattle.eds_types.specs.Plain.{plain}
-use Rattle.eds_script.proofs.Called.{opened}
+use Rattle.eds_plan.proofs.Called.{opened}
 use Rattle.eds_script.proofs.Packing.{all_pack-none, all_pack-stop, all_pack-step, known-behind}
 use Rattle.eds_script.proofs.given.all_pack.Goals as goal
 

@@ -1,5 +1,5 @@
 use Rattle.std.proofs.Common.{rules, ◌≡◌, Some}
-use Rattle.eds_script.specs.Ends.{found_end}
+use Rattle.eds_plan.specs.Ends.{found_end}
 use Rattle.eds_script.proofs.Knowing.{end-known}
 use Rattle.eds_script.proofs.meaning.arrival_line.Goals as goal
 

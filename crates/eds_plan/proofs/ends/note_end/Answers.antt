@@ -3,8 +3,8 @@ use Rattle.std.specs.HashMap.{get_by_text}
 use Rattle.std.specs.Map.{update}
 use Rattle.std.specs.Str.{bytes_eq}
 use Rattle.std.proofs.lemmas.Map.Text.{hash_map_updates_text}
-use Rattle.eds_script.proofs.Called.{noted, kept}
-use Rattle.eds_script.proofs.ends.note_end.Goals as goal
+use Rattle.eds_plan.proofs.Called.{noted, kept}
+use Rattle.eds_plan.proofs.ends.note_end.Goals as goal
 
 pub returns-then-contains_key : goal.returns-then-contains_key
 returns-then-contains_key c q =

@@ -1,7 +1,7 @@
 use Rattle.std.proofs.Common.{rules, ◌≡◌, ◌+◌}
 use Rattle.std.specs.HashMap.{get_by_text}
-use Rattle.eds_script.proofs.Called.{ends-more, opened}
-use Rattle.eds_script.proofs.ends.index_ends.Goals as goal
+use Rattle.eds_plan.proofs.Called.{ends-more, opened}
+use Rattle.eds_plan.proofs.ends.index_ends.Goals as goal
 
 pub loop-rest-preserved : goal.loop-rest-preserved
 loop-rest-preserved c q =

@@ -2,15 +2,15 @@
 
 ghost use Rattle.std.specs.Prelude.{◌≡◌, ℕ, List, IfOk, OnOk, option_map, string_bytes};
 ghost use Rattle.std.specs.HashMap.{get_by_text};
-ghost use Rattle.eds_script.specs.Ends.{all_ends, end_called, end_named, end_text as text_of_end, ends_from, first_called, found_end, or_else};
+ghost use Rattle.eds_plan.specs.Ends.{all_ends, end_called, end_named, end_text as text_of_end, ends_from, first_called, found_end, or_else};
 
+use crate::{ComponentPlan, End, EndPlan, Plan};
 use eds_base::{CompId, Memory};
-use eds_plan::{ComponentPlan, End, EndPlan, Plan};
 use indexmap::IndexMap;
 use std::alloc::{AllocError, Global};
 
 /// The ends of a plan by their texts.
-pub(crate) type EndIndex = IndexMap<String, End>;
+pub type EndIndex = IndexMap<String, End>;
 
 fn end_text(alloc: Global, component: &str, name: &str) -> Result<String, AllocError>
     ensures { IfOk result (λ s. string_bytes s ≡ text_of_end component.now name.now) }
@@ -54,7 +54,7 @@ fn note_ends(
 }
 
 /// The ends of a plan by their texts, of one text the first.
-pub(crate) fn index_ends(alloc: Global, plan: &Plan) -> Result<EndIndex, Memory>
+pub fn index_ends(alloc: Global, plan: &Plan) -> Result<EndIndex, Memory>
     ensures { IfOk result (λ m. (q : List ℕ) → get_by_text m q ≡ end_named plan.now q) }
 {
     let mut index = IndexMap::new(alloc);
@@ -75,7 +75,7 @@ fn end_of(index: &EndIndex, text: &str) -> Option<End>
 }
 
 /// The end that a text names, with what the plan has of it.
-pub(crate) fn find_end<'a>(
+pub fn find_end<'a>(
     index: &EndIndex,
     plan: &'a Plan,
     text: &str,
