@@ -15,3 +15,4 @@ pub mod Working
 pub mod Telling
 pub mod Parts
 pub mod Equal
+pub mod Leaving

@@ -3,3 +3,4 @@ pub mod Running
 pub mod Laws
 pub mod Work
 pub mod Acting
+pub mod Leaves

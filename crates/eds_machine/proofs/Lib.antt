@@ -7,3 +7,6 @@ pub mod StartLaws
 pub mod Keeping
 pub mod MachineLaws
 pub mod Behind
+pub mod Leaving
+pub mod Punctual
+pub mod MachineFits

@@ -75,11 +75,7 @@ fn end_of(index: &EndIndex, text: &str) -> Option<End>
 }
 
 /// The end that a text names, with what the plan has of it.
-pub fn find_end<'a>(
-    index: &EndIndex,
-    plan: &'a Plan,
-    text: &str,
-) -> Option<(End, &'a EndPlan)>
+pub fn find_end<'a>(index: &EndIndex, plan: &'a Plan, text: &str) -> Option<(End, &'a EndPlan)>
     requires { (q : List ℕ) → get_by_text index.now q ≡ end_named plan.now q }
     ensures { option_map (λ p. (p.0, p.1.now)) result ≡ found_end plan.now text.now }
 {
