@@ -12,7 +12,8 @@ use std::alloc::{AllocError, Global};
 /// The ends of a plan by their texts.
 pub type EndIndex = IndexMap<String, End>;
 
-fn end_text(alloc: Global, component: &str, name: &str) -> Result<String, AllocError>
+/// The text of an end: its component's qualified name, a colon, and its own name.
+pub fn end_text(alloc: Global, component: &str, name: &str) -> Result<String, AllocError>
     ensures { IfOk result (λ s. string_bytes s ≡ text_of_end component.now name.now) }
 {
     Ok(format!(in alloc; "{component}:{name}")?)

@@ -1,0 +1,373 @@
+//! The line of an event.
+
+ghost use Rattle.std.specs.Prelude.{◌≡◌, IfOk, IfSome, Ok, Some, codes, map, option_map, slice_get, string_bytes};
+ghost use Rattle.hex.specs.Hex.{encode_lower};
+ghost use Rattle.eds_bits.specs.Bits.{Bits, octets_of};
+ghost use Rattle.eds_plan.specs.Outs.{report, signal};
+ghost use Rattle.eds_plan.specs.Plans.{component_at};
+ghost use Rattle.eds_plan.specs.declared.component.Level.TheVariants as level_is;
+ghost use Rattle.eds_types.specs.Plain.{Plain, plain};
+ghost use Rattle.eds_types.specs.Spelling.{Canon};
+ghost use Rattle.eds_value.specs.Json.{arguments_in, value_in};
+ghost use Rattle.eds_value.specs.JsonOfValue.{arguments_text, json_text};
+ghost use Rattle.eds_value.specs.Laws.{AreNamed, HasNoTypeEntry};
+ghost use Rattle.eds_plan.specs.Ends.{end_at as end_in};
+ghost use Rattle.eds_script.specs.Events.{IsCommandBy, IsEventLine, IsFrameLine, IsMemberLine, IsSentLine, frame_type as type_of_frame, front as front_text, given_line, halt_line as line_of_halt, halt_word as word_of_halt, op_word as word_of_op, parameter_line as line_of_parameter, reject_line as line_of_reject};
+ghost use Rattle.eds_script.specs.Fitting.{AreValuesOf, FitsMember, FitsParameter, FitsPlan, IsOneOf, IsValueOf};
+ghost use Rattle.eds_script.specs.Laws.{ArgumentsRead, EventReads, MemberReads, SentReads};
+ghost use Rattle.eds_script.specs.Names.{machine_name as name_of_machine, member_at, member_name as name_in_end, text_of_end as text_in};
+
+use crate::members::carried_fields;
+use crate::names::{component_name, end_at, machine_name, member_in, member_name_at, text_of_end};
+use crate::print::{line_given, line_of, value_at};
+use eds_base::{CompId, Fail, Fault, Memory, Octets, Text, TypeId};
+use eds_pack::pack;
+use eds_plan::{End, EndPlan, FieldList, Halt, Level, Member, Op, Out, Plan, Primitive};
+use eds_types::{TypeTable, Value, Values};
+use eds_value::{args_to_json, path_text, to_json};
+use std::alloc::{AllocError, Global};
+
+/// When and where something happens: the time in nanoseconds, and the names of an end and its member, or of a component and
+/// its machine.
+#[derive(Clone, Copy)]
+struct Spot<'a> {
+    time: u64,
+    place: &'a str,
+    name: &'a str,
+}
+
+// `T WORD PLACE NAME`.
+#[tactic(auto, unfolding(crate::specs::Events::front))]
+fn front(alloc: Global, spot: &Spot<'_>, word: &str) -> Result<String, AllocError>
+    ensures { IfOk result (λ s. string_bytes s ≡ front_text spot.now.time word.now spot.now.place.now spot.now.name.now) }
+{
+    let time = spot.time;
+    let place = spot.place;
+    let name = spot.name;
+    Ok(format!(in alloc; "{time} {word} {place} {name}")?)
+}
+
+// ---- commands
+
+fn only_type(fields: &[(Text, TypeId)]) -> Option<TypeId>
+    ensures { result ≡ type_of_frame level_is.Subnetwork fields.now }
+{
+    match fields {
+        [] => None,
+        [field] => Some(field.1),
+        [_, _, ..] => None,
+    }
+}
+
+// The type of the argument that is written as a frame.
+fn frame_type(level: Level, fields: &[(Text, TypeId)]) -> Option<TypeId>
+    ensures { result ≡ type_of_frame level fields.now }
+{
+    match level {
+        Level::Subnetwork => only_type(fields),
+        Level::Access => None,
+        Level::Functional => None,
+        Level::Application => None,
+    }
+}
+
+// The octets of the canonical bits of a value.
+fn packed(alloc: Global, table: &TypeTable, id: TypeId, value: &Value) -> Result<Octets, Memory>
+    requires { IsValueOf table.now id.0 (plain value.now) }
+    ensures { IfOk result (λ o. (b : Bits) × Canon table.now id.0 (plain value.now) b × (o ≡ octets_of b)) }
+{
+    match pack(alloc, table, id, value) {
+        Ok((octets, _)) => Ok(octets),
+        Err(Fail::Memory) => Err(Memory),
+        Err(Fail::Named(_)) => unreachable!(),
+    }
+}
+
+// The canonical bits of a value in hex.
+fn frame_hex(alloc: Global, table: &TypeTable, id: TypeId, value: &Value) -> Result<String, Memory>
+    requires { IsValueOf table.now id.0 (plain value.now) }
+    ensures { IfOk result (λ s. (b : Bits) × Canon table.now id.0 (plain value.now) b × (string_bytes s ≡ encode_lower (octets_of b))) }
+{
+    let octets = packed(alloc, table, id, value)?;
+    Ok(hex::encode(alloc, octets.as_slice())?)
+}
+
+// A frame of one value.
+fn frame_line(
+    alloc: Global,
+    table: &TypeTable,
+    spot: &Spot<'_>,
+    id: TypeId,
+    values: &[Value],
+) -> Result<Octets, Memory>
+    requires { IsOneOf table.now id (map plain values.now) }
+    ensures { IfOk result (λ o. IsFrameLine table.now spot.now.time spot.now.place.now spot.now.name.now id (map plain values.now) o) }
+{
+    let head = front(alloc, spot, "frame")?;
+    match value_at(values, 0) {
+        Some(value) => {
+            let hex = frame_hex(alloc, table, id, value)?;
+            Ok(line_given(alloc, head.as_str(), hex.as_bytes())?)
+        }
+        None => unreachable!(),
+    }
+}
+
+// The same values, as those of an object.
+fn listed(alloc: Global, values: &[Value]) -> Result<Values, Memory>
+    ensures { IfOk result (λ vs. vs ≡ map plain values.now) }
+{
+    let mut list = Values::new(alloc);
+    for value in values {
+        let copy = value.copy(alloc)?;
+        list.push(copy)?;
+    }
+    Ok(list)
+}
+
+// A command with the JSON of its arguments.
+fn arguments_line(
+    alloc: Global,
+    table: &TypeTable,
+    spot: &Spot<'_>,
+    fields: &FieldList,
+    values: &[Value],
+) -> Result<Octets, Memory>
+    requires { AreValuesOf table.now fields.now (map plain values.now) }
+    ensures line { IfOk result (λ o. o ≡ given_line spot.now.time (codes "cmd") spot.now.place.now spot.now.name.now (arguments_text table.now fields.now (map plain values.now))) }
+    ensures reads { HasNoTypeEntry table.now → IfOk result (λ o. AreNamed fields.now → arguments_in table.now fields.now (arguments_text table.now fields.now (map plain values.now)) ≡ Ok (map plain values.now)) }
+{
+    let head = front(alloc, spot, "cmd")?;
+    let list = listed(alloc, values)?;
+    let json = args_to_json(alloc, table, fields, &list)?;
+    Ok(line_given(alloc, head.as_str(), json.as_slice())?)
+}
+
+// A command: a frame of its one argument, or else the JSON of what it carries.
+fn command_line(
+    alloc: Global,
+    table: &TypeTable,
+    spot: &Spot<'_>,
+    level: Level,
+    fields: &FieldList,
+    values: &[Value],
+) -> Result<Octets, Memory>
+    requires { AreValuesOf table.now fields.now (map plain values.now) }
+    ensures line { IfOk result (λ o. IsCommandBy (type_of_frame level fields.now) table.now spot.now.time spot.now.place.now spot.now.name.now fields.now (map plain values.now) o) }
+    ensures reads { HasNoTypeEntry table.now → IfOk result (λ o. ArgumentsRead (type_of_frame level fields.now) table.now fields.now (map plain values.now)) }
+{
+    match frame_type(level, fields.as_slice()) {
+        Some(id) => frame_line(alloc, table, spot, id, values),
+        None => arguments_line(alloc, table, spot, fields, values),
+    }
+}
+
+// ---- parameters
+
+fn op_word(op: Op) -> &'static str
+    ensures { result.now ≡ word_of_op op }
+{
+    match op {
+        Op::Command => "cmd",
+        Op::Get => "get",
+        Op::Set => "set",
+        Op::Val => "val",
+    }
+}
+
+// A parameter that is asked for, set or told.
+fn parameter_line(
+    alloc: Global,
+    table: &TypeTable,
+    spot: &Spot<'_>,
+    id: TypeId,
+    op: Op,
+    values: &[Value],
+) -> Result<Octets, Memory>
+    requires { FitsParameter table.now id op (map plain values.now) }
+    ensures line { IfOk result (λ o. o ≡ line_of_parameter table.now spot.now.time spot.now.place.now spot.now.name.now op (map plain values.now)) }
+    ensures reads { HasNoTypeEntry table.now → IfOk result (λ o. (v : Plain) → slice_get (map plain values.now) 0 ≡ Some v → value_in table.now id.0 (json_text table.now v) ≡ Ok v) }
+{
+    let head = front(alloc, spot, op_word(op))?;
+    match value_at(values, 0) {
+        None => Ok(line_of(alloc, head.as_str())?),
+        Some(value) => {
+            let json = to_json(alloc, table, id, value)?;
+            Ok(line_given(alloc, head.as_str(), json.as_slice())?)
+        }
+    }
+}
+
+// ---- what is sent
+
+// What is sent for a member of an end, which is written so.
+fn member_line(
+    alloc: Global,
+    table: &TypeTable,
+    time: u64,
+    end: &str,
+    level: Level,
+    member: &Member,
+    primitive: &Primitive,
+) -> Result<Octets, Memory>
+    requires { FitsMember table.now (signal primitive.now) (Some member.now) }
+    ensures line { IfOk result (λ o. IsMemberLine table.now time end.now level (signal primitive.now) (Some member.now) o) }
+    ensures reads { HasNoTypeEntry table.now → IfOk result (λ o. MemberReads table.now level (signal primitive.now) (Some member.now)) }
+{
+    let values = primitive.arguments.as_slice();
+    match member {
+        Member::Parameter(name, id, _) => {
+            let spot = Spot {
+                time,
+                place: end,
+                name: name.as_str(),
+            };
+            parameter_line(alloc, table, &spot, *id, primitive.op, values)
+        }
+        Member::Command(name, arguments) => {
+            let spot = Spot {
+                time,
+                place: end,
+                name: name.as_str(),
+            };
+            let fields = carried_fields(alloc, primitive.way, arguments.as_slice())?;
+            command_line(alloc, table, &spot, level, &fields, values)
+        }
+    }
+}
+
+// What the plan has of the end and member of a primitive, which are there.
+fn sent_at<'a>(plan: &'a Plan, primitive: &Primitive) -> Option<(&'a EndPlan, &'a Member)>
+    ensures member { option_map (λ p. p.1.now) result ≡ member_at plan.now primitive.now.end primitive.now.member }
+    ensures end { IfSome result (λ p. end_in plan.now primitive.now.end ≡ Some p.0.now) }
+{
+    let end = end_at(plan, primitive.end)?;
+    let member = member_in(end, primitive.member)?;
+    Some((end, member))
+}
+
+fn sent_line(
+    alloc: Global,
+    table: &TypeTable,
+    plan: &Plan,
+    time: u64,
+    primitive: &Primitive,
+) -> Result<Octets, Memory>
+    requires { FitsMember table.now (signal primitive.now) (member_at plan.now primitive.now.end primitive.now.member) }
+    ensures line { IfOk result (λ o. IsSentLine table.now time (text_in plan.now primitive.now.end) (signal primitive.now) (end_in plan.now primitive.now.end) o) }
+    ensures reads { HasNoTypeEntry table.now → IfOk result (λ o. SentReads table.now (signal primitive.now) (end_in plan.now primitive.now.end)) }
+{
+    match sent_at(plan, primitive) {
+        Some((end, member)) => {
+            let text = text_of_end(alloc, plan, primitive.end)?;
+            let level = end.level;
+            member_line(alloc, table, time, text.as_str(), level, member, primitive)
+        }
+        None => unreachable!(),
+    }
+}
+
+// ---- what goes wrong
+
+fn halt_word(halt: Halt) -> &'static str
+    ensures { result.now ≡ word_of_halt halt }
+{
+    match halt {
+        Halt::OutOfRange => "OutOfRange",
+        Halt::BadArgument => "BadArgument",
+        Halt::Budget => "Budget",
+    }
+}
+
+fn halt_line(alloc: Global, spot: &Spot<'_>, halt: Halt) -> Result<Octets, Memory>
+    ensures { IfOk result (λ o. o ≡ line_of_halt spot.now.time spot.now.place.now spot.now.name.now halt) }
+{
+    let head = front(alloc, spot, "halt")?;
+    Ok(line_given(
+        alloc,
+        head.as_str(),
+        halt_word(halt).as_bytes(),
+    )?)
+}
+
+fn halted_line(
+    alloc: Global,
+    plan: &Plan,
+    time: u64,
+    comp: CompId,
+    machine: u16,
+    halt: Halt,
+) -> Result<Octets, Memory>
+    ensures { IfOk result (λ o. o ≡ line_of_halt time (component_at plan.now comp.0).name (name_of_machine (component_at plan.now comp.0) machine) halt) }
+{
+    let spot = Spot {
+        time,
+        place: component_name(plan, comp),
+        name: machine_name(plan, comp, machine),
+    };
+    halt_line(alloc, &spot, halt)
+}
+
+fn reject_line(
+    alloc: Global,
+    table: &TypeTable,
+    spot: &Spot<'_>,
+    fault: &Fault,
+) -> Result<Octets, Memory>
+    ensures { IfOk result (λ o. o ≡ line_of_reject table.now spot.now.time spot.now.place.now spot.now.name.now fault.now) }
+{
+    let head = front(alloc, spot, "reject")?;
+    let path = path_text(alloc, table, &fault.path)?;
+    let reason = fault.reason.name();
+    let path = path.as_str();
+    let what = format!(in alloc; "{reason} at {path}")?;
+    Ok(line_given(alloc, head.as_str(), what.as_bytes())?)
+}
+
+fn rejected_line(
+    alloc: Global,
+    table: &TypeTable,
+    plan: &Plan,
+    time: u64,
+    end: End,
+    member: u16,
+    fault: &Fault,
+) -> Result<Octets, Memory>
+    ensures { IfOk result (λ o. o ≡ line_of_reject table.now time (text_in plan.now end) (name_in_end (end_in plan.now end) member) fault.now) }
+{
+    let text = text_of_end(alloc, plan, end)?;
+    let spot = Spot {
+        time,
+        place: text.as_str(),
+        name: member_name_at(plan, end, member),
+    };
+    reject_line(alloc, table, &spot, fault)
+}
+
+// ---- all
+
+/// The line of what a run reports, which begins with its time in nanoseconds: a primitive that is sent, an activity that
+/// halts, or a frame that is refused. At an end of the level `subnetwork` a command that carries exactly one argument in its
+/// way is written as a frame: the octets of the argument's canonical bits in lower-case hex, the last octet filled with
+/// zeros. What else is sent has its values as JSON. Where no entry of the table is named `$type`, as in every sheet, this JSON
+/// is read again, over the arguments or the parameter, as the values that were sent.
+pub fn print_event(
+    alloc: Global,
+    table: &TypeTable,
+    plan: &Plan,
+    event: &Out,
+) -> Result<Octets, Memory>
+    requires { FitsPlan table.now plan.now (report event.now) }
+    ensures line { IfOk result (λ o. IsEventLine table.now plan.now (report event.now) o) }
+    ensures reads { HasNoTypeEntry table.now → IfOk result (λ o. EventReads table.now plan.now (report event.now)) }
+{
+    match event {
+        Out::Sent(time, primitive) => sent_line(alloc, table, plan, *time, primitive),
+        Out::Halted(time, comp, machine, halt) => {
+            halted_line(alloc, plan, *time, *comp, *machine, *halt)
+        }
+        Out::Reject(time, end, member, fault) => {
+            rejected_line(alloc, table, plan, *time, *end, *member, fault)
+        }
+    }
+}
