@@ -26,4 +26,6 @@ pub mod Meeting
 pub mod UsedTypes
 pub mod Gathering
 pub mod CommonNumbers
+pub mod CommonFound
+pub mod CommonLaws
 pub mod ToldApart

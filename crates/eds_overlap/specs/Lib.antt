@@ -1,6 +1,7 @@
 pub mod Laws
 pub mod Example
 pub mod Pairs
+pub mod LeastNumbers
 pub mod FirstOverlap
 pub mod Underived
 pub mod Used

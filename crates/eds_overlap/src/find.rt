@@ -6,7 +6,7 @@ ghost use Rattle.eds_base.specs.Spans.{IsWithin};
 ghost use Rattle.eds_types.specs.Rows.{list_has};
 ghost use Rattle.eds_types.specs.Reading.{starts_above};
 ghost use Rattle.eds_types.specs.Overlap.{Overlapping};
-ghost use Rattle.eds_overlap.specs.Common.{AreLeastCommon};
+ghost use Rattle.eds_overlap.specs.FirstOverlap.{first_overlap};
 ghost use Rattle.eds_overlap.specs.Marks.{AreMarks};
 ghost use Rattle.eds_overlap.specs.Pairs.{AllSets, Meets, Agrees, ArePartedAt, IsReadThrough, Named, IsWithinOn, IsFirstPair, IsFirstWith, set_on, shared, numbers_of, has_used};
 
@@ -30,10 +30,10 @@ pub struct Overlap {
 
 // Two containers that overlap, and the nearest base that both have.
 #[derive(Clone, Copy)]
-struct Pair {
-    first: TypeId,
-    second: TypeId,
-    ancestor: TypeId,
+pub(crate) struct Pair {
+    pub first: TypeId,
+    pub second: TypeId,
+    pub ancestor: TypeId,
 }
 
 /// The first two containers that overlap where these types are used: of all such pairs the one with the least second, and
@@ -43,10 +43,9 @@ pub fn find_overlap(
     table: &TypeTable,
     used: &Used,
 ) -> Result<Option<Overlap>, Memory>
-    ensures found { IfOk result (λ found. IfSome found (λ o. IsFirstPair table.now (Named used.now) o.ancestor.0 o.first.0 o.second.0)) }
-    ensures common { IfOk result (λ found. IfSome found (λ o. AreLeastCommon table.now o.ancestor.0 o.first.0 o.second.0 o.common)) }
-    ensures none { IfOk result (λ found. IfNone found ((x k l : ℕ) → Overlapping table.now (Named used.now) x k l → ⊥)) }
+    ensures { IfOk result (λ found. found ≡ first_overlap table.now used.now) }
 {
+    table.keeps_rules();
     let sets = all_sets(alloc, table)?;
     let sets = sets.as_slice();
     let marks = all_marks(alloc, table, sets)?;
@@ -56,7 +55,7 @@ pub fn find_overlap(
     };
     let ours = sets[pair.first.0 as usize].as_slice();
     let theirs = sets[pair.second.0 as usize].as_slice();
-    let common = common_numbers(alloc, table, pair.ancestor, ours, theirs)?;
+    let common = common_numbers(alloc, table, pair, ours, theirs)?;
     Ok(Some(Overlap {
         first: pair.first,
         second: pair.second,
