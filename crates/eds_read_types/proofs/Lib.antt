@@ -1,6 +1,4 @@
 pub mod FormFacts
-pub mod DomainFacts
-pub mod EndFacts
 pub mod ListingFacts
 pub mod LawFacts
 mod EntriesLemmas

@@ -14,8 +14,9 @@ use Rattle.eds_types.specs.Rules.{IsDomain, IsSubRange}
 use Rattle.eds_read_types.specs.declared.numbers.FormAndDomain.{FormAndDomain}
 use Rattle.eds_read_types.specs.Places.{type_places, is_sub_range, is_container}
 use Rattle.eds_read_types.specs.Forms.{int_form_of}
-use Rattle.eds_read_types.specs.Ranges.{no_range, range_of}
-use Rattle.eds_read_types.specs.Domains.{has_none}
+use Rattle.eds_constraints.specs.Ranges.{no_range}
+use Rattle.eds_read_types.specs.Ranges.{range_of}
+use Rattle.eds_constraints.specs.Domains.{has_none}
 use Rattle.eds_read_types.specs.Bases.{base_found, bases_of, base_at, bases_within}
 use Rattle.eds_read_types.specs.Numbers.{wide_form, form_or_wide, numbers_with, all_numbers, own_numbers_in, own_numbers_at, range_at, narrowed_numbers, numbers_by, numbers_within, numbers_of}
 use Rattle.eds_read_types.specs.ScalarKinds.{is_integer, breaks_in, breaks_at, breaks_each}

@@ -4,7 +4,6 @@ pub mod Forms
 pub mod TextForms
 pub mod Sorts
 pub mod Ranges
-pub mod Domains
 pub mod Listings
 pub mod Places
 pub mod Judging

@@ -13,8 +13,8 @@ ghost use Rattle.eds_bits.specs.Encodings.{IsForm};
 ghost use Rattle.eds_bits.specs.IntForms.{HasNumber};
 ghost use Rattle.eds_types.specs.Rules.{IsDomain, IsListing, IsSubRange};
 ghost use Rattle.eds_read_types.specs.Forms.{int_form, bool_form, bool_form_of};
-ghost use Rattle.eds_read_types.specs.Ranges.{Admits};
-ghost use Rattle.eds_read_types.specs.Domains.{domain_of, narrowed, has_none};
+ghost use Rattle.eds_constraints.specs.Ranges.{Admits};
+ghost use Rattle.eds_constraints.specs.Domains.{domain_of, narrowed, has_none};
 ghost use Rattle.eds_read_types.specs.Listings.{is_listing};
 ghost use Rattle.eds_read_types.specs.ScalarKinds.{is_integer, is_enumerated, is_boolean};
 ghost use Rattle.eds_read_types.specs.References.{broken};
@@ -26,9 +26,9 @@ ghost use Rattle.eds_read_types.specs.EmptyRange.{range_breaks};
 ghost use Rattle.eds_read_types.specs.BadEnumeration.{enumeration_breaks};
 ghost use Rattle.eds_read_types.specs.Unbroken.{HasDomain, HasListing};
 
-use crate::range::Range;
 use eds_base::{Place, Spans};
 use eds_bits::IntForm;
+use eds_constraints::Range;
 use eds_tree::Tree;
 
 /// A size, an encoding and a byte order give a form exactly where the size is from 1 to 64 bits and has whole decimal digits

@@ -9,7 +9,6 @@ mod base_graph;
 mod breaks;
 mod calibrator;
 mod component_reference;
-mod domain;
 mod duplicate_entry;
 mod element;
 mod empty_range;
@@ -51,5 +50,4 @@ mod unresolved;
 mod used;
 mod wrong_kind;
 
-pub use range::{End, Range};
 pub use table::{SheetTypes, read_types};

@@ -1,0 +1,9 @@
+pub mod DomainFacts
+pub mod EndFacts
+pub mod Names
+pub mod Called
+pub mod NamedFacts
+pub mod SetFacts
+pub mod ConcreteFacts
+pub mod ValueFacts
+pub mod BreakSteps

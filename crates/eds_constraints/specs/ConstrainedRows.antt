@@ -1,0 +1,63 @@
+-- The rows of types with the constraints of their containers.
+use Rattle.std.specs.Prelude.{ℕ, ◌+◌, ◌≡◌, ◌≤◌, List, [], ◌∷◌, length, Bool, true, false, Option, Some, None, option_map, slice_get}
+use Rattle.std.specs.List.{filter_map}
+use Rattle.eds_base.specs.Reading.{◌>>=◌}
+use Rattle.eds_base.specs.declared.spans.Span.{Span}
+use Rattle.eds_types.specs.declared.row.Constraint.{Constraint}
+use Rattle.eds_types.specs.declared.row.Container.{Container}
+use Rattle.eds_types.specs.declared.row.Kind.{Kind}
+use Rattle.eds_types.specs.declared.row.Kind.TheVariants as kind
+use Rattle.eds_types.specs.declared.row.TypeRow.{TypeRow}
+use Rattle.eds_types.specs.Rows.{Table}
+use Rattle.eds_types.specs.Rules.{KindKeeps}
+use Rattle.eds_constraints.specs.declared.asked.Aim.{Aim}
+use Rattle.eds_constraints.specs.declared.asked.Test.{Test}
+use Rattle.eds_constraints.specs.declared.asked.Test.TheVariants.{Value, Within, Under}
+use Rattle.eds_constraints.specs.Breaks.{Lists, Posed, aim_at, admitted, posed_of}
+
+-- What the stages before say of rows: there are at most 4,096 types, and each kind keeps what the rules say of it alone.
+pub record AreRead (t : Table) : Type 0 where
+  pub few : length t ≤ 4096
+  pub kinds : (id : ℕ) (row : TypeRow) → slice_get t id ≡ Some row → KindKeeps row.kind
+
+-- a constraint on a type admits numbers of types
+abbrev pub is_on_kind : Test → Bool
+is_on_kind (Value text) = false
+is_on_kind (Within range) = false
+is_on_kind (Under id) = true
+
+-- a constraint as a row holds it, by where it leads and what it admits
+abbrev pub constraint_by : Posed → Aim → Option (List Span) → Option Constraint
+constraint_by c aim None = None
+constraint_by c aim (Some set) = Some (record { path = aim.path; set = set; on_kind = is_on_kind c.asked.test })
+
+-- a constraint as a row holds it; none where it breaks a rule by itself
+abbrev pub constraint_of : Table → Posed → Option Constraint
+constraint_of t c = aim_at t c >>= λ aim. constraint_by c aim (admitted t c)
+
+-- those of a container
+abbrev pub constraints_for : Table → Lists → ℕ → List Constraint
+constraints_for t lists id = filter_map (constraint_of t) (posed_of t lists id)
+
+-- a kind, whose container gets constraints
+abbrev pub kind_with : List Constraint → Kind → Kind
+kind_with cs (kind.Int form spans) = kind.Int form spans
+kind_with cs (kind.Enum form listing) = kind.Enum form listing
+kind_with cs (kind.Bool form) = kind.Bool form
+kind_with cs (kind.Str form) = kind.Str form
+kind_with cs (kind.Bin n free) = kind.Bin n free
+kind_with cs (kind.Arr item n) = kind.Arr item n
+kind_with cs (kind.Con c) = kind.Con (record { hidden = c.hidden; constraints = cs; entries = c.entries; trailers = c.trailers })
+
+-- a row, whose container gets constraints
+abbrev pub row_with : List Constraint → TypeRow → TypeRow
+row_with cs row = record { name = row.name; base = row.base; kind = kind_with cs row.kind }
+
+-- some rows with their constraints, of which the first has the number n
+abbrev pub rows_with : Table → Lists → ℕ → List TypeRow → List TypeRow
+rows_with t lists n [] = []
+rows_with t lists n (row ∷ rows) = row_with (constraints_for t lists n) row ∷ rows_with t lists (n + 1) rows
+
+-- all rows with their constraints
+abbrev pub constrained : Table → Lists → Table
+constrained t lists = rows_with t lists 0 t

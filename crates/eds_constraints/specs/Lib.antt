@@ -1,0 +1,7 @@
+pub mod Ranges
+pub mod Domains
+pub mod Paths
+pub mod Sets
+pub mod Breaks
+pub mod ConstrainedRows
+pub mod Named
