@@ -15,3 +15,7 @@ pub mod Levels
 pub mod Steps
 pub mod Tails
 pub mod Fronts
+pub mod Cutting
+pub mod PiecesLaw
+pub mod Rooms
+pub mod Taking
