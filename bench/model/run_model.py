@@ -19,7 +19,7 @@ from runs import Host, Rejected, Storm
 from scripts import BadLine, Script, end_report, event_text
 
 EVERYTHING = m.EVERYTHING | {"interfaces", "ends", "activities", "machines", "transactions"}
-STAGES = {"whole": EVERYTHING, "built": (m.EVERYTHING | {"interfaces", "ends"}) - {"fixed", "inherit"}, "scalars": set()}
+STAGES = {"whole": EVERYTHING, "built": (m.EVERYTHING | {"interfaces", "ends"}) - {"inherit"}, "scalars": set()}
 MOST_SCRIPT, MOST_REPORT = 4194304, 67108864
 
 sys.setrecursionlimit(100000)

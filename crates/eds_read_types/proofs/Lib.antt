@@ -32,6 +32,7 @@ pub mod ChainFacts
 pub mod Circles
 pub mod NumberFacts
 pub mod CheckFacts
+pub mod FixedFacts
 pub mod TableRules
 pub mod Limits
 pub mod SequenceFacts

@@ -34,9 +34,10 @@ use Rattle.eds_types.specs.declared.row.Part.TheVariants as part
 use Rattle.eds_types.specs.Rows.{Table, base_in, base_of, own_parts, placed_from, chain_before, chain_within, container_by, container_in, container_of, number_of_id, entries_in, Placed}
 use Rattle.eds_types.specs.Sizes.{open_by, open_in, open_of}
 use Rattle.eds_types.specs.Fields.{type_by}
+use Rattle.eds_types.specs.Plain.{plain}
 use Rattle.eds_graph.specs.Ways.{is_circular, is_endless}
 use Rattle.eds_graph.specs.Search.{Has as is_one_of}
-use Rattle.eds_types.specs.Rules.{AreDistinct, IsContainer, IsListing, KindKeeps, HasKind, IsInt, IsIntBy, HoldsCheck, DerivesFrom, IsNested, IsCounted, TailKeeps, name_of, is_length, KeepsRules}
+use Rattle.eds_types.specs.Rules.{AreDistinct, IsContainer, IsListing, IsValueOf, KindKeeps, HasKind, IsInt, IsIntBy, HoldsCheck, DerivesFrom, IsNested, IsCounted, TailKeeps, name_of, is_length, KeepsRules}
 use Rattle.eds_read_types.specs.declared.numbers.FormAndDomain.{FormAndDomain}
 use Rattle.eds_read_types.specs.Places.{element, is_element, is_container, is_array, is_sub_range, is_number, attribute, own_name, elements, types, type_places}
 use Rattle.eds_read_types.specs.References.{references, row_for, judged_text, judged_by, judged_at, broken_with}
@@ -47,12 +48,13 @@ use Rattle.eds_read_types.specs.Entries.{sort_at, entries_at, trailers_at, own_p
 use Rattle.eds_read_types.specs.Parts.{PartJudgement, at_parts, parts_in}
 use Rattle.eds_read_types.specs.Seats.{seats_of}
 use Rattle.eds_read_types.specs.ListFields.{field_seat, field_container, field_place}
-use Rattle.eds_read_types.specs.PartRows.{entry_id, id_or_first, padding_bits, unread, plain_part, list_part, length_part, check_part, part_by}
+use Rattle.eds_read_types.specs.PartRows.{entry_id, id_or_first, padding_bits, unread, plain_part, fixed_part, list_part, length_part, check_part, part_by}
 use Rattle.eds_read_types.specs.Forms.{int_form_of, bool_form_of}
 use Rattle.eds_read_types.specs.Listings.{listing_of}
-use Rattle.eds_read_types.specs.Bases.{may_derive, base_named, base_found, bases_of, base_at}
+use Rattle.eds_read_types.specs.Bases.{may_derive, base_named, base_found, bases_of, base_at, is_in_cycle}
 use Rattle.eds_read_types.specs.Numbers.{form_or_wide, numbers_of}
-use Rattle.eds_read_types.specs.TableRows.{part_in, is_abstract, container_at, scalar_kind_by, scalar_kind_in, array_kind, kind_of, table_row, rows_from, table_rows, has_few_entries, are_few}
+use Rattle.eds_read_types.specs.Kinds.{scalar_kind_by, scalar_kind_in, scalar_at, scalar_if, scalar_of}
+use Rattle.eds_read_types.specs.TableRows.{part_in, is_abstract, container_at, array_kind, kind_of, table_row, rows_from, table_rows, has_few_entries, are_few}
 use Rattle.eds_read_types.specs.TableBreaks.{table_breaks}
 use Rattle.eds_read_types.specs.DuplicateEntry.{repeats, names_above, duplicates_at}
 use Rattle.eds_read_types.specs.declared.sort.Sort.{Sort}
@@ -64,6 +66,7 @@ use Rattle.eds_read_types.specs.BadEnumeration.{enumeration_breaks}
 use Rattle.eds_read_types.specs.WrongKind.{kind_by, wrong_kind_by, wrong_kind_at}
 use Rattle.eds_read_types.specs.Nesting.{course_of, meets_base_cycle}
 use Rattle.eds_read_types.specs.TypeCycle.{type_cycle_at}
+use Rattle.eds_read_types.specs.LimitChain.{is_long, chain_at}
 use Rattle.eds_read_types.specs.LimitNesting.{is_too_deep, nesting_at}
 use Rattle.eds_read_types.specs.EmptyType.{may_be_empty, is_empty_entry, empty_part_at, item_in, empty_item_by, empty_item_at}
 use Rattle.eds_read_types.specs.Items.{items_at, row_items}
@@ -73,6 +76,8 @@ use Rattle.eds_read_types.specs.ListField.{is_told, list_field_at}
 use Rattle.eds_read_types.specs.LengthField.{is_int, is_tail, lengths_at, has_length_above, length_field_at, second_length_at}
 use Rattle.eds_read_types.specs.Checks.{check_at}
 use Rattle.eds_read_types.specs.PartElements.{judged_elements}
+use Rattle.eds_read_types.specs.FixedValues.{fixed_value, row_value}
+use Rattle.eds_read_types.specs.FixedValue.{fixed_value_at}
 use Rattle.eds_read_types.specs.ErrorControl.{is_held, error_control_at}
 use Rattle.eds_read_types.specs.declared.reference_row.Wanted.TheVariants.{NumberType, ContainerType}
 use Rattle.eds_read_types.proofs.NoBreaks.{none_at, least-none, append-none, types-apart, no_repeats}
@@ -95,12 +100,14 @@ use Rattle.eds_read_types.proofs.TailFacts.{tail_kept}
 use Rattle.eds_read_types.proofs.LengthFacts.{part_sort_named, scaled, int_is, own_fewer, own_none}
 use Rattle.eds_read_types.proofs.MeasureFacts.{own_measured, further_none}
 use Rattle.eds_read_types.proofs.CheckFacts.{held}
+use Rattle.eds_read_types.proofs.FixedFacts.{value-read}
 use Rattle.eds_read_types.proofs.PartFacts.{mapped_there, placed_all, no_item, part_none}
 use Rattle.eds_read_types.proofs.PartNames.{among_has, among_parts, element_names, row_names as parts_named, names_distinct, padding_keeps}
 use Rattle.eds_read_types.proofs.Found.{id_there, found_there, number_there}
 use Rattle.eds_read_types.proofs.SortFacts.{sort_named, binary_keeps}
-use Rattle.eds_read_types.proofs.ChainFacts.{each-none, over-none, unmet, level}
-use Rattle.eds_read_types.proofs.NumberFacts.{HasNumbers, IsNoContainer, known_bases, base_there, base_is_sub, few_levels, less_levels, domains, derives_from}
+use Rattle.eds_read_types.proofs.ChainFacts.{each-none, over-none, unmet, level, level_none, in_no_cycle, less_bases, low_by_chain}
+use Rattle.eds_read_types.proofs.Circles.{depth, less_deep}
+use Rattle.eds_read_types.proofs.NumberFacts.{HasNumbers, IsNoContainer, known_bases, base_there, base_is_sub, domains, derives_from}
 
 all_there : (p : TypeRow → Bool) (rows : List TypeRow) → list_all p rows ≡ true → (k : ℕ) (row : TypeRow) → slice_get rows k ≡ Some row → p row ≡ true
 all_there p [] h k row e = absurd cc
@@ -113,6 +120,18 @@ clash b e f = cc
 true_or : (b : Bool) → (b || true) ≡ true
 true_or true = refl
 true_or false = refl
+
+-- a test that fails nowhere where another holds
+held_where : (a b : Bool) → a ≡ true → (a && not b) ≡ false → b ≡ true
+held_where true true e h = refl
+held_where true false e h = absurd cc
+held_where false b e h = absurd cc
+
+-- what holds only where another test does, which fails
+first_fails : (a b : Bool) → b ≡ false → (a && not b) ≡ false → a ≡ false
+first_fails true true e h = cc
+first_fails true false e h = cc
+first_fails false b e h = refl
 
 -- ---- names
 
@@ -274,45 +293,10 @@ module _ (trees : List (List Node)) (names : Names) (word : Option (List ℕ)) (
           let same : b.place ≡ at = (let both : Some b.place ≡ Some at = sym b.there ∙ there in cc) in
           number_apart (node_name (element trees at)) (codes "ContainerDataType") refl refl (subst (λ p. is_number trees p ≡ true) same b.number)
 
-  -- ---- containers
+  -- ---- rows
 
   row_of : (id : ℕ) (d : Declared) → slice_get (types names) id ≡ Some d → slice_get (table_rows trees names) id ≡ Some (table_row trees names id d)
   row_of id d there = row_there trees names 0 (types names) id d there id (omega arith)
-
-  -- a type that has a base derives from it
-  derives : (id : ℕ) (d : Declared) → slice_get (types names) id ≡ Some d → (base : TypeId) → base_found trees names d.place ≡ Some base → HasKind (table_rows trees names) base.0 (DerivesFrom (kind_of trees names id d.place))
-  derives id d there base e = go (is_container trees d.place) refl
-    where
-      place : slice_get (type_places names) id ≡ Some d.place
-      place = place_there (types names) id d there
-
-      from_number : is_container trees d.place ≡ false → HasKind (table_rows trees names) base.0 (DerivesFrom (kind_of trees names id d.place))
-      from_number is =
-          let sub = base_is_sub trees names d.place base e is in
-          let b = base_of_sub trees names d.place base sub (fits_at id d.place place) e in
-          let other = declared_there (types names) base.0 b.place b.there in
-          let base_number : is_number trees (other.0).place ≡ true = ap (is_number trees) other.2 ∙ b.number in
-          let number = sub_is_number trees d.place sub in (
-            table_row trees names base.0 other.0,
-            row_there trees names 0 (types names) base.0 other.0 other.1 base.0 (omega arith),
-            subst (λ k. DerivesFrom k (kind_of trees names base.0 (other.0).place)) (sym (number_kind trees names id d.place number))
-                (subst (DerivesFrom (kind.Int (numbers_of trees (type_places names) (bases_of trees names) id).form (numbers_of trees (type_places names) (bases_of trees names) id).spans)) (sym (number_kind trees names base.0 (other.0).place base_number))
-                (derives_from trees names u.cycles u.chains u.encodings u.ranges u.subs on_numbers id base (base_there trees names id d.place place ∙ e))),
-          )
-
-      from_container : is_container trees d.place ≡ true → HasKind (table_rows trees names) base.0 (DerivesFrom (kind_of trees names id d.place))
-      from_container is =
-          let b = base_of_container trees names d.place base is (fits_at id d.place place) e in
-          let other = declared_there (types names) base.0 b.place b.there in
-          let base_is : is_container trees (other.0).place ≡ true = ap (is_container trees) other.2 ∙ b.container in (
-            table_row trees names base.0 other.0,
-            row_there trees names 0 (types names) base.0 other.0 other.1 base.0 (omega arith),
-            rw (is, base_is) tt,
-          )
-
-      go : (b : Bool) → is_container trees d.place ≡ b → HasKind (table_rows trees names) base.0 (DerivesFrom (kind_of trees names id d.place))
-      go true is = from_container is
-      go false is = from_number is
 
   number_some : (o : Option TypeId) (n : ℕ) → number_of_id o ≡ Some n → (id : TypeId) × (o ≡ Some id) × (id.0 ≡ n)
   number_some None n e = absurd cc
@@ -336,6 +320,118 @@ module _ (trees : List (List Node)) (names : Names) (word : Option (List ℕ)) (
           let some = number_some (base_found trees names r.declared.place) base (sym (ap (λ (w : TypeRow). number_of_id w.base) r.is) ∙ h) in
           record { declared = r.declared; there = r.there; found = some.0; by_name = some.1; number = some.2 }
 
+  -- ---- chains have an end
+
+  row_none : (n : ℕ) (ds : List Declared) (k : ℕ) → slice_get ds k ≡ None → slice_get (rows_from trees names n ds) k ≡ None
+  row_none n [] k e = refl
+  row_none n (d ∷ ds) zero e = absurd cc
+  row_none n (d ∷ ds) (suc k) e = row_none (n + 1) ds k e
+
+  -- the base of a row is that of its type
+  bases_alike : (id : ℕ) → base_of (table_rows trees names) id ≡ number_of_id (base_at (bases_of trees names) id)
+  bases_alike id = go (slice_get (types names) id) refl
+    where
+      go : (o : Option Declared) → slice_get (types names) id ≡ o → base_of (table_rows trees names) id ≡ number_of_id (base_at (bases_of trees names) id)
+      go None e =
+          let no_place : slice_get (type_places names) id ≡ None = slice_get-map (λ d. d.place) (types names) id ∙ ap (option_map (λ d. d.place)) e in
+          ap base_in (row_none 0 (types names) id e) ∙ sym (ap number_of_id (known_bases trees names id no_place))
+      go (Some d) e = ap base_in (row_of id d e) ∙ sym (ap number_of_id (base_there trees names id d.place (place_there (types names) id d e)))
+
+  no_cycle : (id : ℕ) → is_in_cycle (bases_of trees names) id ≡ false
+  no_cycle = in_no_cycle (bases_of trees names) (type_places names) (known_bases trees names) u.cycles
+
+  -- each base is there
+  bases_there : (id : ℕ) (base : TypeId) → base_at (bases_of trees names) id ≡ Some base → base.0 < length (bases_of trees names)
+  bases_there id base e = go (slice_get (type_places names) id) refl
+    where
+      many : length (bases_of trees names) ≡ length (types names)
+      many = length-map (type_places names) (base_found trees names) ∙ length-map (types names) (λ d. d.place)
+
+      go : (o : Option Place) → slice_get (type_places names) id ≡ o → base.0 < length (bases_of trees names)
+      go None q = let no : None ≡ Some base = sym (known_bases trees names id q) ∙ e in absurd cc
+      go (Some at) q = let within = number_there trees names named at (base_named trees at) base (sym (base_there trees names id at q) ∙ e) in subst (λ n. base.0 < n) (sym many) within
+
+  base_depth : (id base : ℕ) → base_of (table_rows trees names) id ≡ Some base → depth (bases_of trees names) id ≡ suc (depth (bases_of trees names) base)
+  base_depth id base e =
+      let h = has_base id base e in
+      subst (λ n. depth (bases_of trees names) id ≡ suc (depth (bases_of trees names) n)) h.number
+      (less_deep (bases_of trees names) no_cycle bases_there id h.found (base_there trees names id h.declared.place (place_there (types names) id h.declared h.there) ∙ h.by_name))
+
+  base_within : (id base : ℕ) → base_of (table_rows trees names) id ≡ Some base → base < length (table_rows trees names)
+  base_within id base e =
+      let h = has_base id base e in
+      let within = number_there trees names named h.declared.place (base_named trees h.declared.place) h.found h.by_name in
+      subst (λ n. n < length (table_rows trees names)) h.number (subst (λ n. (h.found).0 < n) (sym (length-rows trees names 0 (types names))) within)
+
+  levels : HasLevels (table_rows trees names)
+  levels = record { level = depth (bases_of trees names); base_level = base_depth; base_within = base_within }
+
+  -- the element of a type that is there
+  place_of : (id : ℕ) → id < length (table_rows trees names) → (at : Place) × (slice_get (type_places names) id ≡ Some at)
+  place_of id lt = go (slice_get (types names) id) refl
+    where
+      go : (o : Option Declared) → slice_get (types names) id ≡ o → (at : Place) × (slice_get (type_places names) id ≡ Some at)
+      go None e = absurd (no_item (types names) id (subst (λ n. id < n) (length-rows trees names 0 (types names)) lt) e)
+      go (Some d) e = (d.place, place_there (types names) id d e)
+
+  -- no type reaches itself
+  circleless : (id : ℕ) → id < length (table_rows trees names) → is_circular (course_of (table_rows trees names) id) ≡ false
+  circleless id lt =
+      let at = place_of id lt in
+      let here = unmet (is_circular (course_of (table_rows trees names) id) && not (meets_base_cycle (table_rows trees names) id)) _ (over-none (type_cycle_at trees (table_rows trees names)) 0 (type_places names) u.type_cycles id at.0 at.1 id (omega arith)) in
+      first_fails (is_circular (course_of (table_rows trees names) id)) (meets_base_cycle (table_rows trees names) id) (no_base_cycle (table_rows trees names) levels id) here
+
+  -- no chain is longer than 16 types
+  low_levels : (id : ℕ) → level (bases_of trees names) id < 16
+  low_levels id = go (slice_get (types names) id) refl
+    where
+      go : (o : Option Declared) → slice_get (types names) id ≡ o → level (bases_of trees names) id < 16
+      go None e =
+          let no_place : slice_get (type_places names) id ≡ None = slice_get-map (λ d. d.place) (types names) id ∙ ap (option_map (λ d. d.place)) e in
+          let none = level_none (bases_of trees names) id (known_bases trees names id no_place) in omega (arith, none)
+      go (Some d) e =
+          let within = slice_get_within (table_rows trees names) id (table_row trees names id d) (row_of id d e) in
+          let ends : is_endless (course_of (table_rows trees names) id) ≡ false = ap is_endless (course-ends (table_rows trees names) levels circleless id within) in
+          let judged = unmet (is_long (table_rows trees names) id && not (is_endless (course_of (table_rows trees names) id))) _ (over-none (chain_at trees (table_rows trees names)) 0 (type_places names) u.chains id d.place (place_there (types names) id d e) id (omega arith)) in
+          low_by_chain (table_rows trees names) (bases_of trees names) bases_alike id (first_fails (is_long (table_rows trees names) id) (is_endless (course_of (table_rows trees names) id)) ends judged)
+
+  -- ---- bases derive
+
+  -- a type that has a base derives from it
+  derives : (id : ℕ) (d : Declared) → slice_get (types names) id ≡ Some d → (base : TypeId) → base_found trees names d.place ≡ Some base → HasKind (table_rows trees names) base.0 (DerivesFrom (kind_of trees names id d.place))
+  derives id d there base e = go (is_container trees d.place) refl
+    where
+      place : slice_get (type_places names) id ≡ Some d.place
+      place = place_there (types names) id d there
+
+      from_number : is_container trees d.place ≡ false → HasKind (table_rows trees names) base.0 (DerivesFrom (kind_of trees names id d.place))
+      from_number is =
+          let sub = base_is_sub trees names d.place base e is in
+          let b = base_of_sub trees names d.place base sub (fits_at id d.place place) e in
+          let other = declared_there (types names) base.0 b.place b.there in
+          let base_number : is_number trees (other.0).place ≡ true = ap (is_number trees) other.2 ∙ b.number in
+          let number = sub_is_number trees d.place sub in (
+            table_row trees names base.0 other.0,
+            row_there trees names 0 (types names) base.0 other.0 other.1 base.0 (omega arith),
+            subst (λ k. DerivesFrom k (kind_of trees names base.0 (other.0).place)) (sym (number_kind trees names id d.place number))
+                (subst (DerivesFrom (kind.Int (numbers_of trees (type_places names) (bases_of trees names) id).form (numbers_of trees (type_places names) (bases_of trees names) id).spans)) (sym (number_kind trees names base.0 (other.0).place base_number))
+                (derives_from trees names low_levels u.encodings u.ranges u.subs on_numbers id base (base_there trees names id d.place place ∙ e))),
+          )
+
+      from_container : is_container trees d.place ≡ true → HasKind (table_rows trees names) base.0 (DerivesFrom (kind_of trees names id d.place))
+      from_container is =
+          let b = base_of_container trees names d.place base is (fits_at id d.place place) e in
+          let other = declared_there (types names) base.0 b.place b.there in
+          let base_is : is_container trees (other.0).place ≡ true = ap (is_container trees) other.2 ∙ b.container in (
+            table_row trees names base.0 other.0,
+            row_there trees names 0 (types names) base.0 other.0 other.1 base.0 (omega arith),
+            rw (is, base_is) tt,
+          )
+
+      go : (b : Bool) → is_container trees d.place ≡ b → HasKind (table_rows trees names) base.0 (DerivesFrom (kind_of trees names id d.place))
+      go true is = from_container is
+      go false is = from_number is
+
   -- a container derives from a container, and nothing else does
   base_alike : (id base : ℕ) → base_of (table_rows trees names) id ≡ Some base → is_some (container_of (table_rows trees names) base) ≡ is_some (container_of (table_rows trees names) id)
   base_alike id base e =
@@ -353,39 +449,10 @@ module _ (trees : List (List Node)) (names : Names) (word : Option (List ℕ)) (
   base_row id base e =
       let h = has_base id base e in
       subst (λ n. level (bases_of trees names) id ≡ suc (level (bases_of trees names) n)) h.number
-      (less_levels trees names u.cycles u.chains u.encodings u.ranges u.subs on_numbers id h.found (base_there trees names id h.declared.place (place_there (types names) id h.declared h.there) ∙ h.by_name))
-
-  base_within : (id base : ℕ) → base_of (table_rows trees names) id ≡ Some base → base < length (table_rows trees names)
-  base_within id base e =
-      let h = has_base id base e in
-      let within = number_there trees names named h.declared.place (base_named trees h.declared.place) h.found h.by_name in
-      subst (λ n. n < length (table_rows trees names)) h.number (subst (λ n. (h.found).0 < n) (sym (length-rows trees names 0 (types names))) within)
-
-  levels : HasLevels (table_rows trees names)
-  levels = record { level = level (bases_of trees names); base_level = base_row; base_within = base_within }
+      (less_bases (bases_of trees names) low_levels id h.found (base_there trees names id h.declared.place (place_there (types names) id h.declared h.there) ∙ h.by_name))
 
   leveled : AreLeveled (table_rows trees names)
-  leveled = record { level = level (bases_of trees names); low = few_levels trees names u.cycles u.chains u.encodings u.ranges u.subs on_numbers; base_level = base_row }
-
-  -- the element of a type that is there
-  place_of : (id : ℕ) → id < length (table_rows trees names) → (at : Place) × (slice_get (type_places names) id ≡ Some at)
-  place_of id lt = go (slice_get (types names) id) refl
-    where
-      go : (o : Option Declared) → slice_get (types names) id ≡ o → (at : Place) × (slice_get (type_places names) id ≡ Some at)
-      go None e = absurd (no_item (types names) id (subst (λ n. id < n) (length-rows trees names 0 (types names)) lt) e)
-      go (Some d) e = (d.place, place_there (types names) id d e)
-
-  -- no type reaches itself
-  circleless : (id : ℕ) → id < length (table_rows trees names) → is_circular (course_of (table_rows trees names) id) ≡ false
-  circleless id lt =
-      let at = place_of id lt in
-      let here = unmet (is_circular (course_of (table_rows trees names) id) && not (meets_base_cycle (table_rows trees names) id)) _ (over-none (type_cycle_at trees (table_rows trees names)) 0 (type_places names) u.type_cycles id at.0 at.1 id (omega arith)) in
-      alone (is_circular (course_of (table_rows trees names) id)) (meets_base_cycle (table_rows trees names) id) (no_base_cycle (table_rows trees names) levels id) here
-    where
-      alone : (a b : Bool) → b ≡ false → (a && not b) ≡ false → a ≡ false
-      alone true true e h = cc
-      alone true false e h = cc
-      alone false b e h = refl
+  leveled = record { level = level (bases_of trees names); low = low_levels; base_level = base_row }
 
   -- none is nested too deep
   few_nested : (id : ℕ) → id < length (table_rows trees names) → is_too_deep (course_of (table_rows trees names) id) ≡ false
@@ -547,14 +614,49 @@ module _ (trees : List (List Node)) (names : Names) (word : Option (List ℕ)) (
       let own = own_none trees (error_control_at trees names) d.place here in
       let one = unmet (is_element trees (codes "ErrorControlEntry") q && not (is_held trees names q)) _ (each-none (error_control_at trees names) (own_parts_at trees d.place) own k q e) in
       record {
-        fits = check_type q (was (is_element trees (codes "ErrorControlEntry") q) (is_held trees names q) (part_sort_named (node_name (element trees q)) sorts.ErrorControl s) one);
+        fits = check_type q (held_where (is_element trees (codes "ErrorControlEntry") q) (is_held trees names q) (part_sort_named (node_name (element trees q)) sorts.ErrorControl s) one);
         nests = λ inner same_type. (let is : (entry_id trees names q).0 ≡ inner = cc in part_nests id d there con k q e sorts.ErrorControl s inner same_type is);
       }
+
+  -- ---- fixed values
+
+  -- the row of a type whose kind texts stand for values of has this kind
+  scalar_there : (id : ℕ) (k : Kind) → scalar_of trees names id ≡ Some k → HasKind (table_rows trees names) id (λ other. other ≡ k)
+  scalar_there id k e = go (slice_get (type_places names) id) refl e
     where
-      was : (a b : Bool) → a ≡ true → (a && not b) ≡ false → b ≡ true
-      was true true e h = refl
-      was true false e h = absurd cc
-      was false b e h = absurd cc
+      of_place : (at : Place) → slice_get (type_places names) id ≡ Some at → (con : Bool) → is_container trees at ≡ con → (arr : Bool) → is_array trees at ≡ arr → (if con || arr then None else Some (scalar_at trees names id at)) ≡ Some k → HasKind (table_rows trees names) id (λ other. other ≡ k)
+      of_place at there true c arr a f = absurd cc
+      of_place at there false c true a f = absurd cc
+      of_place at there false c false a f =
+          let other = declared_there (types names) id at there in
+          let is : scalar_at trees names id at ≡ k = cc in
+          (table_row trees names id other.0, row_of id other.0 other.1, ap (kind_of trees names id) other.2 ∙ rw (c, a) is)
+
+      go : (o : Option Place) → slice_get (type_places names) id ≡ o → (o >>= scalar_if trees names id) ≡ Some k → HasKind (table_rows trees names) id (λ other. other ≡ k)
+      go None q f = absurd cc
+      go (Some at) q f = of_place at q (is_container trees at) refl (is_array trees at) refl f
+
+  -- where the text of a fixed value stands for a value of its type, its row has one
+  fixed_type : (q : Place) → is_some (fixed_value trees names (entry_id trees names q).0 q) ≡ true
+      → HasKind (table_rows trees names) (entry_id trees names q).0 (λ k. IsValueOf k (plain (row_value (fixed_value trees names (entry_id trees names q).0 q))))
+  fixed_type q h =
+      let id = (entry_id trees names q).0 in
+      let read = value-read trees names id (attribute trees (codes "fixedValue") q) h in
+      let row = scalar_there id read.type_kind read.known in
+      (row.0, row.1, subst (λ k. IsValueOf k (plain (row_value (fixed_value trees names id q)))) (sym row.2) read.is_value)
+
+  fixed_keeps : (id : ℕ) (d : Declared) → slice_get (types names) id ≡ Some d → is_container trees d.place ≡ true → (k : ℕ) (q : Place) → slice_get (own_parts_at trees d.place) k ≡ Some q → sort_at trees q ≡ Some sorts.FixedValue
+      → EntryKeeps (table_rows trees names) rank (record { container = id; place = k; part = fixed_part trees names q })
+  fixed_keeps id d there con k q e s =
+      let here = each-none (judged_elements fixed_value_at trees names) (type_places names) u.fixed id d.place (place_there (types names) id d there) in
+      let own = own_none trees (fixed_value_at trees names) d.place here in
+      let one = unmet (is_element trees (codes "FixedValueEntry") q && not (is_some (fixed_value trees names (entry_id trees names q).0 q))) _ (each-none (fixed_value_at trees names) (own_parts_at trees d.place) own k q e) in
+      let value = held_where (is_element trees (codes "FixedValueEntry") q) (is_some (fixed_value trees names (entry_id trees names q).0 q)) (part_sort_named (node_name (element trees q)) sorts.FixedValue s) one in
+      let shut = none_open (open_of (table_rows trees names) (entry_id trees names q).0) (unmet (is_some (open_of (table_rows trees names) (entry_id trees names q).0)) _ (unbroken_part length_field_at u.lengths id d there con k q e sorts.FixedValue s)) in
+      record {
+        fits = (fixed_type q value, shut);
+        nests = λ inner same_type. (let is : (entry_id trees names q).0 ≡ inner = cc in part_nests id d there con k q e sorts.FixedValue s inner same_type is);
+      }
 
   -- ---- lists
 
@@ -588,7 +690,7 @@ module _ (trees : List (List Node)) (names : Names) (word : Option (List ℕ)) (
       go : (s : Option PartSort) → sort_at trees q ≡ s → EntryKeeps (table_rows trees names) rank (record { container = id; place = k; part = part_by s trees names id (seats_of trees names id) q })
       go None s = unread_keeps id k
       go (Some sorts.Entry) s = plain_keeps id d there con k q e s
-      go (Some sorts.FixedValue) s = unread_keeps id k
+      go (Some sorts.FixedValue) s = fixed_keeps id d there con k q e s
       go (Some sorts.Padding) s = let size = padding_keeps trees q in pad_keeps id k (padding_bits trees q) size.0 size.1
       go (Some sorts.List) s = list_keeps id d there con k q e s
       go (Some sorts.Length) s = length_keeps id d there con k q e s
@@ -624,7 +726,7 @@ module _ (trees : List (List Node)) (names : Names) (word : Option (List ℕ)) (
       place = place_there (types names) id d there
 
       numbers : HasNumbers (numbers_of trees (type_places names) (bases_of trees names) id)
-      numbers = domains trees names u.cycles u.chains u.encodings u.ranges u.subs on_numbers id (λ at q. (let both : Some d.place ≡ Some at = sym place ∙ q in let same : d.place ≡ at = cc in subst (λ p. is_container trees p ≡ false) same other))
+      numbers = domains trees names low_levels u.encodings u.ranges u.subs on_numbers id (λ at q. (let both : Some d.place ≡ Some at = sym place ∙ q in let same : d.place ≡ at = cc in subst (λ p. is_container trees p ≡ false) same other))
 
       of_type : (t : List Node) (s : Option Sort) → sort_of (name_at t d.place.node) ≡ s → encoding_breaks t d.place ≡ [] → enumeration_breaks t d.place ≡ []
           → KindKeeps (scalar_kind_by s t d.place.node (numbers_of trees (type_places names) (bases_of trees names) id))

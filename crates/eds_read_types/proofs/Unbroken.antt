@@ -25,6 +25,7 @@ use Rattle.eds_read_types.specs.DuplicateEntry.{breaks_duplicate}
 use Rattle.eds_read_types.specs.ListField.{breaks_list_field}
 use Rattle.eds_read_types.specs.PartElements.{at_part_elements}
 use Rattle.eds_read_types.specs.LengthField.{length_field_at, scale_at, second_length_at}
+use Rattle.eds_read_types.specs.FixedValue.{fixed_value_at}
 use Rattle.eds_read_types.specs.ErrorControl.{error_control_at}
 use Rattle.eds_read_types.specs.TableBreaks.{rules, table_breaks}
 use Rattle.eds_read_types.proofs.NoBreaks.{append-none}
@@ -70,6 +71,7 @@ pub record IsUnbroken (trees : List (List Node)) (names : Names) (word : Option 
   pub list_fields : breaks_list_field trees names ≡ []
   pub lengths : at_parts length_field_at trees names ≡ []
   pub one_lengths : at_rows second_length_at trees names ≡ []
+  pub fixed : at_part_elements fixed_value_at trees names ≡ []
   pub checks : at_part_elements error_control_at trees names ≡ []
 
 pub unbroken : (trees : List (List Node)) (names : Names) (word : Option (List ℕ)) → table_breaks trees names word ≡ [] → IsUnbroken trees names word
@@ -105,5 +107,6 @@ unbroken trees names word h =
       list_fields = containers.1.1.0;
       lengths = lengths.0;
       one_lengths = scales.1;
-      checks = containers.1.1.1.1.0;
+      fixed = containers.1.1.1.1.0;
+      checks = containers.1.1.1.1.1.0;
     }

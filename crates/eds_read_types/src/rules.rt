@@ -16,6 +16,7 @@ use crate::empty_range::{EmptyRange, EmptySubRange};
 use crate::empty_type::{EmptyItem, EmptyPart, EmptyWord};
 use crate::error_control::ErrorControl;
 use crate::face_rules::{AtFaces, OpenInFace, UnresolvedInFace, WrongKindInFace};
+use crate::fixed_value::FixedValue;
 use crate::length_field::{LengthField, LengthScale, SecondLength};
 use crate::limit_chain::LimitChain;
 use crate::limit_family::LimitFamily;
@@ -157,7 +158,7 @@ type References = And<
 type Bases = And<
     AtNumbers<BaseCycle>,
     And<
-        AtNumbers<LimitChain>,
+        AtRows<LimitChain>,
         And<
             AtRows<TypeCycle>,
             And<AtRows<LimitFamily>, And<AtRows<LimitNesting>, And<AtRows<LimitItems>, NoRule>>>,
@@ -185,7 +186,7 @@ type Containers = And<
         AtRows<DuplicateEntry>,
         And<
             AtRows<AtParts<ListField>>,
-            And<Lengths, And<Checks, And<AtFaces<OpenInFace>, NoRule>>>,
+            And<Lengths, And<FixedValue, And<Checks, And<AtFaces<OpenInFace>, NoRule>>>>,
         >,
     >,
 >;

@@ -18,6 +18,7 @@ use crate::rules::least_break;
 use crate::sheet_rows::SheetRows;
 use crate::table_row::table_rows;
 use crate::used::used_types;
+use crate::value_kinds::{ValueKinds, value_kinds};
 use eds_base::{Fail, Memory, Refusal, TypeId};
 use eds_graph::Course;
 use eds_names::Space;
@@ -80,18 +81,19 @@ fn sizes_of(alloc: Global, rows: &TypeRows) -> Result<Vec<usize>, Memory>
 }
 
 /// The first break of all rules on the types of a sheet, of which the rows are given.
-fn least_of(alloc: Global, graph: &BaseGraph, rows: &TypeRows) -> Result<Option<Refusal>, Memory>
-    requires read { rows.now ≡ table_rows_of graph.now.sheet.now.trees.now graph.now.sheet.now.space.now }
-    ensures { IfOk result (λ r. r ≡ least (table_breaks graph.now.sheet.now.trees.now graph.now.sheet.now.space.now (option_map (λ w. w.now) graph.now.sheet.now.asked))) }
+fn least_of(alloc: Global, kinds: &ValueKinds, rows: &TypeRows) -> Result<Option<Refusal>, Memory>
+    requires read { rows.now ≡ table_rows_of kinds.now.graph.now.sheet.now.trees.now kinds.now.graph.now.sheet.now.space.now }
+    ensures { IfOk result (λ r. r ≡ least (table_breaks kinds.now.graph.now.sheet.now.trees.now kinds.now.graph.now.sheet.now.space.now (option_map (λ w. w.now) kinds.now.graph.now.sheet.now.asked))) }
 {
     let nesting = courses_of(alloc, rows)?;
     let endless = endless_of(alloc, rows)?;
     let sizes = sizes_of(alloc, rows)?;
     let sheet = SheetRows {
-        graph,
+        graph: kinds.graph,
         rows,
         nesting: &nesting,
         sizes: &sizes,
+        kinds: kinds.known,
         endless: &endless,
     };
     least_break(alloc, &sheet)
@@ -101,8 +103,13 @@ fn least_of(alloc: Global, graph: &BaseGraph, rows: &TypeRows) -> Result<Option<
 fn read_graph(alloc: Global, graph: &BaseGraph) -> Result<SheetTypes, Fail<Refusal>>
     ensures { Answers (λ t. t) result (table_read graph.now.sheet.now.trees.now graph.now.sheet.now.space.now (option_map (λ w. w.now) graph.now.sheet.now.asked)) }
 {
-    let rows = table_rows(alloc, graph)?;
-    let found = least_of(alloc, graph, &rows)?;
+    let known = value_kinds(alloc, graph)?;
+    let kinds = ValueKinds {
+        graph,
+        known: &known,
+    };
+    let rows = table_rows(alloc, &kinds)?;
+    let found = least_of(alloc, &kinds, &rows)?;
     match found {
         Some(refusal) => Err(Fail::Named(refusal)),
         None => Ok(typed_of(alloc, graph.sheet, rows)?),
@@ -114,7 +121,8 @@ fn read_graph(alloc: Global, graph: &BaseGraph) -> Result<SheetTypes, Fail<Refus
 /// number: a reference to a type finds nothing or no type, the base of a
 /// sub-range is no integer type or sub-range, or an index type none of these and no enumerated or boolean type; a type is its own base, more than 16 types are in a chain of bases, a type reaches
 /// itself, more than 32 types are nested, or an array has more than 65,536 items; a type has no form, an integer type or sub-range no numbers, or an enumerated type no good list of labels; two
-/// parts of a container have one name, or a part or the TYPE word names a type without bits. The elements of the sheet are as they
+/// parts of a container have one name, the text of a fixed value stands for no value of its type, or a part or the TYPE word names a
+/// type without bits. The elements of the sheet are as they
 /// should be, so that there are at most 4,096 types, with at most 32,767 entries each.
 pub fn read_types(
     alloc: Global,

@@ -15,11 +15,11 @@ use Rattle.eds_tree.specs.ShapeCheck.{unless_broken}
 
 -- ---- elements
 
--- the elements that are not compiled yet wherever they stand: types, parts and constraints of containers,
--- and what the implementation of a component has
+-- the elements that are not compiled yet wherever they stand: constraints and trailers of containers, and what the
+-- implementation of a component has
 abbrev pub pending_names : List (List ℕ)
 pending_names = map codes (
-    "FixedValueEntry" ∷ "ConstraintSet" ∷ "TrailerEntryList"
+    "ConstraintSet" ∷ "TrailerEntryList"
     ∷ "VariableSet" ∷ "ParameterMapSet" ∷ "ActivitySet" ∷ "StateMachineSet" ∷ [])
 
 -- the element is one of these

@@ -17,7 +17,6 @@ fn is_pending(name: &str) -> bool
 {
     is_among(
         &[
-            "FixedValueEntry",
             "ConstraintSet",
             "TrailerEntryList",
             "VariableSet",

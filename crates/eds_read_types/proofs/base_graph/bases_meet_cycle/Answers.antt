@@ -1,7 +1,7 @@
 use Rattle.std.proofs.Common.{rules, ◌∙◌, sym, arith}
 use Rattle.eds_read_types.specs.Bases.{is_in_cycle}
 use Rattle.eds_read_types.proofs.BaseSteps.{any-none, any-end, any-hit, any-skip}
-use Rattle.eds_read_types.proofs.limit_chain.bases_meet_cycle.Goals as goal
+use Rattle.eds_read_types.proofs.base_graph.bases_meet_cycle.Goals as goal
 
 pub returns-in-None : goal.returns-in-None
 returns-in-None c = any-end (is_in_cycle c.args.graph.now.bases.now) c.args.graph.now.bases.now c.loop-left.left c.loop-left.at (search rules) ∙ c.loop-left.invariant
