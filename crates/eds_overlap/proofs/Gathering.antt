@@ -11,7 +11,7 @@ use Rattle.eds_types.specs.Rows.{Table}
 use Rattle.eds_types.specs.Rules.{AreDistinct}
 use Rattle.eds_types.proofs.AllOf.{All-weaker, All-both, All-front, All-back, one_of}
 use Rattle.eds_overlap.specs.declared.common.Common.{Common}
-use Rattle.eds_overlap.specs.Common.{paths_of, texts_of, IsOn, is_on, put_in_order, sorted_by_text}
+use Rattle.eds_overlap.specs.Common.{paths_of, texts_of, IsOn, is_on, put_in_order}
 use Rattle.eds_overlap.specs.Pairs.{Steps, same_path}
 use Rattle.eds_overlap.specs.PathTexts.{path_text, count_up_to, IsUpTo, AreInOrder}
 use Rattle.eds_overlap.proofs.Solutions.{same_is, same_not}

@@ -29,3 +29,4 @@ pub mod CommonNumbers
 pub mod CommonFound
 pub mod CommonLaws
 pub mod ToldApart
+pub mod Listing

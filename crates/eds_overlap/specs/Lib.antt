@@ -7,5 +7,5 @@ pub mod Underived
 pub mod Used
 pub mod PathTexts
 pub mod Common
-pub mod Marks
+pub mod Index
 pub mod Notes

@@ -1,7 +1,7 @@
 use Rattle.std.proofs.Common.{◌≡◌, ◌++◌, length}
 use Rattle.std.specs.Prelude.{option_map}
-use Rattle.eds_overlap.specs.Marks.{marks_on}
-use Rattle.eds_overlap.proofs.marks.numbers_on.Given as goal
+use Rattle.eds_overlap.specs.Index.{marks_on}
+use Rattle.eds_overlap.proofs.index.numbers_on.Given as goal
 
 -- the numbers so far go before those that are left
 abbrev pub invariant-loop-rest : goal.invariant-loop-rest
