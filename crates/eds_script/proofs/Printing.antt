@@ -25,7 +25,7 @@ use Rattle.eds_plan.specs.declared.instance.Member.{Member}
 use Rattle.eds_plan.specs.declared.instance.Member.TheVariants as member
 use Rattle.eds_plan.specs.Ends.{end_at}
 use Rattle.eds_script.specs.Events.{IsCommandBy, IsFrameLine, IsMemberLine, IsSentLine, frame_type, given_line}
-use Rattle.eds_script.specs.Fitting.{AreValuesOf, FitsMember, FitsParameter, IsOneOf, IsValueOf}
+use Rattle.eds_script.specs.Fitting.{AreValuesOf, FitsParameter, IsOneOf, IsValueOf}
 use Rattle.eds_script.specs.Given.{frame_octets}
 use Rattle.eds_script.specs.Known.{AreFieldsKnown, AreKnown, IsKnown}
 use Rattle.eds_script.specs.Laws.{FramesRead, MemberReads, OneLine, SentReads}

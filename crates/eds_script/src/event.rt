@@ -283,11 +283,7 @@ fn halt_line(alloc: Global, spot: &Spot<'_>, halt: Halt) -> Result<Octets, Memor
     ensures { IfOk result (λ o. o ≡ line_of_halt spot.now.time spot.now.place.now spot.now.name.now halt) }
 {
     let head = front(alloc, spot, "halt")?;
-    Ok(line_given(
-        alloc,
-        head.as_str(),
-        halt_word(halt).as_bytes(),
-    )?)
+    Ok(line_given(alloc, head.as_str(), halt_word(halt).as_bytes())?)
 }
 
 fn halted_line(

@@ -1,4 +1,4 @@
-use Rattle.std.proofs.Common.{◌≡◌, List, ℕ, map, subst, sym, ap, ◌∙◌}
+use Rattle.std.proofs.Common.{List, ℕ, map, subst, sym, ap, ◌∙◌}
 use Rattle.eds_base.specs.declared.ids.TypeId.{TypeId}
 use Rattle.eds_plan.specs.Carried.{carried_fields}
 use Rattle.eds_types.specs.Plain.{plain}
