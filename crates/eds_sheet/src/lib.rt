@@ -3,6 +3,7 @@
 
 mod files;
 pub mod law;
+mod overlaps;
 mod pending;
 mod sheet;
 

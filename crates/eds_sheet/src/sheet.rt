@@ -7,6 +7,7 @@ ghost use Rattle.eds_types.specs.Overlap.{IsClear};
 ghost use Rattle.eds_sheet.specs.Compiled.{is_container as container, counts_of as counted, compiled};
 
 use crate::files::{Files, read_trees};
+use crate::overlaps::check_overlaps;
 use crate::pending::check_pending;
 use eds_base::{Fail, Memory, Refusal, TypeId};
 use eds_names::Space;
@@ -90,6 +91,7 @@ fn sheet_of(alloc: Global, files: &Files, extra: Option<&str>) -> Result<Sheet, 
     check_pending(alloc, &trees)?;
     let space = Space::build(alloc, &trees)?;
     let typed = read_types(alloc, &trees, &space, extra)?;
+    check_overlaps(alloc, &space, &typed)?;
     check_ends(alloc, &trees, &space, &typed.table)?;
     let counts = counts_of(&space, &typed)?;
     Ok(Sheet {
