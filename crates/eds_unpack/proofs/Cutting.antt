@@ -114,13 +114,13 @@ packet_at k o v c rest e s =
 not_short : (k : Framing) → IsFraming k → (o : List ℕ) (g h : Fault) → FailsIn k o g → FailsIn k o h → (g.reason ≢ Short) → h.reason ≡ Short → ⊥
 not_short k is o g h f j n e = n (ap (λ (x : Fault). x.reason) (one_fault k is o g h f j) ∙ e)
 
-one_refusal : (k : Framing) → IsFraming k → (o : List ℕ) (g h : Fault) → IsRefused k o g → IsRefused k o h → g ≡ h
+pub one_refusal : (k : Framing) → IsFraming k → (o : List ℕ) (g h : Fault) → IsRefused k o g → IsRefused k o h → g ≡ h
 one_refusal k is o g h (inl a) (inl b) = one_fault k is o g h a.0 b.0
 one_refusal k is o g h (inl a) (inr b) = absurd (not_short k is o g b.0.fault a.0 b.0.fails a.1 b.0.short)
 one_refusal k is o g h (inr a) (inl b) = absurd (not_short k is o h a.0.fault b.0 a.0.fails b.1 a.0.short)
 one_refusal k is o g h (inr a) (inr b) = a.1 ∙ sym b.1
 
-wants_or_refused : (k : Framing) → IsFraming k → (o : List ℕ) (g : Fault) → WantsMore k o → IsRefused k o g → ⊥
+pub wants_or_refused : (k : Framing) → IsFraming k → (o : List ℕ) (g : Fault) → WantsMore k o → IsRefused k o g → ⊥
 wants_or_refused k is o g w (inl b) = not_short k is o g w.fault b.0 w.fails b.1 w.short
 wants_or_refused k is o g w (inr b) = let few = w.few in let many = b.0.many in omega arith
 

@@ -19,3 +19,4 @@ pub mod Cutting
 pub mod PiecesLaw
 pub mod Rooms
 pub mod Taking
+pub mod CutLaw

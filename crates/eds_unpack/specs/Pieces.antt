@@ -1,8 +1,10 @@
 -- Octets that are handed to a splitter in pieces: what they are cut into depends on all of them, and not on the pieces.
-use Rattle.std.specs.Prelude.{◌≡◌, ◌↔◌, ℕ, List, [], ◌∷◌, ◌++◌}
+use Rattle.std.specs.Prelude.{◌≡◌, ◌≢◌, ◌↔◌, ℕ, ◌<◌, List, [], ◌∷◌, ◌++◌, length, ◌⊎◌}
 use Rattle.std.specs.List.{flat_map}
+use Rattle.eds_base.specs.declared.fault.Fault.{Fault}
+use Rattle.eds_base.specs.declared.fault.Reason.TheVariants.{Short}
 use Rattle.eds_unpack.specs.Packets.{Framing, Packet, AreCut}
-use Rattle.eds_unpack.specs.Splitting.{Splitting, IsFraming, WantsMore, IsRefused, Answer, packet, more, refused, Takes, Feeds}
+use Rattle.eds_unpack.specs.Splitting.{Splitting, IsFraming, FailsIn, WantsMore, IsRefused, Answer, packet, more, refused, Takes, Feeds}
 
 -- ---- a list of calls
 
@@ -76,6 +78,35 @@ OneSplit = (k : Framing) → IsFraming k → (octets : List ℕ) → HasOneSplit
 -- octets are packets and nothing else exactly where their split leaves no rest, and then they are its packets
 abbrev pub WholeCut : Type 0
 WholeCut = (k : Framing) → IsFraming k → (octets : List ℕ) (ps : List Packet) (last : Answer) (rest : List ℕ) → IsSplit k octets ps last rest → (qs : List Packet) → AreCut k qs octets ↔ ((rest ≡ []) × (qs ≡ ps))
+
+-- ---- octets behind which no more come
+
+-- the fault of octets that begin with no packet: that of reading them, or the first of them where more are there than a
+-- packet may have; and where bits are missing in as many octets as a packet may have, that it is too long
+abbrev pub IsLastFault : Framing → List ℕ → Fault → Type 0
+IsLastFault k octets g = IsRefused k octets g ⊎ (FailsIn k octets g × (g.reason ≡ Short) × (length octets < k.most))
+
+-- the octets are packets, one after the other, and then a rest, which fails so
+pub record IsCutUpTo (k : Framing) (octets : List ℕ) (ps : List Packet) (g : Fault) : Type 0 where
+  pub front : List ℕ
+  pub rest : List ℕ
+  pub is : octets ≡ front ++ rest
+  pub cut : AreCut k ps front
+  pub some : rest ≢ []
+  pub fails : IsLastFault k rest g
+
+-- octets are packets and nothing else, or they are up to one fault, and not both; behind so many packets that none of
+-- the fronts of the octets has more
+pub record HasOneCut (k : Framing) (octets : List ℕ) : Type 0 where
+  pub either : ((ps : List Packet) × AreCut k ps octets) ⊎ ((ps : List Packet) × (g : Fault) × IsCutUpTo k octets ps g)
+  pub one_cut : (ps qs : List Packet) → AreCut k ps octets → AreCut k qs octets → ps ≡ qs
+  pub one_fault : (ps qs : List Packet) (g h : Fault) → IsCutUpTo k octets ps g → IsCutUpTo k octets qs h → (ps ≡ qs) × (g ≡ h)
+  pub not_both : (ps qs : List Packet) (g : Fault) → AreCut k ps octets → IsCutUpTo k octets qs g → ⊥
+  pub longest : (ps qs : List Packet) (g : Fault) (front rest : List ℕ) → IsCutUpTo k octets ps g → octets ≡ front ++ rest → AreCut k qs front → (others : List Packet) × (ps ≡ qs ++ others)
+
+-- so they are, where the type is clear and has no spelling of no bits
+abbrev pub OneCut : Type 0
+OneCut = (k : Framing) → IsFraming k → (octets : List ℕ) → HasOneCut k octets
 
 -- ---- pieces
 
