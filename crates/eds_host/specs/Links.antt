@@ -31,8 +31,3 @@ HasTies m ts = (e : End) → link_of m e ≡ other_end ts e
 abbrev pub Stops : Fail HostFail → Result (List Tie) HostFail → Type 0
 Stops (Named fail) ties = ties ≡ Err fail
 Stops Memory ties = Unit {0}
-
--- a function returned a map of all that wires tie, or stopped so
-abbrev pub TiesAll : Result (BTreeMap Place End) (Fail HostFail) → Result (List Tie) HostFail → Type 0
-TiesAll (Ok m) ties = (ts : List Tie) × (ties ≡ Ok ts) × HasTies m ts
-TiesAll (Err stop) ties = Stops stop ties

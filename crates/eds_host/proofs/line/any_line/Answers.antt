@@ -1,0 +1,14 @@
+use Rattle.std.proofs.Common.{subst}
+use Rattle.eds_host.specs.declared.handled.Handled.{Handled}
+use Rattle.eds_host.specs.declared.handled.Handled.TheVariants.{Done}
+use Rattle.eds_host.specs.Settings.{AtRest}
+use Rattle.eds_host.proofs.Handling.{calm_after}
+use Rattle.eds_host.proofs.line.any_line.Goals as goal
+
+-- where the line was done, the host is at rest
+pub returns-in-Done-clause-calm : goal.returns-in-Done-clause-calm
+returns-in-Done-clause-calm c =
+    let s = c.args.setting.now in
+    let e = c.in_ok-handled.ensures in
+    let n = c.told_line.new in
+    calm_after s n.now n.states n.queue n.dues Done e.now e.states e.tied e.placed (subst (λ (h : Handled). AtRest h n.now s.plan.now n.states) c.in-Done.is e.rest)

@@ -1,0 +1,202 @@
+//! Hosts.
+
+ghost use Rattle.std.specs.Prelude.{◌≡◌, ℕ, List, Ok, IfOk, IfErr, map};
+ghost use Rattle.std.specs.HashMap.{get_by_text};
+ghost use Rattle.eds_host.specs.Hosts.{asked_by};
+ghost use Rattle.eds_host.specs.Links.{Stops};
+ghost use Rattle.eds_host.specs.Wires.{ties_of};
+ghost use Rattle.eds_plan.specs.Ends.{end_named};
+
+use crate::beginning::all_fresh;
+use crate::dues::Dues;
+use crate::handled::Handled;
+use crate::line::any_line;
+use crate::queue::Queue;
+use crate::setting::Setting;
+use crate::states::States;
+use crate::wiring::{Asked, HostFail, Links, tie_all};
+use eds_base::{CompId, Fail, Items, Memory};
+use eds_plan::{CompState, End, EndIndex, Line, Outs, Plan, Wires, index_ends};
+use eds_types::TypeTable;
+use std::alloc::Global;
+use std::marker::Model;
+
+/// How a host stands.
+#[derive(Clone, Copy, Debug, PartialEq, Eq)]
+pub enum Phase {
+    /// The start is still to come.
+    Fresh,
+    /// Each line so far was done.
+    Rests,
+    /// A line was a storm.
+    Storm,
+    /// Memory ran out in a line.
+    Spent,
+}
+
+/// The components of a plan with wires between their ends, in a run: a time in nanoseconds, and the state of each component.
+/// Clauses see its table, plan and wires, the world of the run, and how it stands.
+#[derive(Drop)]
+pub struct Host<'a> {
+    alloc: Global,
+    table: &'a TypeTable,
+    plan: &'a Plan,
+    links: Links,
+    time: u64,
+    states: States,
+    queue: Queue,
+    dues: Dues,
+    phase: Phase,
+}
+
+impl<'a> Model for Host<'a> {
+    ghost use Rattle.std.specs.Coded.{codes};
+    ghost use Rattle.eds_host.specs.Hosts.{HostNow};
+    ghost use Rattle.eds_host.specs.Resting.{Stands};
+    ghost use Rattle.eds_host.specs.Settings.{world};
+    ghost use Rattle.eds_plan.specs.contracts.activity.Guard as guard;
+    ghost use Rattle.eds_plan.specs.contracts.activity.Statement as statement;
+    ghost use Rattle.eds_types.specs.PlainCode.{plain_code};
+    ghost use Rattle.eds_types.specs.contracts.value.Value as value;
+
+    ghost Value = { HostNow };
+
+    ghost coded = { Prim.hlevel (codes, plain_code, value.the_row.coded, guard.the_row.coded, statement.the_row.coded) };
+
+    ghost view = { λ h. record { table = h.table.now; plan = h.plan.now; wires = h.links; world = world h.time h.states h.queue; phase = h.phase } };
+
+    ghost invariant = { λ h. Stands h.phase h.table.now h.plan.now h.links h.time h.states h.queue h.dues };
+}
+
+// The end that a text names.
+fn end_called(index: &EndIndex, plan: &Plan, text: &str) -> Option<End>
+    requires { (q : List ℕ) → get_by_text index.now q ≡ end_named plan.now q }
+    ensures { result ≡ end_named plan.now text.now }
+{
+    index.get(text).copied()
+}
+
+// The ends that the texts of wires name.
+fn asked_ends(alloc: Global, plan: &Plan, wires: &Wires) -> Result<Items<Asked>, Memory>
+    ensures { IfOk result (λ asked. asked ≡ map (asked_by plan.now) wires.now) }
+{
+    let index = index_ends(alloc, plan)?;
+    let mut asked = Items::new(alloc);
+    let mut rest = wires.as_slice();
+    while let [wire, after @ ..] = rest {
+        asked.push(Asked {
+            line: wire.line,
+            lower: end_called(&index, plan, wire.lower.as_str()),
+            upper: end_called(&index, plan, wire.upper.as_str()),
+        })?;
+        rest = after;
+    }
+    Ok(asked)
+}
+
+// The wires' ends by the map of ends, or the first wire that ties nothing.
+fn links_of(alloc: Global, plan: &Plan, wires: &Wires) -> Result<Links, Fail<HostFail>>
+    ensures links { IfOk result (λ l. ties_of plan.now (map (asked_by plan.now) wires.now) ≡ Ok l) }
+    ensures fail { IfErr result (λ f. Stops f (ties_of plan.now (map (asked_by plan.now) wires.now))) }
+{
+    let asked = asked_ends(alloc, plan, wires)?;
+    tie_all(alloc, plan, asked.as_slice())
+}
+
+impl<'a> Host<'a> {
+    ghost use Rattle.std.specs.Prelude.{◌≡◌, ◌<◌, Ok, IfOk, IfErr, Some, length, map, slice_get};
+    ghost use Rattle.eds_act.specs.Does.{Conforms};
+    ghost use Rattle.eds_host.specs.Hosts.{ArgumentsAreClear, Handles, MayBeHandled, asked_by, components, standing_after};
+    ghost use Rattle.eds_host.specs.Links.{Stops};
+    ghost use Rattle.eds_host.specs.Runs.{unbegun};
+    ghost use Rattle.eds_host.specs.Systems.{state_now};
+    ghost use Rattle.eds_host.specs.Wires.{ties_of};
+    ghost use Rattle.eds_host.specs.declared.host.Phase.TheVariants.{Fresh, Spent};
+    ghost use Rattle.eds_plan.specs.Fitting.{PlanFits};
+    ghost use Rattle.eds_plan.specs.Lines.{told};
+    ghost use Rattle.eds_plan.specs.Outs.{report};
+
+    /// A host of components with wires between their ends, before the start. The error is the first wire that ties nothing,
+    /// with the first reason that holds: an end that isn't there or isn't of its kind, ends of differing interfaces or maps,
+    /// or an end that an earlier wire ties.
+    pub fn new(
+        alloc: Global,
+        table: &'a TypeTable,
+        plan: &'a Plan,
+        wires: &Wires,
+    ) -> Result<Host<'a>, Fail<HostFail>>
+        requires plan { PlanFits table.now (Conforms table.now) plan.now }
+        requires clear { ArgumentsAreClear table.now plan.now }
+        ensures table { IfOk result (λ h. h.table ≡ table.now) }
+        ensures plan { IfOk result (λ h. h.plan ≡ plan.now) }
+        ensures wires { IfOk result (λ h. ties_of plan.now (map (asked_by plan.now) wires.now) ≡ Ok h.wires) }
+        ensures world { IfOk result (λ h. h.world ≡ unbegun (components h)) }
+        ensures phase { IfOk result (λ h. h.phase ≡ Fresh) }
+        ensures fail { IfErr result (λ f. Stops f (ties_of plan.now (map (asked_by plan.now) wires.now))) }
+    {
+        let links = links_of(alloc, plan, wires)?;
+        let states = all_fresh(alloc, plan)?;
+        Ok(Host {
+            alloc,
+            table,
+            plan,
+            links,
+            time: 0,
+            states,
+            queue: Queue::new(alloc),
+            dues: Dues::new(alloc),
+            phase: Phase::Fresh,
+        })
+    }
+
+    /// Has one line happen, and puts what leaves the run behind what `out` has. A line is a storm where more than 10,000
+    /// deliveries and firings would follow from it, or where an earlier line was one; `out` then has what left before. Once
+    /// memory ran out in a line the host is spent: each further line ends so.
+    pub fn handle(&mut self, line: &Line, out: &mut Outs) -> Result<Handled, Memory>
+        requires { MayBeHandled self.old.phase self.old (told line.now) }
+        ensures table { self.new.table ≡ self.old.table }
+        ensures plan { self.new.plan ≡ self.old.plan }
+        ensures wires { self.new.wires ≡ self.old.wires }
+        ensures goes { IfOk result (λ h. Handles self.old.phase (told line.now) self.old self.new h (map report out.old) (map report out.new)) }
+        ensures phase { IfOk result (λ h. self.new.phase ≡ standing_after h) }
+        ensures spent { IfErr result (λ e. self.new.phase ≡ Spent) }
+    {
+        match self.phase {
+            Phase::Spent => Err(Memory),
+            Phase::Storm => Ok(Handled::Storm),
+            Phase::Fresh | Phase::Rests => {
+                let setting = Setting {
+                    table: self.table,
+                    plan: self.plan,
+                    links: &self.links,
+                };
+                any_line(
+                    self.alloc,
+                    &setting,
+                    line,
+                    &mut self.phase,
+                    &mut self.time,
+                    &mut self.states,
+                    &mut self.queue,
+                    &mut self.dues,
+                    out,
+                )
+            }
+        }
+    }
+
+    /// The state of a component.
+    pub fn state_of(&self, comp: CompId) -> &CompState
+        requires { comp.0 < length self.now.plan }
+        ensures { slice_get self.now.world.states comp.0 ≡ Some (state_now result.now) }
+    {
+        self.states.at(comp)
+    }
+
+    /// The time of the run, in nanoseconds.
+    pub fn now(&self) -> u64
+        ensures { result ≡ self.now.world.now }
+    {
+        self.time
+    }
+}
