@@ -27,9 +27,9 @@ none_yet t id n = (λ h. absurd h, λ h. absurd (below h.0 h.2))
 -- one more, that is such a container
 pub one_more : (t : Table) (id k : ℕ) (old new : List Span) → is_concrete_at t id k ≡ true → UpTo t id k old → ((n : ℤ) → pos k ≤ℤ n → n ≤ℤ pos k → IsWithin new n) → ((n : ℤ) → IsWithin old n → IsWithin new n) → ((n : ℤ) → IsWithin new n → IsWithin old n ⊎ ((pos k ≤ℤ n) × (n ≤ℤ pos k))) → UpTo t id (k + 1) new
 one_more t id k old new is h added kept others n = (
-    λ w. elim (others n w) [ inl o ↦ let p = (h n).0 o in (p.0, p.1, later p.0 p.2, p.3) | inr q ↦ let low = q.0 in let high = q.1 in (k, omega (arith, ints), omega arith, is) ],
-    λ p. at p.0 p.1 p.2 p.3,
-  )
+  λ w. elim (others n w) [ inl o ↦ let p = (h n).0 o in (p.0, p.1, later p.0 p.2, p.3) | inr q ↦ let low = q.0 in let high = q.1 in (k, omega (arith, ints), omega arith, is) ],
+  λ p. at p.0 p.1 p.2 p.3,
+)
   where
     later : (j : ℕ) → j < k → j < k + 1
     later j l = omega arith
@@ -43,9 +43,9 @@ one_more t id k old new is h added kept others n = (
 -- one more, that is none
 pub one_other : (t : Table) (id k : ℕ) (set : List Span) → is_concrete_at t id k ≡ false → UpTo t id k set → UpTo t id (k + 1) set
 one_other t id k set is h n = (
-    λ w. let p = (h n).0 w in (p.0, p.1, later p.0 p.2, p.3),
-    λ p. at p.0 p.1 p.2 p.3,
-  )
+  λ w. let p = (h n).0 w in (p.0, p.1, later p.0 p.2, p.3),
+  λ p. at p.0 p.1 p.2 p.3,
+)
   where
     later : (j : ℕ) → j < k → j < k + 1
     later j l = omega arith

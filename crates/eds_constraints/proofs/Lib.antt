@@ -7,3 +7,5 @@ pub mod SetFacts
 pub mod ConcreteFacts
 pub mod ValueFacts
 pub mod BreakSteps
+pub mod LeftFacts
+pub mod GoneOn

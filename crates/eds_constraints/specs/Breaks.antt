@@ -97,9 +97,13 @@ is_emptied None set = false
 is_emptied (Some left) None = false
 is_emptied (Some left) (Some set) = has_none (met left set)
 
+-- ConstraintEmpty, by whether a constraint leaves nothing
+abbrev pub empty_by : Bool → Asked → List Refusal
+empty_by emptied asked = if emptied then broken ConstraintEmpty asked ∷ [] else []
+
 -- ConstraintEmpty: a constraint leaves none of the numbers that those before it leave on its path
 abbrev pub empty_at : Table → (before : List Posed) → Posed → List Refusal
-empty_at t before c = if is_emptied (left_on t c.asked.path before) (admitted t c) then broken ConstraintEmpty c.asked ∷ [] else []
+empty_at t before c = empty_by (is_emptied (left_on t c.asked.path before) (admitted t c)) c.asked
 
 -- the same of each of some constraints, each with those before it
 abbrev pub empties_after : Table → (before : List Posed) → List Posed → List Refusal

@@ -5,3 +5,4 @@ pub mod Sets
 pub mod Breaks
 pub mod ConstrainedRows
 pub mod Named
+pub mod Lefts

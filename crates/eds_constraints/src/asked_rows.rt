@@ -1,6 +1,6 @@
 //! Rows of types, and what their containers ask.
 
-ghost use Rattle.std.specs.Prelude.{◌≡◌, map, IfOk};
+ghost use Rattle.std.specs.Prelude.{◌≡◌, ◌≤◌, length, map, IfOk};
 ghost use Rattle.eds_types.specs.Rows.{base_of as base_in_rows, number_of_id, numbers};
 ghost use Rattle.eds_constraints.specs.Breaks.{asked_of, posed_by, aim_at as aim_of_posed, admitted as admitted_by};
 ghost use Rattle.eds_constraints.specs.ConstrainedRows.{AreRead};
@@ -23,6 +23,7 @@ pub struct AskedRows<'a> {
     names: NamedRows<'a>,
     sets: Items<Spans>,
     ghost named: { names.rows.now ≡ rows.now },
+    ghost few: { length lists.now ≤ length rows.now },
     ghost sets_are: { sets ≡ map (concrete_under rows.now) (numbers rows.now) },
 }
 
@@ -33,7 +34,8 @@ impl<'a> AskedRows<'a> {
         rows: &'a [TypeRow],
         lists: &'a [AskedOf],
     ) -> Result<AskedRows<'a>, Memory>
-        requires { AreRead rows.now }
+        requires read { AreRead rows.now }
+        requires few { length lists.now ≤ length rows.now }
         ensures rows { IfOk result (λ a. a.rows.now ≡ rows.now) }
         ensures lists { IfOk result (λ a. a.lists.now ≡ lists.now) }
     {
@@ -86,7 +88,13 @@ impl<'a> AskedRows<'a> {
         requires { AreRead self.now.rows.now }
         ensures { IfOk result (λ s. s ≡ set_of_test self.now.rows.now aim.now.target.0 asked.now.test) }
     {
-        set_of(alloc, self.rows, self.sets.as_slice(), aim.target, &asked.test)
+        set_of(
+            alloc,
+            self.rows,
+            self.sets.as_slice(),
+            aim.target,
+            &asked.test,
+        )
     }
 
     /// The numbers that it admits, None exactly where it leads nowhere, or stands for nothing.

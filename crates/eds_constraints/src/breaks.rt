@@ -59,10 +59,7 @@ fn least_in<R: ConstraintRule>(
 }
 
 /// The least break of a rule in all containers.
-fn least_over<R: ConstraintRule>(
-    alloc: Global,
-    rows: &AskedRows,
-) -> Result<Option<Refusal>, Memory>
+fn least_over<R: ConstraintRule>(alloc: Global, rows: &AskedRows) -> Result<Option<Refusal>, Memory>
     requires { AreRead rows.now.rows.now }
     ensures { IfOk result (λ r. r ≡ least (breaks_over (R.breaks rows.now.rows.now) rows.now.rows.now rows.now.lists.now)) }
 {

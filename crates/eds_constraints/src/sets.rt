@@ -192,12 +192,7 @@ fn set_among(sets: &[Spans], id: TypeId) -> Option<&Spans>
     sets.get(id.0 as usize)
 }
 
-fn kept_set(
-    alloc: Global,
-    rows: &[TypeRow],
-    sets: &[Spans],
-    kept: TypeId,
-) -> Result<Spans, Memory>
+fn kept_set(alloc: Global, rows: &[TypeRow], sets: &[Spans], kept: TypeId) -> Result<Spans, Memory>
     requires read { AreRead rows.now }
     requires sets { sets.now ≡ map (concrete_at_or_under rows.now) (numbers rows.now) }
     ensures { IfOk result (λ s. s ≡ concrete_at_or_under rows.now kept.0) }
