@@ -175,7 +175,7 @@ within_above t n id x o h e is = ap (λ p. list_has (chain_before (chain_within 
 
 -- ---- over all numbers
 
-pub sets-next : (f : ℕ → List Span) (old new whole : List (List Span)) (i n : ℕ) → i < n → new ≡ old ++ f i ∷ [] → old ++ map f (range_with_len i (n - i)) ≡ whole → new ++ map f (range_with_len (i + 1) (n - (i + 1))) ≡ whole
+pub sets-next : {A : Type 0} (f : ℕ → A) (old new whole : List A) (i n : ℕ) → i < n → new ≡ old ++ f i ∷ [] → old ++ map f (range_with_len i (n - i)) ≡ whole → new ++ map f (range_with_len (i + 1) (n - (i + 1))) ≡ whole
 sets-next f old new whole i n lt e is =
     let step : n - i ≡ suc (n - (i + 1)) = omega arith in
     rw e (append_assoc old (f i ∷ []) (map f (range_with_len (i + 1) (n - (i + 1)))) ∙ ap (λ m. old ++ map f (range_with_len i m)) (sym step) ∙ is)

@@ -13,7 +13,8 @@ use Rattle.eds_types.specs.Rules.{KindKeeps}
 use Rattle.eds_constraints.specs.declared.asked.Aim.{Aim}
 use Rattle.eds_constraints.specs.declared.asked.Test.{Test}
 use Rattle.eds_constraints.specs.declared.asked.Test.TheVariants.{Value, Within, Under}
-use Rattle.eds_constraints.specs.Breaks.{Lists, Posed, aim_at, admitted, posed_of}
+use Rattle.eds_constraints.specs.Breaks.{Lists, Posed, aim_at, posed_of}
+use Rattle.eds_constraints.specs.Sets.{set_of}
 
 -- What the stages before say of rows: there are at most 4,096 types, and each kind keeps what the rules say of it alone.
 pub record AreRead (t : Table) : Type 0 where
@@ -27,13 +28,13 @@ is_on_kind (Within range) = false
 is_on_kind (Under id) = true
 
 -- a constraint as a row holds it, by where it leads and what it admits
-abbrev pub constraint_by : Posed → Aim → Option (List Span) → Option Constraint
-constraint_by c aim None = None
-constraint_by c aim (Some set) = Some (record { path = aim.path; set = set; on_kind = is_on_kind c.asked.test })
+abbrev pub constraint_by : Test → Aim → Option (List Span) → Option Constraint
+constraint_by test aim None = None
+constraint_by test aim (Some set) = Some (record { path = aim.path; set = set; on_kind = is_on_kind test })
 
 -- a constraint as a row holds it; none where it breaks a rule by itself
 abbrev pub constraint_of : Table → Posed → Option Constraint
-constraint_of t c = aim_at t c >>= λ aim. constraint_by c aim (admitted t c)
+constraint_of t c = aim_at t c >>= λ aim. constraint_by c.asked.test aim (set_of t aim.target.0 c.asked.test)
 
 -- those of a container
 abbrev pub constraints_for : Table → Lists → ℕ → List Constraint

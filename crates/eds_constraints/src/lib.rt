@@ -6,6 +6,7 @@
 mod asked;
 mod asked_rows;
 mod breaks;
+mod constrain;
 mod domain;
 mod left;
 mod paths;
@@ -16,6 +17,7 @@ mod sets;
 pub use asked::{Aim, Asked, AskedOf, Test};
 pub use asked_rows::AskedRows;
 pub use breaks::{constraint_target, constraint_value};
+pub use constrain::constraints_of_all;
 pub use domain::{domain_of, is_empty_domain, narrowed};
 pub use left::constraint_empty;
 pub use range::{End, NO_RANGE, Range};
