@@ -5,7 +5,7 @@ use Rattle.std.proofs.lemmas.Bool.{eq-eqb, eqb-true}
 use Rattle.std.proofs.lemmas.List.{length-append}
 use Rattle.eds_types.specs.Rows.{Table, base_of, chain_before, chain_within, list_has}
 
-has-last : (xs : List ℕ) (id y : ℕ) → list_has (xs ++ id ∷ []) y ≡ (list_has xs y || (id == y))
+pub has-last : (xs : List ℕ) (id y : ℕ) → list_has (xs ++ id ∷ []) y ≡ (list_has xs y || (id == y))
 has-last [] id y = go (id == y)
   where
     go : (b : Bool) → cond b true false ≡ (false || b)

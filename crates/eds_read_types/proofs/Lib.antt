@@ -10,11 +10,15 @@ mod RowSteps
 mod ItemFacts
 mod SeatFacts
 mod ChainSteps
+pub mod KinFacts
+pub mod HollowFacts
 pub mod SheetPlaces
 pub mod LevelFacts
 pub mod NestingFacts
 mod Unbroken
 pub mod EmptyFacts
+pub mod FaultFacts
+pub mod JudgedFacts
 pub mod ListPlaces
 mod LengthSteps
 pub mod ListFieldFacts

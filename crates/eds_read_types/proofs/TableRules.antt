@@ -1,9 +1,9 @@
 -- The rows of a sheet that breaks no rule on types keep the rules of a table.
 use Rattle.std.proofs.Common.{◌≡◌, ℕ, zero, suc, ◌+◌, ◌<◌, ◌≤◌, Bool, true, false, ◌||◌, ◌&&◌, List, [], ◌∷◌, ◌++◌, length, map, filter, slice_get, option_map, Option, Some, None, refl, sym, ap, subst, ◌∙◌, ◌⊎◌, inl, inr, arith, lit≤}
 use Rattle.std.specs.Prelude.{nat_le, nat_lt, is_some, IsSome, IfSome, unwrap_or, option_to_list, codes, not, Ok, if◌then◌else◌}
-use Rattle.std.specs.List.{AllByRecursion, filter_map, flat_map, list_all}
+use Rattle.std.specs.List.{AllByRecursion, filter_map, flat_map, list_all, list_any}
 use Rattle.std.proofs.Common.{leb-true}
-use Rattle.std.proofs.lemmas.Bool.{and_parts, leb-false, ltb-false}
+use Rattle.std.proofs.lemmas.Bool.{and_parts, leb-false, ltb-false, ltb-true}
 use Rattle.std.proofs.lemmas.Grind.{flat_map-append}
 use Rattle.std.proofs.lemmas.List.Elements.{filter_map-append}
 use Rattle.std.proofs.lemmas.List.Folds.{list_any-append}
@@ -28,7 +28,6 @@ use Rattle.eds_names.proofs.Differing.{differ}
 use Rattle.eds_types.specs.declared.row.TypeRow.{TypeRow}
 use Rattle.eds_types.specs.declared.row.Kind.{Kind}
 use Rattle.eds_types.specs.declared.row.Kind.TheVariants as kind
-use Rattle.eds_types.specs.declared.row.Container.{Container}
 use Rattle.eds_types.specs.declared.row.Part.{Part}
 use Rattle.eds_types.specs.declared.row.Part.TheVariants as part
 use Rattle.eds_types.specs.Rows.{Table, base_in, base_of, own_parts, placed_from, chain_before, chain_within, container_by, container_in, container_of, number_of_id, entries_in, Placed}
@@ -39,13 +38,13 @@ use Rattle.eds_graph.specs.Ways.{is_circular, is_endless}
 use Rattle.eds_graph.specs.Search.{Has as is_one_of}
 use Rattle.eds_types.specs.Rules.{AreDistinct, IsContainer, IsListing, IsValueOf, KindKeeps, HasKind, IsInt, IsIntBy, HoldsCheck, DerivesFrom, IsNested, IsCounted, TailKeeps, name_of, is_length, KeepsRules}
 use Rattle.eds_read_types.specs.declared.numbers.FormAndDomain.{FormAndDomain}
-use Rattle.eds_read_types.specs.Places.{element, is_element, is_container, is_array, is_sub_range, is_number, attribute, own_name, elements, types, type_places}
-use Rattle.eds_read_types.specs.References.{references, row_for, judged_text, judged_by, judged_at, broken_with}
+use Rattle.eds_read_types.specs.Places.{element, is_element, is_container, is_array, is_sub_range, is_number, attribute, elements, types, type_places}
+use Rattle.eds_read_types.specs.References.{references, row_for, judged_text, judged_by, judged_at}
 use Rattle.eds_read_types.specs.ReadTypes.{id_of, id_found}
 use Rattle.eds_read_types.specs.declared.part_sort.PartSort.{PartSort}
 use Rattle.eds_read_types.specs.declared.part_sort.PartSort.TheVariants as sorts
 use Rattle.eds_read_types.specs.Entries.{sort_at, entries_at, trailers_at, own_parts_at, parts_at, named_among}
-use Rattle.eds_read_types.specs.Parts.{PartJudgement, at_parts, parts_in}
+use Rattle.eds_read_types.specs.Parts.{PartJudgement, at_parts, at_rows, parts_in, judged_parts}
 use Rattle.eds_read_types.specs.Seats.{seats_of}
 use Rattle.eds_read_types.specs.ListFields.{field_seat, field_container, field_place}
 use Rattle.eds_read_types.specs.PartRows.{entry_id, id_or_first, padding_bits, unread, plain_part, fixed_part, list_part, length_part, check_part, part_by}
@@ -68,24 +67,28 @@ use Rattle.eds_read_types.specs.Nesting.{course_of, meets_base_cycle}
 use Rattle.eds_read_types.specs.TypeCycle.{type_cycle_at}
 use Rattle.eds_read_types.specs.LimitChain.{is_long, chain_at}
 use Rattle.eds_read_types.specs.LimitNesting.{is_too_deep, nesting_at}
-use Rattle.eds_read_types.specs.EmptyType.{may_be_empty, is_empty_entry, empty_part_at, item_in, empty_item_by, empty_item_at}
+use Rattle.eds_read_types.specs.Emptiness.{may_be_empty, is_empty_entry, is_empty_part, item_in}
+use Rattle.eds_read_types.specs.Faults.{part_breaks, has_empty_part, is_faulty_at, is_faulty_if, is_faulty, reaches_fault, is_judged, passes_type}
+use Rattle.eds_read_types.specs.EmptyType.{empty_part_at, empty_item_by, empty_item_at}
+use Rattle.eds_read_types.proofs.FaultFacts.{parts-same, items-same}
+use Rattle.eds_read_types.proofs.JudgedFacts.{NamesFault, reaches_none}
 use Rattle.eds_read_types.specs.Items.{items_at, row_items}
 use Rattle.eds_read_types.specs.LimitItems.{is_too_large, items_limit_at}
 use Rattle.eds_read_types.proofs.ItemFacts.{row_some}
 use Rattle.eds_read_types.specs.ListField.{is_told, list_field_at}
-use Rattle.eds_read_types.specs.LengthField.{is_int, is_tail, lengths_at, has_length_above, length_field_at, second_length_at}
+use Rattle.eds_read_types.specs.LengthField.{is_int, is_tail, lengths_at, has_length_above, length_field_at, scale_at, second_length_at}
 use Rattle.eds_read_types.specs.Checks.{check_at}
 use Rattle.eds_read_types.specs.PartElements.{judged_elements}
 use Rattle.eds_read_types.specs.FixedValues.{fixed_value, row_value}
 use Rattle.eds_read_types.specs.FixedValue.{fixed_value_at}
 use Rattle.eds_read_types.specs.ErrorControl.{is_held, error_control_at}
 use Rattle.eds_read_types.specs.declared.reference_row.Wanted.TheVariants.{NumberType, ContainerType}
-use Rattle.eds_read_types.proofs.NoBreaks.{none_at, least-none, append-none, types-apart, no_repeats}
+use Rattle.eds_read_types.proofs.NoBreaks.{none_at, least-none, types-apart, no_repeats}
 use Rattle.eds_read_types.proofs.Unbroken.{IsUnbroken, unbroken}
 use Rattle.eds_read_types.proofs.SheetPlaces.{at_one, each-none as nowhere, of_types}
 use Rattle.eds_read_types.proofs.Limits.{few_types, length-rows, no_container}
 use Rattle.eds_read_types.proofs.LawFacts.{name_apart, enumerated_unbroken}
-use Rattle.eds_read_types.proofs.PlainRules.{IsSolid, EntryKeeps, IsPlainArray, IsPlainKind, KeepsRow, ArePlainRows, solid_own, solid_other, own_placed, keeps_by_rows}
+use Rattle.eds_read_types.proofs.PlainRules.{IsSolid, EntryKeeps, IsPlainArray, IsPlainKind, KeepsRow, ArePlainRows, solid_other, own_placed, keeps_by_rows}
 use Rattle.eds_read_types.proofs.PartOrder.{by_lists}
 use Rattle.eds_read_types.proofs.RowRules.{AreLeveled, alike_kinds}
 use Rattle.eds_read_types.proofs.SequenceFacts.{OwnDiffer, AreDisjoint, name_mark, length_mark, parts_above, has-parts, disjoint-by}
@@ -94,7 +97,8 @@ use Rattle.eds_nesting.specs.Families.{families, family, containers, types_of, t
 use Rattle.eds_read_types.specs.LimitFamily.{family_size, family_at}
 use Rattle.eds_read_types.proofs.LevelFacts.{HasLevels}
 use Rattle.eds_read_types.proofs.NestingFacts.{no_base_cycle, course-ends, rank as rank_in, few_ranks, nested, base_ranks, part_named}
-use Rattle.eds_read_types.proofs.EmptyFacts.{has_bits, solid, closed}
+use Rattle.eds_read_types.proofs.EmptyFacts.{has_bits, closed}
+use Rattle.eds_read_types.proofs.HollowFacts.{solid}
 use Rattle.eds_read_types.proofs.ListFieldFacts.{counted}
 use Rattle.eds_read_types.proofs.TailFacts.{tail_kept}
 use Rattle.eds_read_types.proofs.LengthFacts.{part_sort_named, scaled, int_is, own_fewer, own_none}
@@ -270,6 +274,23 @@ base_of_container trees names at base is h e = text_of (attribute trees (codes "
     text_of (Some text) k f = found text (look_up names at text) k f
 
 -- ---- the rows of a sheet
+
+-- ---- a part that passes a test
+
+-- one of some parts that passes a test
+record IsFound (f : Part → Bool) (ps : List Part) : Type 0 where
+  index : ℕ
+  part_found : Part
+  there : slice_get ps index ≡ Some part_found
+  passed : f part_found ≡ true
+
+found : (f : Part → Bool) (ps : List Part) → list_any f ps ≡ true → IsFound f ps
+found f [] h = absurd cc
+found f (p ∷ ps) h = go (found f ps) (f p) refl h
+  where
+    go : (list_any f ps ≡ true → IsFound f ps) → (b : Bool) → f p ≡ b → (b || list_any f ps) ≡ true → IsFound f (p ∷ ps)
+    go later true e k = record { index = 0; part_found = p; there = refl; passed = e }
+    go later false e k = let r = later k in record { index = suc r.index; part_found = r.part_found; there = r.there; passed = r.passed }
 
 module _ (trees : List (List Node)) (names : Names) (word : Option (List ℕ)) (named : names_in trees ≡ Ok names) (u : IsUnbroken trees names word) where
   -- what the reference of a type finds is of the wanted kind
@@ -479,9 +500,95 @@ module _ (trees : List (List Node)) (names : Names) (word : Option (List ℕ)) (
   container_is : (id : ℕ) (d : Declared) → slice_get (types names) id ≡ Some d → is_container trees d.place ≡ true → container_of (table_rows trees names) id ≡ Some (container_at trees names id d.place)
   container_is id d there con = ap container_in (row_of id d there) ∙ rw con refl
 
+  -- what a part names, its container names
+  holds_part : (id : ℕ) (d : Declared) → is_container trees d.place ≡ true → (k : ℕ) (q : Place) → slice_get (own_parts_at trees d.place) k ≡ Some q → (x : ℕ) → type_by (Some (part_in trees names id q)) ≡ Some x → is_one_of (types_in (table_row trees names id d).kind) x
+  holds_part id d con k q e x h =
+      let there = slice_get-map (part_in trees names id) (own_parts_at trees d.place) k ∙ ap (option_map (part_in trees names id)) e in
+      let all : types_of (map (part_in trees names id) (own_parts_at trees d.place)) ≡ types_of (map (part_in trees names id) (entries_at trees d.place)) ++ types_of (map (part_in trees names id) (trailers_at trees d.place)) = ap types_of (map-append (part_in trees names id) (entries_at trees d.place) (trailers_at trees d.place)) ∙ flat_map-append (λ (p : Part). option_to_list (type_by (Some p))) (map (part_in trees names id) (entries_at trees d.place)) (map (part_in trees names id) (trailers_at trees d.place)) in
+      rw con (subst (λ xs. is_one_of xs x) all (part_named (map (part_in trees names id) (own_parts_at trees d.place)) k (part_in trees names id q) there x h))
+
+  -- ---- EmptyType is judged for every type
+
+  -- no part of a type breaks another rule on parts
+  no_part_breaks : (id : ℕ) (at : Place) → slice_get (type_places names) id ≡ Some at → part_breaks trees names id at ≡ []
+  no_part_breaks id at there =
+      let rows = table_rows trees names in
+      let double : duplicates_at trees rows id at ≡ [] = over-none (duplicates_at trees rows) 0 (type_places names) u.duplicates id at there id (omega arith) in
+      let fields : judged_parts list_field_at trees rows id at ≡ [] = over-none (judged_parts list_field_at trees rows) 0 (type_places names) u.list_fields id at there id (omega arith) in
+      let lengths : judged_parts length_field_at trees rows id at ≡ [] = over-none (judged_parts length_field_at trees rows) 0 (type_places names) u.lengths id at there id (omega arith) in
+      let scales : judged_elements scale_at trees names at ≡ [] = each-none (judged_elements scale_at trees names) (type_places names) u.scales id at there in
+      let seconds : second_length_at trees rows id at ≡ [] = over-none (second_length_at trees rows) 0 (type_places names) u.one_lengths id at there id (omega arith) in
+      let texts : judged_elements fixed_value_at trees names at ≡ [] = each-none (judged_elements fixed_value_at trees names) (type_places names) u.fixed id at there in
+      let checks : judged_elements error_control_at trees names at ≡ [] = each-none (judged_elements error_control_at trees names) (type_places names) u.checks id at there in
+      rw (double, fields, lengths, scales, seconds, texts, checks) refl
+
+  -- so a faulty type names a type for which the rule is not judged
+  names_fault : (id : ℕ) → id < length (table_rows trees names) → is_faulty trees names id ≡ true → NamesFault (table_rows trees names) (is_faulty trees names) id
+  names_fault id lt faulty =
+      let at = place_of id lt in
+      let other = declared_there (types names) id at.0 at.1 in
+      let here : is_faulty_at trees names id at.0 ≡ true = sym (ap (is_faulty_if trees names id) at.1) ∙ faulty in
+      let empty : has_empty_part (table_rows trees names) id ≡ true = sym (ap (λ rs. is_some (least rs) || has_empty_part (table_rows trees names) id) (no_part_breaks id at.0 at.1)) ∙ here in
+      let one = found (is_empty_part (table_rows trees names)) (parts_in (container_of (table_rows trees names) id)) empty in
+      by_container other.0 other.1 (place_there (types names) id other.0 other.1) one (is_container trees (other.0).place) refl
+    where
+      -- the type of such a part
+      typed : (p : Part) → is_empty_part (table_rows trees names) p ≡ true → (x : ℕ) × (type_by (Some p) ≡ Some x)
+      typed (part.Plain name x) h = (x.0, refl)
+      typed (part.Fixed name x v) h = absurd cc
+      typed (part.Pad n) h = absurd cc
+      typed (part.List name x y i) h = (x.0, refl)
+      typed (part.Length name x c0 c1) h = absurd cc
+      typed (part.Check name x check) h = absurd cc
+
+      unjudged : (a b : Bool) → (a && b) ≡ false → b ≡ true → a ≡ false
+      unjudged true b h e = absurd cc
+      unjudged false b h e = refl
+
+      reached : (x : ℕ) → is_judged trees names x ≡ false → (x < length (table_rows trees names)) × (reaches_fault 32 (table_rows trees names) (is_faulty trees names) x ≡ true)
+      reached x h = go (nat_lt x (length (table_rows trees names))) refl h
+        where
+          was : (b : Bool) → not b ≡ false → b ≡ true
+          was true e = refl
+          was false e = absurd cc
+
+          go : (b : Bool) → nat_lt x (length (table_rows trees names)) ≡ b → not (b && reaches_fault 32 (table_rows trees names) (is_faulty trees names) x) ≡ false → (x < length (table_rows trees names)) × (reaches_fault 32 (table_rows trees names) (is_faulty trees names) x ≡ true)
+          go false e k = absurd cc
+          go true e k = (ltb-true x (length (table_rows trees names)) e, was (reaches_fault 32 (table_rows trees names) (is_faulty trees names) x) k)
+
+      by_container : (d : Declared) → slice_get (types names) id ≡ Some d → slice_get (type_places names) id ≡ Some d.place → IsFound (is_empty_part (table_rows trees names)) (parts_in (container_of (table_rows trees names) id)) → (b : Bool) → is_container trees d.place ≡ b → NamesFault (table_rows trees names) (is_faulty trees names) id
+      by_container d there place one false con =
+          let none : container_of (table_rows trees names) id ≡ None = ap container_in (row_of id d there) ∙ no_container trees names id d.place con in
+          let nothing : None ≡ Some one.part_found = sym (ap (λ o. slice_get (parts_in o) one.index) none) ∙ one.there in absurd cc
+      by_container d there place one true con =
+          let con_is = container_is id d there con in
+          let q = mapped_there (part_in trees names id) (own_parts_at trees d.place) one.index one.part_found (sym (ap (λ ps. slice_get ps one.index) (parts_from id d con_is)) ∙ one.there) in
+          let type_is = typed one.part_found one.passed in
+          let none = unmet (passes_type (is_judged trees names) (type_by (Some one.part_found)) && is_empty_part (table_rows trees names) one.part_found) _ (part_none (empty_part_at (is_judged trees names)) trees names u.empty_parts id d.place place one.index one.part_found one.there q.0 q.1) in
+          let at_type : is_judged trees names type_is.0 ≡ false = sym (ap (passes_type (is_judged trees names)) type_is.1) ∙ unjudged (passes_type (is_judged trees names) (type_by (Some one.part_found))) (is_empty_part (table_rows trees names) one.part_found) none one.passed in
+          let r = reached type_is.0 at_type in
+          record {
+            row = table_row trees names id d;
+            row_is = row_of id d there;
+            inner = type_is.0;
+            held = holds_part id d con one.index q.0 q.1 type_is.0 (ap (λ p. type_by (Some p)) q.2 ∙ type_is.1);
+            within = r.0;
+            reached = r.1;
+          }
+
+  pub all_judged : (id : ℕ) → is_judged trees names id ≡ true
+  all_judged id = ap not (reaches_none (table_rows trees names) levels circleless (is_faulty trees names) names_fault 32 id)
+
+  -- so it is broken nowhere, whatever it is judged for
+  no_empty_parts : at_parts (empty_part_at (λ id. true)) trees names ≡ []
+  no_empty_parts = sym (parts-same (is_judged trees names) (λ id. true) all_judged trees names) ∙ u.empty_parts
+
+  no_empty_items : at_rows (empty_item_at (λ id. true)) trees names ≡ []
+  no_empty_items = sym (items-same (is_judged trees names) (λ id. true) all_judged trees names) ∙ u.empty_items
+
   -- where a part's type is no open binary and has bits
-  solid_type : (id : ℕ) → open_of (table_rows trees names) id ≡ None → may_be_empty (table_rows trees names) id ≡ false → IsSolid (table_rows trees names) id × (open_of (table_rows trees names) id ≡ None)
-  solid_type id closed_type bits = (solid_own (table_rows trees names) base_alike id (solid (table_rows trees names) id (has_bits (table_rows trees names) id bits).0), closed_type)
+  solid_type : (id : ℕ) → id < length (table_rows trees names) → open_of (table_rows trees names) id ≡ None → may_be_empty (table_rows trees names) id ≡ false → IsSolid (table_rows trees names) id × (open_of (table_rows trees names) id ≡ None)
+  solid_type id lt closed_type bits = (solid (table_rows trees names) id lt (has_bits (table_rows trees names) id bits).0, closed_type)
 
   none_open : (o : Option ℕ) → is_some o ≡ false → o ≡ None
   none_open None h = refl
@@ -501,7 +608,7 @@ module _ (trees : List (List Node)) (names : Names) (word : Option (List ℕ)) (
       let p : Placed = record { container = id; place = k; part = plain_part trees names q } in
       let part = part_there id d (container_is id d there con) k q e ∙ ap (λ s. Some (part_by s trees names id (seats_of trees names id) q)) s in
       let lengths = unmet (is_some (open_of (table_rows trees names) (entry_id trees names q).0) && not (is_tail (table_rows trees names) p)) _ (unbroken_part length_field_at u.lengths id d there con k q e sorts.Entry s) in
-      let bits = unmet (is_empty_entry (table_rows trees names) (entry_id trees names q).0) _ (unbroken_part empty_part_at u.empty_parts id d there con k q e sorts.Entry s) in
+      let bits = unmet (is_empty_entry (table_rows trees names) (entry_id trees names q).0) _ (unbroken_part (empty_part_at (λ id. true)) no_empty_parts id d there con k q e sorts.Entry s) in
       full (open_of (table_rows trees names) (entry_id trees names q).0) refl bits (λ h. tail_kept (table_rows trees names) id k (plain_part trees names q) part h) lengths
     where
       of_kind : (k : Kind) (n : ℕ) → open_by k ≡ Some n → container_by k ≡ None
@@ -525,7 +632,7 @@ module _ (trees : List (List Node)) (names : Names) (word : Option (List ℕ)) (
           → (is_tail (table_rows trees names) (record { container = id; place = k; part = plain_part trees names q }) ≡ true → TailKeeps (table_rows trees names) (record { container = id; place = k; part = plain_part trees names q }))
           → (is_some o && not (is_tail (table_rows trees names) (record { container = id; place = k; part = plain_part trees names q }))) ≡ false
           → IsSolid (table_rows trees names) (entry_id trees names q).0 × IfSome o (λ n. TailKeeps (table_rows trees names) (record { container = id; place = k; part = plain_part trees names q }))
-      full None none empty keep lengths = ((solid_type (entry_id trees names q).0 none empty).0, tt)
+      full None none empty keep lengths = ((solid_type (entry_id trees names q).0 (entry_there q id d there) none empty).0, tt)
       full (Some n) is empty keep lengths = (
         solid_other (table_rows trees names) base_alike (entry_id trees names q).0 (no_entries (slice_get (table_rows trees names) (entry_id trees names q).0) n is),
         keep (tail_of (is_tail (table_rows trees names) (record { container = id; place = k; part = plain_part trees names q })) lengths),
@@ -536,8 +643,8 @@ module _ (trees : List (List Node)) (names : Names) (word : Option (List ℕ)) (
       → IsSolid (table_rows trees names) (entry_id trees names q).0 × (open_of (table_rows trees names) (entry_id trees names q).0 ≡ None)
   list_solid id d there con k q e s =
       let open_none = none_open (open_of (table_rows trees names) (entry_id trees names q).0) (unmet (is_some (open_of (table_rows trees names) (entry_id trees names q).0)) _ (unbroken_part length_field_at u.lengths id d there con k q e sorts.List s)) in
-      let bits = unmet (may_be_empty (table_rows trees names) (entry_id trees names q).0) _ (unbroken_part empty_part_at u.empty_parts id d there con k q e sorts.List s) in
-      solid_type (entry_id trees names q).0 open_none bits
+      let bits = unmet (may_be_empty (table_rows trees names) (entry_id trees names q).0) _ (unbroken_part (empty_part_at (λ id. true)) no_empty_parts id d there con k q e sorts.List s) in
+      solid_type (entry_id trees names q).0 (entry_there q id d there) open_none bits
 
   -- padding keeps its size, and has no type
   pad_keeps : (id k n : ℕ) → 1 ≤ n → n ≤ 524288 → EntryKeeps (table_rows trees names) rank (record { container = id; place = k; part = part.Pad n })
@@ -545,13 +652,6 @@ module _ (trees : List (List Node)) (names : Names) (word : Option (List ℕ)) (
 
   unread_keeps : (id k : ℕ) → EntryKeeps (table_rows trees names) rank (record { container = id; place = k; part = unread })
   unread_keeps id k = pad_keeps id k 8 (lit≤ tt) (lit≤ tt)
-
-  -- what a part names, its container names
-  holds_part : (id : ℕ) (d : Declared) → is_container trees d.place ≡ true → (k : ℕ) (q : Place) → slice_get (own_parts_at trees d.place) k ≡ Some q → (x : ℕ) → type_by (Some (part_in trees names id q)) ≡ Some x → is_one_of (types_in (table_row trees names id d).kind) x
-  holds_part id d con k q e x h =
-      let there = slice_get-map (part_in trees names id) (own_parts_at trees d.place) k ∙ ap (option_map (part_in trees names id)) e in
-      let all : types_of (map (part_in trees names id) (own_parts_at trees d.place)) ≡ types_of (map (part_in trees names id) (entries_at trees d.place)) ++ types_of (map (part_in trees names id) (trailers_at trees d.place)) = ap types_of (map-append (part_in trees names id) (entries_at trees d.place) (trailers_at trees d.place)) ∙ flat_map-append (λ (p : Part). option_to_list (type_by (Some p))) (map (part_in trees names id) (entries_at trees d.place)) (map (part_in trees names id) (trailers_at trees d.place)) in
-      rw con (subst (λ xs. is_one_of xs x) all (part_named (map (part_in trees names id) (own_parts_at trees d.place)) k (part_in trees names id q) there x h))
 
   -- the type of a part is nested less deep
   part_nests : (id : ℕ) (d : Declared) → slice_get (types names) id ≡ Some d → is_container trees d.place ≡ true → (k : ℕ) (q : Place) → slice_get (own_parts_at trees d.place) k ≡ Some q → (s : PartSort) → sort_at trees q ≡ Some s
@@ -783,12 +883,12 @@ module _ (trees : List (List Node)) (names : Names) (word : Option (List ℕ)) (
   array_plain id d there is arr =
       let place = place_there (types names) id d there in
       let row = array_is id d there is arr in
-      let broken = over-none (empty_item_at trees (table_rows trees names)) 0 (type_places names) u.empty_items id d.place place id (omega arith) in
-      let bits = unmet (may_be_empty (table_rows trees names) (item_id d).0) _ (sym (ap (λ o. empty_item_by (table_rows trees names) d.place (item_in o)) row) ∙ broken) in
+      let broken = over-none (empty_item_at (λ id. true) trees (table_rows trees names)) 0 (type_places names) no_empty_items id d.place place id (omega arith) in
+      let bits = unmet (may_be_empty (table_rows trees names) (item_id d).0) _ (sym (ap (λ o. empty_item_by (λ id. true) (table_rows trees names) d.place (item_in o)) row) ∙ broken) in
       let is_closed = closed (open_of (table_rows trees names) (item_id d).0) (has_bits (table_rows trees names) (item_id d).0 bits).1 in
       record {
         nests = nested (table_rows trees names) levels circleless id (record { name = d.name; base = base_found trees names d.place; kind = array_kind trees names d.place }) row (item_id d).0 (item_there id d there) (inl refl);
-        solid = (solid_type (item_id d).0 is_closed bits).0;
+        solid = (solid_type (item_id d).0 (item_there id d there) is_closed bits).0;
         closed = is_closed;
       }
 

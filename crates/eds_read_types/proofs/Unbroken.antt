@@ -19,6 +19,7 @@ use Rattle.eds_read_types.specs.LimitItems.{items_limit_at}
 use Rattle.eds_read_types.specs.BadEncoding.{breaks_encoding}
 use Rattle.eds_read_types.specs.EmptyRange.{breaks_range, breaks_sub_range}
 use Rattle.eds_read_types.specs.BadEnumeration.{breaks_enumeration}
+use Rattle.eds_read_types.specs.Faults.{is_judged}
 use Rattle.eds_read_types.specs.EmptyType.{empty_part_at, empty_item_at, empty_word}
 use Rattle.eds_read_types.specs.Parts.{at_rows, at_parts}
 use Rattle.eds_read_types.specs.DuplicateEntry.{breaks_duplicate}
@@ -64,12 +65,13 @@ pub record IsUnbroken (trees : List (List Node)) (names : Names) (word : Option 
   pub ranges : breaks_range trees names ≡ []
   pub subs : breaks_sub_range trees names ≡ []
   pub enumerations : breaks_enumeration trees names ≡ []
-  pub empty_parts : at_parts empty_part_at trees names ≡ []
-  pub empty_items : at_rows empty_item_at trees names ≡ []
-  pub empties : empty_word trees names word ≡ []
+  pub empty_parts : at_parts (empty_part_at (is_judged trees names)) trees names ≡ []
+  pub empty_items : at_rows (empty_item_at (is_judged trees names)) trees names ≡ []
+  pub empties : empty_word (is_judged trees names) trees names word ≡ []
   pub duplicates : breaks_duplicate trees names ≡ []
   pub list_fields : breaks_list_field trees names ≡ []
   pub lengths : at_parts length_field_at trees names ≡ []
+  pub scales : at_part_elements scale_at trees names ≡ []
   pub one_lengths : at_rows second_length_at trees names ≡ []
   pub fixed : at_part_elements fixed_value_at trees names ≡ []
   pub checks : at_part_elements error_control_at trees names ≡ []
@@ -82,8 +84,8 @@ unbroken trees names word h =
     let bases = all.1.0 in
     let scalars = all.1.1.0 in
     let containers = all.1.1.1.0 in
-    let with_bits = append-none (at_parts empty_part_at trees names) _ containers.0 in
-    let further = append-none (at_rows empty_item_at trees names) _ with_bits.1 in
+    let with_bits = append-none (at_parts (empty_part_at (is_judged trees names)) trees names) _ containers.0 in
+    let further = append-none (at_rows (empty_item_at (is_judged trees names)) trees names) _ with_bits.1 in
     let lengths = append-none (at_parts length_field_at trees names) _ containers.1.1.1.0 in
     let scales = append-none (at_part_elements scale_at trees names) _ lengths.1 in
     record {
@@ -106,6 +108,7 @@ unbroken trees names word h =
       duplicates = containers.1.0;
       list_fields = containers.1.1.0;
       lengths = lengths.0;
+      scales = scales.0;
       one_lengths = scales.1;
       fixed = containers.1.1.1.1.0;
       checks = containers.1.1.1.1.1.0;

@@ -39,12 +39,16 @@ pub mod TypeCycle
 pub mod LimitChain
 pub mod LimitNesting
 pub mod LimitItems
-pub mod EmptyType
+pub mod Kin
+pub mod Hollow
+pub mod Emptiness
 pub mod ListField
 pub mod PartElements
 pub mod LengthField
 pub mod FixedValue
 pub mod ErrorControl
+pub mod Faults
+pub mod EmptyType
 pub mod FaceReferences
 pub mod ComponentReferences
 pub mod InnerReferences

@@ -1,6 +1,6 @@
 -- The number of a list's items is told by an entry of its container or of a base that stands before it, whose type is an integer
 -- type or a sub-range without negative numbers. Nothing is kept.
-use Rattle.std.specs.Prelude.{ℕ, ℤ, pos, int_lt, List, [], ◌∷◌, Bool, true, false, not, ◌&&◌, ◌||◌, ◌==◌, nat_lt, if◌then◌else◌, Option, Some, None, slice_get}
+use Rattle.std.specs.Prelude.{ℕ, pos, int_lt, List, [], ◌∷◌, Bool, false, not, ◌&&◌, ◌||◌, ◌==◌, nat_lt, if◌then◌else◌, Option, Some, None, slice_get}
 use Rattle.eds_base.specs.declared.ids.Place.{Place}
 use Rattle.eds_base.specs.declared.spans.Span.{Span}
 use Rattle.eds_base.specs.declared.refusal.Refusal.{Refusal}
@@ -12,7 +12,7 @@ use Rattle.eds_types.specs.declared.row.Kind.{Kind}
 use Rattle.eds_types.specs.declared.row.Kind.TheVariants as kind
 use Rattle.eds_types.specs.declared.row.Part.{Part}
 use Rattle.eds_types.specs.declared.row.Part.TheVariants as part
-use Rattle.eds_types.specs.Rows.{Table, Placed, container_of, entries_in, chain, list_has}
+use Rattle.eds_types.specs.Rows.{Table, container_of, entries_in, chain, list_has}
 use Rattle.eds_read_types.specs.References.{broken}
 use Rattle.eds_read_types.specs.Parts.{PartJudgement, at_parts, parts_in}
 

@@ -58,7 +58,11 @@ fn least_of_parts(
 }
 
 /// The first refusal of the parts of a type.
-fn least_of_type(alloc: Global, kinds: &ValueKinds, at: Place) -> Result<Option<Refusal>, Memory>
+pub(crate) fn least_of_type(
+    alloc: Global,
+    kinds: &ValueKinds,
+    at: Place,
+) -> Result<Option<Refusal>, Memory>
     ensures { IfOk result (λ r. r ≡ least (judged_elements fixed_value_at kinds.now.graph.now.sheet.now.trees.now kinds.now.graph.now.sheet.now.space.now at)) }
 {
     let parts = parts_at(alloc, kinds.graph.sheet.trees, at)?;

@@ -13,7 +13,7 @@ use crate::base_cycle::BaseCycle;
 use crate::breaks::{PlaceRule, TypeRule, least_over, least_over_types};
 use crate::duplicate_entry::DuplicateEntry;
 use crate::empty_range::{EmptyRange, EmptySubRange};
-use crate::empty_type::{EmptyItem, EmptyPart, EmptyWord};
+use crate::empty_type::EmptyType;
 use crate::error_control::ErrorControl;
 use crate::face_rules::{AtFaces, OpenInFace, UnresolvedInFace, WrongKindInFace};
 use crate::fixed_value::FixedValue;
@@ -170,8 +170,6 @@ type Scalars = And<
     AtTypes<BadEncoding>,
     And<AtTypes<EmptyRange>, And<AtNumbers<EmptySubRange>, And<AtTypes<BadEnumeration>, NoRule>>>,
 >;
-
-type EmptyType = And<AtRows<AtParts<EmptyPart>>, And<AtRows<EmptyItem>, EmptyWord>>;
 
 type Lengths = And<
     AtRows<AtParts<LengthField>>,

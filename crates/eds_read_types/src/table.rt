@@ -118,12 +118,14 @@ fn read_graph(alloc: Global, graph: &BaseGraph) -> Result<SheetTypes, Fail<Refus
 
 /// Reads the types of a sheet (CCSDS 876.0-B, data types), of which `space` has the names: their table, those that are used, and
 /// the one that the TYPE word `asked` names, where one is given; or the first rule that is broken, by phase, then by place, then by
-/// number: a reference to a type finds nothing or no type, the base of a
-/// sub-range is no integer type or sub-range, or an index type none of these and no enumerated or boolean type; a type is its own base, more than 16 types are in a chain of bases, a type reaches
-/// itself, more than 32 types are nested, or an array has more than 65,536 items; a type has no form, an integer type or sub-range no numbers, or an enumerated type no good list of labels; two
-/// parts of a container have one name, the text of a fixed value stands for no value of its type, or a part or the TYPE word names a
-/// type without bits. The elements of the sheet are as they
-/// should be, so that there are at most 4,096 types, with at most 32,767 entries each.
+/// number: a reference to a type finds nothing or no type, or the base of a sub-range is no integer type or sub-range, that of a
+/// container no container, or an index type none of these and no enumerated or boolean type; a type is its own base, more than 16
+/// types are in a chain of bases, a type reaches itself, more than 512 containers are of one family, more than 32 types are nested,
+/// or an array has more than 65,536 items; a type has no form, an integer type or sub-range no numbers, or an enumerated type no
+/// good list of labels; two parts of a container and its bases have one name, no entry before a list tells the number of its items,
+/// a length entry, an open binary or an error control is not as it should be, the text of a fixed value stands for no value of its
+/// type, or a part or the TYPE word names a type without bits. The elements of the sheet are as they should be, so that there are
+/// at most 4,096 types, with at most 32,767 entries and as many trailers each.
 pub fn read_types(
     alloc: Global,
     trees: &Trees,

@@ -38,7 +38,7 @@ typed-sound trees word names typed shaped named read apart =
     record {
       rules = keeps;
       named = known.0;
-      clear = word_clear trees names word typed unbroken.1 keeps apart (table_closed trees names word typed read);
+      clear = word_clear trees names word typed unbroken.1 keeps apart (table_closed trees names word named typed read);
       asked = known.1;
     }
 
