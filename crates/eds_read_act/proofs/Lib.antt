@@ -4,3 +4,7 @@ pub mod Sound
 pub mod Stepping
 pub mod Over
 pub mod Planning
+pub mod Giving
+pub mod Carried
+pub mod Arriving
+pub mod Transacting
