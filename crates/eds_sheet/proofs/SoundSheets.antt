@@ -13,7 +13,7 @@ use Rattle.eds_types.specs.Sizes.{open_of}
 use Rattle.eds_overlap.specs.Pairs.{Named}
 use Rattle.eds_read_types.specs.declared.table.SheetTypes.{SheetTypes}
 use Rattle.eds_read_types.specs.TableRead.{table_read}
-use Rattle.eds_read_types.proofs.TableFacts.{table_unbroken, table_word, table_closed}
+use Rattle.eds_read_types.proofs.TableFacts.{table_unbroken, table_word, table_closed, table_solid}
 use Rattle.eds_read_types.proofs.TableRules.{table_keeps}
 use Rattle.eds_read_comp.specs.Uses.{end_verdict}
 use Rattle.eds_sheet.specs.declared.sheet.Sheet.{Sheet}
@@ -39,6 +39,7 @@ typed-sound trees word names typed shaped named read apart =
       rules = keeps;
       named = known.0;
       clear = word_clear trees names word typed unbroken.1 keeps apart (table_closed trees names word named typed read);
+      solid = table_solid trees names word named typed read;
       asked = known.1;
     }
 
