@@ -1,4 +1,6 @@
 pub mod Unpacking
+pub mod Splitting
+pub mod Targets
 pub mod SheetFiles
 pub mod OneAnswer
 pub mod AnswerLemmas

@@ -9,6 +9,7 @@ mod limits;
 mod pack;
 mod perform;
 mod report;
+mod split;
 mod status;
 mod stop;
 mod target;

@@ -9,3 +9,9 @@ pub mod ValueFacts
 pub mod BreakSteps
 pub mod LeftFacts
 pub mod GoneOn
+pub mod RowsEach
+pub mod AlikeTables
+pub mod AimFacts
+pub mod AdmittedFacts
+pub mod LeftSome
+pub mod ConstrainedKeeps

@@ -6,3 +6,4 @@ pub mod Breaks
 pub mod ConstrainedRows
 pub mod Named
 pub mod Lefts
+pub mod Laws

@@ -38,6 +38,8 @@ pub mod NumberFacts
 pub mod CheckFacts
 pub mod FixedFacts
 pub mod TableRules
+pub mod ReadRows
+pub mod SheetTableFacts
 pub mod Limits
 pub mod SequenceFacts
 pub mod FamilyFacts
