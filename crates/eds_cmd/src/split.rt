@@ -46,7 +46,11 @@ fn packet_fails(fault: Fault, octets: usize) -> Fault
 }
 
 // The value of the packet at the front of octets, and how many octets it has.
-fn packet_at(alloc: Global, target: &Target<'_>, octets: &[u8]) -> Result<(Value, usize), Fail<Fault>>
+fn packet_at(
+    alloc: Global,
+    target: &Target<'_>,
+    octets: &[u8],
+) -> Result<(Value, usize), Fail<Fault>>
     requires known { IsKnown (type_in target.now) }
     ensures packet { IfOk result (λ x. HoldsPacket (type_in target.now) (plain x.0) octets.now x.1) }
     ensures fault { IfErr result (FailsFor (type_in target.now) octets.now) }

@@ -157,9 +157,9 @@ rows_read trees names shaped named =
     record {
       few = leb-true (length (table_rows trees names)) 4096 parts.0;
       kinds = λ id row e.
-      let r = row_at trees names 0 (types names) id row e id (omega arith) in
-      read_kind row.kind (all_there has_few_entries (table_rows trees names) parts.1 id row e)
-      (subst (λ (w : TypeRow). HasSmallLabels w.kind) (sym r.is) (small_labels trees names id r.declared.place));
+          let r = row_at trees names 0 (types names) id row e id (omega arith) in
+          read_kind row.kind (all_there has_few_entries (table_rows trees names) parts.1 id row e)
+          (subst (λ (w : TypeRow). HasSmallLabels w.kind) (sym r.is) (small_labels trees names id r.declared.place));
     }
 
 -- each list of what is asked is at the number of a type

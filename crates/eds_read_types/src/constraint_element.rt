@@ -25,11 +25,7 @@ fn is_constraint(trees: &[Tree], at: Place) -> bool
 }
 
 /// Puts the constraints last that a set of them holds.
-fn push_constraints(
-    constraints: &mut Vec<Place>,
-    trees: &[Tree],
-    set: Place,
-) -> Result<(), Memory>
+fn push_constraints(constraints: &mut Vec<Place>, trees: &[Tree], set: Place) -> Result<(), Memory>
     ensures { OnOk result (constraints.new.items ≡ constraints.old.items ++ constraints_held trees.now set) }
 {
     for node in children_at(trees, set) {
