@@ -7,6 +7,7 @@ pub mod SetFacts
 pub mod ConcreteFacts
 pub mod ValueFacts
 pub mod BreakSteps
+pub mod BrokenFacts
 pub mod LeftFacts
 pub mod GoneOn
 pub mod RowsEach

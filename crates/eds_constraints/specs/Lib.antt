@@ -3,6 +3,7 @@ pub mod Domains
 pub mod Paths
 pub mod Sets
 pub mod Breaks
+pub mod Broken
 pub mod ConstrainedRows
 pub mod Named
 pub mod Lefts

@@ -153,7 +153,7 @@ fn own_left(alloc: Global, rows: &AskedRows, id: TypeId) -> Result<Left, Memory>
     Ok(Left { paths, states })
 }
 
-fn all_lefts(alloc: Global, rows: &AskedRows) -> Result<Items<Left>, Memory>
+pub(crate) fn all_lefts(alloc: Global, rows: &AskedRows) -> Result<Items<Left>, Memory>
     requires { AreRead rows.now.rows.now }
     ensures { IfOk result (λ l. AreAllLeft rows.now.rows.now rows.now.lists.now l) }
 {
@@ -268,7 +268,7 @@ fn seeds(
 // ---- the rule
 
 // The least constraint of a container that leaves nothing.
-fn least_empty(
+pub(crate) fn least_empty(
     alloc: Global,
     rows: &AskedRows,
     lefts: &[Left],
@@ -295,7 +295,7 @@ fn kind_rises(kind: &Kind)
     }
 }
 
-fn rows_rise(rows: &[TypeRow])
+pub(crate) fn rows_rise(rows: &[TypeRow])
     ensures { AreRising rows.now }
 {
     for row in rows {

@@ -6,6 +6,7 @@
 mod asked;
 mod asked_rows;
 mod breaks;
+mod broken;
 mod constrain;
 mod domain;
 pub mod law;
@@ -18,6 +19,7 @@ mod sets;
 pub use asked::{Aim, Asked, AskedOf, Test};
 pub use asked_rows::AskedRows;
 pub use breaks::{constraint_target, constraint_value};
+pub use broken::broken_containers;
 pub use constrain::{constrained_rows, constraints_of_all};
 pub use domain::{domain_of, is_empty_domain, narrowed};
 pub use left::constraint_empty;

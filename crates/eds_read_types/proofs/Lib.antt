@@ -18,6 +18,7 @@ pub mod NestingFacts
 mod Unbroken
 pub mod EmptyFacts
 pub mod FaultFacts
+pub mod BrokenFacts
 pub mod JudgedFacts
 pub mod ListPlaces
 mod LengthSteps

@@ -67,8 +67,10 @@ use Rattle.eds_read_types.specs.TypeCycle.{type_cycle_at}
 use Rattle.eds_read_types.specs.LimitChain.{is_long, chain_at}
 use Rattle.eds_read_types.specs.LimitNesting.{is_too_deep, nesting_at}
 use Rattle.eds_read_types.specs.Emptiness.{may_be_empty, is_empty_entry, is_empty_part, item_in}
-use Rattle.eds_read_types.specs.Faults.{part_breaks, has_empty_part, is_faulty_at, is_faulty_if, is_faulty, reaches_fault, is_judged, passes_type}
+use Rattle.eds_read_types.specs.Faults.{part_breaks, is_constraint_broken, has_empty_part, is_faulty_at, is_faulty_if, is_faulty, reaches_fault, is_judged, passes_type}
 use Rattle.eds_read_types.specs.EmptyType.{empty_part_at, empty_item_by, empty_item_at}
+use Rattle.eds_read_types.specs.ConstraintElements.{asked_lists}
+use Rattle.eds_read_types.proofs.BrokenFacts.{none-broken}
 use Rattle.eds_read_types.proofs.FaultFacts.{parts-same, items-same}
 use Rattle.eds_read_types.proofs.JudgedFacts.{NamesFault, reaches_none}
 use Rattle.eds_read_types.specs.Items.{items_at, row_items}
@@ -527,7 +529,9 @@ module _ (trees : List (List Node)) (names : Names) (word : Option (List ℕ)) (
       let at = place_of id lt in
       let other = declared_there (types names) id at.0 at.1 in
       let here : is_faulty_at trees names id at.0 ≡ true = sym (ap (is_faulty_if trees names id) at.1) ∙ faulty in
-      let empty : has_empty_part (table_rows trees names) id ≡ true = sym (ap (λ rs. is_some (least rs) || has_empty_part (table_rows trees names) id) (no_part_breaks id at.0 at.1)) ∙ here in
+      let posed : is_constraint_broken trees names id ≡ false = none-broken (table_rows trees names) (asked_lists trees names) u.constraint_targets u.constraint_values u.constraint_empties id lt in
+      let empty : has_empty_part (table_rows trees names) id ≡ true =
+      sym (ap (λ rs. is_some (least rs) || (is_constraint_broken trees names id || has_empty_part (table_rows trees names) id)) (no_part_breaks id at.0 at.1) ∙ ap (λ b. b || has_empty_part (table_rows trees names) id) posed) ∙ here in
       let one = found (is_empty_part (table_rows trees names)) (parts_in (container_of (table_rows trees names) id)) empty in
       by_container other.0 other.1 (place_there (types names) id other.0 other.1) one (is_container trees (other.0).place) refl
     where

@@ -1,0 +1,16 @@
+use Rattle.std.proofs.Common.{◌++◌}
+use Rattle.std.specs.List.{flat_map}
+use Rattle.eds_constraints.specs.Breaks.{posed_of, target_at, value_at, empties_of}
+use Rattle.eds_constraints.proofs.BrokenFacts.{least-joined}
+use Rattle.eds_constraints.proofs.broken.least_of.Goals as goal
+
+pub returns : goal.returns
+returns c =
+    let rows = c.args.rows.now.rows.now in
+    let lists = c.args.rows.now.lists.now in
+    let targets = flat_map (target_at rows) (posed_of rows lists c.args.id.0) in
+    let values = flat_map (value_at rows) (posed_of rows lists c.args.id.0) in
+    let empties = empties_of rows lists c.args.id.0 in
+    least-joined targets (values ++ empties) c.in_ok-targets.targets c.first.result c.first-2.result c.in_ok-targets.ensures
+    (least-joined values empties c.in_ok-values.values c.in_ok-empties.empties c.first.result c.in_ok-values.ensures c.in_ok-empties.ensures c.first.ensures.first)
+    c.first-2.ensures.first
