@@ -154,7 +154,7 @@ def split_answer(judge, octets):
         try:
             value, end = m.Reader(judge, m.bits_of(front)).read(judge.word)
         except m.Fault as fault:
-            too_long = fault.reason == "Short" and len(rest) > 65536
+            too_long = fault.reason == "Short" and len(rest) >= 65536
             reason, path = ("TooLong", "") if too_long else (fault.reason, fault.path)
             return (3, "fault %s at $%s in packet %d\n" % (reason, path, len(lines) + 1))
         lines.append(m.shown(value) + "\n")
