@@ -12,8 +12,7 @@ use std::alloc::{AllocError, Global};
 /// The ends of a plan by their texts.
 pub type EndIndex = IndexMap<String, End>;
 
-/// The text of an end: its component's qualified name, a colon, and its own name.
-pub fn end_text(alloc: Global, component: &str, name: &str) -> Result<String, AllocError>
+fn end_text(alloc: Global, component: &str, name: &str) -> Result<String, AllocError>
     ensures { IfOk result (λ s. string_bytes s ≡ text_of_end component.now name.now) }
 {
     Ok(format!(in alloc; "{component}:{name}")?)
@@ -76,7 +75,11 @@ fn end_of(index: &EndIndex, text: &str) -> Option<End>
 }
 
 /// The end that a text names, with what the plan has of it.
-pub fn find_end<'a>(index: &EndIndex, plan: &'a Plan, text: &str) -> Option<(End, &'a EndPlan)>
+pub fn find_end<'a>(
+    index: &EndIndex,
+    plan: &'a Plan,
+    text: &str,
+) -> Option<(End, &'a EndPlan)>
     requires { (q : List ℕ) → get_by_text index.now q ≡ end_named plan.now q }
     ensures { option_map (λ p. (p.0, p.1.now)) result ≡ found_end plan.now text.now }
 {

@@ -5,6 +5,4 @@ pub mod Stepping
 pub mod Over
 pub mod Planning
 pub mod Giving
-pub mod Carried
-pub mod Arriving
 pub mod Transacting

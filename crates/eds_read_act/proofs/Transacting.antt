@@ -61,20 +61,21 @@ all-come names (x ∷ xs) q (inr h) = all-come (with_name names x) xs q h
 
 -- ---- each has a number
 
-swapped : (a b : List ℕ) → same b a ≡ false → same a b ≡ false
-swapped a b e = pick (same a b) refl
-  where
-    pick : (c : Bool) → same a b ≡ c → same a b ≡ false
-    pick true h = let is : a ≡ b = (bytes_eq-Decides a b).0 h in let both : same b a ≡ true = ap (same b) is ∙ same-self b in cc
-    pick false h = h
-
 placed : (k : ℕ) (names : List (List ℕ)) (q : List ℕ) → is_among names q ≡ true → is_some (place_from k names q) ≡ true
 placed k [] q h = cc
-placed k (n ∷ ns) q h = go (same n q) refl (λ later. placed (k + 1) ns q later)
+placed k (n ∷ ns) q h = go (same n q) refl
   where
-    go : (b : Bool) → same n q ≡ b → (is_among ns q ≡ true → is_some (place_from (k + 1) ns q) ≡ true) → is_some (place_from k (n ∷ ns) q) ≡ true
-    go true e others = rw e refl
-    go false e others = let other : same q n ≡ false = swapped q n e in rw e (others (rw other at h))
+    go : (b : Bool) → same n q ≡ b → is_some (place_from k (n ∷ ns) q) ≡ true
+    go true e = rw e refl
+    go false e =
+        let other : same q n ≡ false = swapped q n e in
+        rw e (placed (k + 1) ns q (rw other at h))
+    swapped : (a b : List ℕ) → same b a ≡ false → same a b ≡ false
+    swapped a b e = pick (same a b) refl
+      where
+        pick : (c : Bool) → same a b ≡ c → same a b ≡ false
+        pick true h = let is : a ≡ b = (bytes_eq-Decides a b).0 h in let both : same b a ≡ true = ap (same b) is ∙ same-self b in cc
+        pick false h = h
 
 mapped : (o : Option ℕ) → is_some o ≡ true → is_some (option_map long o) ≡ true
 mapped None h = h
@@ -108,7 +109,6 @@ apart-last (n ∷ ns) x d h = (first (same x n) refl, apart-last ns x d.1 (later
     later : (b : Bool) → same x n ≡ b → is_among ns x ≡ false
     later true e = let wrong : is_among (n ∷ ns) x ≡ true = rw e refl in cc
     later false e = rw e at h
-
     first : (b : Bool) → same x n ≡ b → is_among (ns ++ x ∷ []) n ≡ false
     first true e = let wrong : is_among (n ∷ ns) x ≡ true = rw e refl in cc
     first false e = names-last ns x n ∙ rw (turned (same n x) refl) d.0

@@ -36,13 +36,12 @@ abbrev pub value_if : List ℕ → Option Held → Option (List Field)
 value_if operation None = None
 value_if operation (Some p) = if sets_read_only operation p then None else Some (value_of operation p)
 
--- what an event carries that is no command: the value of a parameter, and nothing for a timer
-abbrev pub value_carried : Scope → ℕ → Option (List Field)
-value_carried s e = if is_named s.tree (codes "OnParameterPrimitive") e then value_if (text_at s.tree e (codes "operation")) (parameter_of s e) else Some []
-
--- the arguments that an event carries, where what it names is there: those of a command that arrive at its end, or the value
+-- The arguments that an event carries, where what it names is there: those of a command that arrive at its end, the value of a
+-- parameter, and none of a timer.
 abbrev pub carried_at : Scope → ℕ → Option (List Field)
-carried_at s e = if is_named s.tree (codes "OnCommandPrimitive") e then option_map (λ (c : Taker). c.fields) (command_of arriving s e) else value_carried s e
+carried_at s e =
+    if is_named s.tree (codes "OnCommandPrimitive") e then option_map (λ (c : Taker). c.fields) (command_of arriving s e) else
+    if is_named s.tree (codes "OnParameterPrimitive") e then value_if (text_at s.tree e (codes "operation")) (parameter_of s e) else Some []
 
 -- the same of what may be no event: the start of a machine carries nothing
 abbrev pub carried_if : Scope → Option ℕ → Option (List Field)

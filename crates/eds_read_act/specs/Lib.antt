@@ -1,7 +1,6 @@
 pub mod ActivitySorts
 pub mod Scopes
 pub mod Numbered
-pub mod Carrying
 pub mod Naming
 pub mod Inside
 pub mod Given

@@ -65,20 +65,16 @@ entry_number s machine = position (place_among (map (name_at s.tree) (states_of 
 abbrev pub guard_at : Scope → ℕ → Condition
 guard_at s n = condition_under s (Some n)
 
--- the transition that an element is, whose guard and action stand in a scope of their own
-abbrev pub transition_in : Scope → (inner : Scope) → (machine transition : ℕ) → PlannedTransition
-transition_in s inner machine x = record {
+-- the transition that an element is; its guard and its action name what its event carries
+abbrev pub transition_at : Scope → (machine transition : ℕ) → PlannedTransition
+transition_at s machine x = record {
   from = position (state_number s.tree machine x (codes "fromState"));
   to = position (state_number s.tree machine x (codes "toState"));
   event = trigger_if s (event_of s.tree x);
   transaction = transaction_if s (event_of s.tree x);
-  guard = option_map (guard_at inner) (child_named inner.tree x (codes "Guard"));
-  action = action_in inner (codes "Do") x;
+  guard = option_map (guard_at (event_scope s x)) (child_named s.tree x (codes "Guard"));
+  action = action_in (event_scope s x) (codes "Do") x;
 }
-
--- the transition that an element is; its guard and its action name what its event carries
-abbrev pub transition_at : Scope → (machine transition : ℕ) → PlannedTransition
-transition_at s machine x = transition_in s (event_scope s x) machine x
 
 -- the machine that an element is
 abbrev pub machine_at : Scope → ℕ → PlannedMachine

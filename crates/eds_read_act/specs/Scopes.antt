@@ -8,7 +8,7 @@ use Rattle.eds_tree.specs.Trees.{links_from}
 use Rattle.eds_types.specs.Rows.{Table}
 use Rattle.eds_plan.specs.declared.component.EndPlan.{EndPlan}
 use Rattle.eds_read_act.specs.declared.variable.VariableHead.{VariableHead}
-use Rattle.eds_read_act.specs.declared.component.Head.{Head}
+use Rattle.eds_read_act.specs.declared.scope.Head.{Head}
 use Rattle.eds_read_act.specs.declared.scope.Scope as seen
 
 -- a name with a type

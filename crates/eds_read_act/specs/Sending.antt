@@ -10,9 +10,11 @@ use Rattle.eds_plan.specs.declared.run.Way.{Way}
 use Rattle.eds_plan.specs.Carried.{carried_fields, leaving}
 use Rattle.eds_read_act.specs.declared.activity_sort.ActivitySort.{ActivitySort}
 use Rattle.eds_read_act.specs.declared.activity_sort.ActivitySort.TheVariants as sort
-use Rattle.eds_read_act.specs.declared.component.Head.{Head}
+use Rattle.eds_read_act.specs.declared.scope.Head.{Head}
 use Rattle.eds_read_act.specs.declared.sending.Taker.{Taker}
 use Rattle.eds_read_act.specs.declared.sending.Held.{Held}
+use Rattle.eds_read_act.specs.declared.sending.Taken.{Taken}
+use Rattle.eds_read_act.specs.declared.sending.Taken.TheVariants as taken
 use Rattle.eds_read_act.specs.ActivitySorts.{sort_at}
 use Rattle.eds_read_act.specs.Inside.{text_at}
 use Rattle.eds_read_act.specs.Naming.{short}
@@ -63,6 +65,11 @@ taken_by sort.Call s n = option_map (λ a. a.1) (activity_of s n)
 taken_by sort.Action s n = option_map (λ a. a.1) (activity_of s n)
 taken_by sort.SendCommand s n = option_map (λ (c : Taker). c.fields) (command_of leaving s n)
 taken_by k s n = None
+
+-- the arguments that something takes
+abbrev pub fields_taken : Taken → List Field
+fields_taken (taken.Activity fields) = fields.now
+fields_taken (taken.Command way arguments) = carried_fields way arguments.now
 
 -- the arguments, with their types, to which an element gives values, if it names something that takes some
 abbrev pub taken_at : Scope → ℕ → Option (List Field)

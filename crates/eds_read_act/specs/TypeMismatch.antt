@@ -22,7 +22,6 @@ use Rattle.eds_read_act.specs.ActivitySorts.{sort_at, is_operand}
 use Rattle.eds_read_act.specs.Inside.{text_at, operand_of, operands_of, is_operand_at}
 use Rattle.eds_read_act.specs.Operands.{kind_of, is_number, is_unknown, type_of, operand_fits}
 use Rattle.eds_read_act.specs.BadReference.{broken_if, is_bad, output_of, iterator_of}
-use Rattle.eds_read_act.specs.Carrying.{field_type}
 use Rattle.eds_read_act.specs.Scopes.{Scope, Field}
 use Rattle.eds_read_act.specs.Sending.{parameter_of, taken_at}
 
@@ -37,6 +36,11 @@ fits_if s w (Some n) = operand_fits s w n
 abbrev pub misfits_found : Scope → ℕ → Option Found → Bool
 misfits_found s n None = false
 misfits_found s n (Some f) = not (fits_if s (wanted.Type f.id) (operand_of s.tree n))
+
+-- the type of a field of a name
+abbrev pub field_type : List Field → List ℕ → Option TypeId
+field_type [] name = None
+field_type (f ∷ fs) name = if same f.0 name then Some f.1 else field_type fs name
 
 -- the operand of an element doesn't fit a type that may be there
 abbrev pub misfits_type : Scope → ℕ → Option TypeId → Bool

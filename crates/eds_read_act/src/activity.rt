@@ -8,9 +8,8 @@ ghost use Rattle.eds_read_act.specs.Activities.{bad_references_in, mismatches_in
 
 use crate::bad_reference::least_bad_reference;
 use crate::call_cycle::call_graph;
-use crate::component::Head;
 use crate::given::Given;
-use crate::scope::Scope;
+use crate::scope::{Head, Scope};
 use crate::sending::copied;
 use crate::statement::body_of;
 use crate::type_mismatch::{least_mismatch, push_sound};

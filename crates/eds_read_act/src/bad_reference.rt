@@ -1,25 +1,26 @@
 //! The rule that what an element of an activity, a guard or an action names is there, and may be written where it is written.
 
-ghost use Rattle.std.specs.Prelude.{◌≡◌, IfOk, slice_get, is_none};
+ghost use Rattle.std.specs.Prelude.{◌≡◌, IfOk, slice_get, option_map, is_none};
 ghost use Rattle.std.specs.List.{list_any};
-ghost use Rattle.std.specs.Option.{option_copied};
 ghost use Rattle.eds_base.specs.Refusals.{least};
 ghost use Rattle.eds_read_act.specs.Inside.{given_for as given_in};
+ghost use Rattle.eds_plan.specs.Carried.{carried_fields};
 ghost use Rattle.eds_read_act.specs.Given.{TellsGiven};
 ghost use Rattle.eds_read_act.specs.Operands.{found_at as found_in};
 ghost use Rattle.eds_read_act.specs.Scopes.{scope_of};
+ghost use Rattle.eds_read_act.specs.Sending.{fields_taken};
 ghost use Rattle.eds_read_act.specs.BadReference.{output_of as output_in, iterator_of as iterator_in, is_read_only as read_only_in, is_unwritable as unwritable_in, lacks_some as lacks_in, is_ungiven, is_the, is_stray as stray_in, is_unsendable as unsendable_in, calls as calls_in, is_bad as bad_in, broken_if as breaks_if, bad_reference_at, bad_references};
 
 use crate::activity_sort::{ActivitySort, sort_at};
-use crate::fields::Fields;
 use crate::given::Given;
 use crate::inside::{given_for, text_at};
 use crate::naming::{Found, variable_in, variable_named};
 use crate::operand::found_at;
 use crate::scope::Scope;
-use crate::sending::{Held, parameter_of, taken_at};
+use crate::sending::{Held, Taken, goes, parameter_of, taken_at};
 use crate::variable::VariableHead;
 use eds_base::{Kept, Memory, Place, Refusal, Rule, Text, TypeId};
+use eds_plan::{Argument, Way};
 use eds_tree::{Link, Tree};
 use std::alloc::Global;
 
@@ -74,14 +75,44 @@ fn lacks_one(tree: &Tree, given: &Given, fields: &[(Text, TypeId)]) -> bool
     false
 }
 
-fn lacks_some(alloc: Global, tree: &Tree, node: u32, taken: Option<&Fields>) -> Result<bool, Memory>
-    ensures { IfOk result (λ b. b ≡ lacks_in tree.now node (option_copied taken.entry)) }
+// Whether a command carries an argument that isn't given.
+fn lacks_carried(tree: &Tree, given: &Given, way: Way, arguments: &[Argument]) -> bool
+    requires { TellsGiven tree.now given.now }
+    ensures { result ≡ list_any (is_ungiven tree.now given.now.holder) (carried_fields way arguments.now) }
+{
+    let mut rest = arguments;
+    while let [argument, after @ ..] = rest {
+        if goes(way, argument.mode) && given.first(tree, argument.name.as_str()).is_none() {
+            return true;
+        }
+        rest = after;
+    }
+    false
+}
+
+fn lacks_given(tree: &Tree, given: &Given, taken: Taken) -> bool
+    requires { TellsGiven tree.now given.now }
+    ensures { result ≡ list_any (is_ungiven tree.now given.now.holder) (fields_taken taken) }
+{
+    match taken {
+        Taken::Activity(fields) => lacks_one(tree, given, fields.as_slice()),
+        Taken::Command(way, arguments) => lacks_carried(tree, given, way, arguments),
+    }
+}
+
+fn lacks_some(
+    alloc: Global,
+    tree: &Tree,
+    node: u32,
+    taken: Option<Taken>,
+) -> Result<bool, Memory>
+    ensures { IfOk result (λ b. b ≡ lacks_in tree.now node (option_map fields_taken taken)) }
 {
     match taken {
         None => Ok(true),
-        Some(fields) => {
+        Some(taken) => {
             let given = Given::of(alloc, tree, node)?;
-            Ok(lacks_one(tree, &given, fields.as_slice()))
+            Ok(lacks_given(tree, &given, taken))
         }
     }
 }
@@ -108,15 +139,15 @@ fn is_first_given(tree: &Tree, given: &Given, link: Link, name: &str) -> bool
     }
 }
 
-fn is_stray(tree: &Tree, given: &Given, link: Link, taken: Option<&Fields>) -> bool
+fn is_stray(tree: &Tree, given: &Given, link: Link, taken: Option<Taken>) -> bool
     requires { TellsGiven tree.now given.now }
-    ensures { result ≡ stray_in tree.now link (option_copied taken.entry) }
+    ensures { result ≡ stray_in tree.now link (option_map fields_taken taken) }
 {
     match taken {
         None => false,
-        Some(fields) => {
+        Some(taken) => {
             let name = text_at(tree, link.node, "name");
-            if fields.type_of(name).is_some() {
+            if taken.field_type(name).is_some() {
                 !is_first_given(tree, given, link, name)
             } else {
                 true

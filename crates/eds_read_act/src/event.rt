@@ -1,18 +1,17 @@
 //! The events that transitions wait for.
 
-ghost use Rattle.std.specs.Prelude.{◌≡◌, IfOk, codes, is_none, option_map};
-ghost use Rattle.eds_tree.specs.Trees.{is_named};
+ghost use Rattle.std.specs.Prelude.{◌≡◌, IfOk, is_none, option_map};
 ghost use Rattle.eds_plan.specs.Carried.{arriving};
 ghost use Rattle.eds_read_act.specs.Machines.{is_event as event_is, event_of as event_in};
-ghost use Rattle.eds_read_act.specs.Events.{carries_value as value_is_carried, sets_read_only as read_only_is_set, value_of as value_in, value_if as value_in_if, value_carried as value_carried_in, carried_at as carried_in, is_provided as end_is_provided, lacks_operation as operation_lacks, lacks_operation_if as operation_lacks_if, nanoseconds as nanoseconds_of, nanoseconds_at as nanoseconds_in, is_bad_timer as timer_is_bad, op_arriving as op_that_arrives, command_trigger as trigger_of_command, parameter_trigger as trigger_of_parameter, trigger_at as trigger_in, trigger_if as trigger_in_if, transaction_if as transaction_in_if};
+ghost use Rattle.eds_read_act.specs.Events.{carries_value as value_is_carried, sets_read_only as read_only_is_set, value_of as value_in, value_if as value_in_if, carried_at as carried_in, carried_if as carried_in_if, is_provided as end_is_provided, lacks_operation as operation_lacks, lacks_operation_if as operation_lacks_if, nanoseconds as nanoseconds_of, nanoseconds_at as nanoseconds_in, is_bad_timer as timer_is_bad, op_arriving as op_that_arrives, command_trigger as trigger_of_command, parameter_trigger as trigger_of_parameter, trigger_at as trigger_in, trigger_if as trigger_in_if, transaction_if as transaction_in_if};
 ghost use Rattle.eds_read_act.specs.Scopes.{scope_of};
-ghost use Rattle.eds_read_act.specs.Sending.{command_at_end, command_of};
+ghost use Rattle.eds_read_act.specs.Sending.{command_of};
 
 use crate::fields::Fields;
 use crate::inside::text_at;
 use crate::naming::short;
 use crate::scope::Scope;
-use crate::sending::{Held, command_among, end_of, has_command, parameter_of};
+use crate::sending::{Held, command_among, end_of, has_command, parameter_of, received_command};
 use crate::statement::transaction_at;
 use eds_base::{Items, Memory, Text, whole_number};
 use eds_plan::{EndPlan, Op, Trigger};
@@ -67,7 +66,11 @@ fn value_of(alloc: Global, operation: &str, held: Held) -> Result<Fields, Memory
     Fields::of(alloc, fields)
 }
 
-fn value_if(alloc: Global, operation: &str, held: Option<Held>) -> Result<Option<Fields>, Memory>
+fn value_if(
+    alloc: Global,
+    operation: &str,
+    held: Option<Held>,
+) -> Result<Option<Fields>, Memory>
     ensures { IfOk result (λ fs. fs ≡ value_in_if operation.now held) }
 {
     match held {
@@ -82,26 +85,40 @@ fn value_if(alloc: Global, operation: &str, held: Option<Held>) -> Result<Option
     }
 }
 
-/// Whether an event is a command that arrives.
-pub(crate) fn is_command(tree: &Tree, event: u32) -> bool
-    ensures { result ≡ is_named tree.now (codes "OnCommandPrimitive") event }
+fn command_carries(alloc: Global, scope: &Scope, event: u32) -> Result<Option<Fields>, Memory>
+    ensures { IfOk result (λ fs. fs ≡ option_map (λ c. c.fields) (command_of arriving (scope_of scope.now) event)) }
 {
-    tree.name_at(event) == "OnCommandPrimitive"
+    match received_command(alloc, scope, event)? {
+        None => Ok(None),
+        Some(taker) => Ok(Some(Fields::of(alloc, taker.fields)?)),
+    }
 }
 
-/// What an event carries that is no command, where what it names is there.
-pub(crate) fn value_carried(
-    alloc: Global,
-    scope: &Scope,
-    event: u32,
-) -> Result<Option<Fields>, Memory>
-    ensures { IfOk result (λ fs. fs ≡ value_carried_in (scope_of scope.now) event) }
+fn carried_at(alloc: Global, scope: &Scope, event: u32) -> Result<Option<Fields>, Memory>
+    ensures { IfOk result (λ fs. fs ≡ carried_in (scope_of scope.now) event) }
 {
-    if scope.tree.name_at(event) == "OnParameterPrimitive" {
+    let name = scope.tree.name_at(event);
+    if name == "OnCommandPrimitive" {
+        command_carries(alloc, scope, event)
+    } else if name == "OnParameterPrimitive" {
         let operation = text_at(scope.tree, event, "operation");
         value_if(alloc, operation, parameter_of(scope, event))
     } else {
         Ok(Some(Fields::of(alloc, Items::new(alloc))?))
+    }
+}
+
+/// The arguments that an event carries, where what it names is there; none where there is no event.
+pub(crate) fn carried_if(
+    alloc: Global,
+    scope: &Scope,
+    event: Option<u32>,
+) -> Result<Option<Fields>, Memory>
+    ensures { IfOk result (λ fs. fs ≡ carried_in_if (scope_of scope.now) event) }
+{
+    match event {
+        None => Ok(Some(Fields::of(alloc, Items::new(alloc))?)),
+        Some(event) => carried_at(alloc, scope, event),
     }
 }
 
@@ -204,21 +221,16 @@ fn op_arriving(operation: &str, held: Held) -> Op
     }
 }
 
-fn trigger_at_end(at: usize, end: &EndPlan, name: &str) -> Trigger
-    ensures { result ≡ trigger_of_command (command_at_end arriving name.now (at, end.now)) }
-{
-    match command_among(end.instance.members.as_slice(), name) {
-        None => Trigger::Command(0, 0),
-        Some((member, _)) => Trigger::Command(short(at), short(member)),
-    }
-}
-
 fn command_trigger(scope: &Scope, event: u32) -> Trigger
     ensures { result ≡ trigger_of_command (command_of arriving (scope_of scope.now) event) }
 {
+    let name = text_at(scope.tree, event, "command");
     match end_of(scope, event) {
         None => Trigger::Command(0, 0),
-        Some((at, end)) => trigger_at_end(at, end, text_at(scope.tree, event, "command")),
+        Some((at, end)) => match command_among(end.instance.members.as_slice(), name) {
+            None => Trigger::Command(0, 0),
+            Some((member, _)) => Trigger::Command(short(at), short(member)),
+        },
     }
 }
 

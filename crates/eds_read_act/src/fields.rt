@@ -39,7 +39,6 @@ fn names_of(alloc: Global, list: &[(Text, TypeId)]) -> Result<NameList, Memory>
 impl Fields {
     ghost use Rattle.std.specs.Prelude.{◌≡◌, IfOk, map, option_map};
     ghost use Rattle.eds_read_act.specs.Numbered.{item_named};
-    ghost use Rattle.eds_read_act.specs.Carrying.{field_type};
 
     /// These names and types.
     pub fn of(alloc: Global, list: FieldList) -> Result<Fields, Memory>
@@ -66,16 +65,6 @@ impl Fields {
                 None => None,
                 Some(field) => Some((at, field)),
             },
-        }
-    }
-
-    /// The type of the first of a name.
-    pub(crate) fn type_of(&self, name: &str) -> Option<TypeId>
-        ensures { result ≡ field_type self.now name.now }
-    {
-        match self.field(name) {
-            None => None,
-            Some((_, field)) => Some(field.1),
         }
     }
 }

@@ -1,7 +1,6 @@
 //! What the children of an element give for arguments.
 
-ghost use Rattle.std.specs.Prelude.{◌≡◌, IfOk, codes, map, slice_get};
-ghost use Rattle.eds_tree.specs.Trees.{is_named};
+ghost use Rattle.std.specs.Prelude.{◌≡◌, IfOk, map};
 ghost use Rattle.eds_read_act.specs.Inside.{givers as givers_in};
 ghost use Rattle.eds_read_act.specs.Given.{given_name};
 
@@ -19,18 +18,12 @@ pub(crate) struct Given {
     pub(crate) names: NameList,
 }
 
-fn is_giver(tree: &Tree, node: u32) -> bool
-    ensures { result ≡ is_named tree.now (codes "ArgumentValue") node }
-{
-    tree.name_at(node) == "ArgumentValue"
-}
-
 fn givers(alloc: Global, tree: &Tree, holder: u32) -> Result<Vec<u32>, Memory>
     ensures { IfOk result (λ v. v.items ≡ givers_in tree.now holder) }
 {
     let mut nodes = Vec::new(alloc);
     for child in tree.children_at(holder) {
-        if is_giver(tree, *child) {
+        if tree.name_at(*child) == "ArgumentValue" {
             nodes.push(*child)?;
         }
     }
@@ -45,12 +38,6 @@ fn names_of(alloc: Global, tree: &Tree, nodes: &[u32]) -> Result<NameList, Memor
         names.push(Text::of(alloc, text_at(tree, *node, "name"))?)?;
     }
     NameList::of(alloc, names)
-}
-
-fn node_at(nodes: &[u32], at: usize) -> Option<u32>
-    ensures { result ≡ slice_get nodes.now at }
-{
-    nodes.get(at).copied()
 }
 
 impl Given {
@@ -79,7 +66,7 @@ impl Given {
     {
         match self.names.position(name) {
             None => None,
-            Some(at) => node_at(self.nodes.as_slice(), at),
+            Some(at) => self.nodes.as_slice().get(at).copied(),
         }
     }
 }

@@ -7,18 +7,14 @@ ghost use Rattle.eds_base.specs.Refusals.{least};
 ghost use Rattle.eds_read_act.specs.Activities.{bad_references_in, mismatches_in};
 ghost use Rattle.eds_read_act.specs.Machines.{state_actions as state_actions_in, guarded_and_done as guarded_and_done_in, transitions_of as transitions_in};
 ghost use Rattle.eds_read_act.specs.MachineBreaks.{lacks_state as state_lacks, cannot_leave as leaving_fails, is_bad_transition as transition_is_bad, event_breaks, mismatches_unless, breaks_inside, inner_breaks, transition_breaks, action_breaks, state_breaks, lacks_entry as entry_lacks, machine_breaks_at, machine_breaks};
-ghost use Rattle.eds_read_act.specs.Scopes.{scope_of, with_known, with_arguments};
-ghost use Rattle.eds_read_act.specs.Events.{carried_at};
+ghost use Rattle.eds_read_act.specs.Scopes.{scope_of, with_known};
 ghost use Rattle.eds_read_act.specs.States.{TellsStates};
 
 use crate::activity::{least_mismatch_in, least_reference_in};
 use crate::bad_reference::broken_if;
-use crate::event::{
-    event_of, is_bad_timer, is_command, is_missing, lacks_operation_if, value_carried,
-};
+use crate::event::{carried_if, event_of, is_bad_timer, is_missing, lacks_operation_if};
 use crate::fields::Fields;
 use crate::scope::Scope;
-use crate::sending::received_by;
 use crate::state::States;
 use eds_base::{Items, Memory, Refusal, Rule};
 use eds_tree::Tree;
@@ -175,38 +171,6 @@ fn break_inside(
     Ok(Refusal::first(references, mismatches))
 }
 
-// The least break in some elements of a transition that waits for an event.
-fn break_on(
-    alloc: Global,
-    above: bool,
-    file: u16,
-    scope: &Scope,
-    event: u32,
-    nodes: &[u32],
-) -> Result<Option<Refusal>, Memory>
-    ensures { IfOk result (λ r. r ≡ least (breaks_inside above file (with_known (scope_of scope.now) (carried_at (scope_of scope.now) event)) nodes.now)) }
-{
-    if is_command(scope.tree, event) {
-        return break_inside(alloc, above, file, scope, received_by(scope, event), nodes);
-    }
-    let value = value_carried(alloc, scope, event)?;
-    break_inside(alloc, above, file, scope, lent(&value), nodes)
-}
-
-// The least break in some elements of a transition that waits for the start.
-fn break_at_start(
-    alloc: Global,
-    above: bool,
-    file: u16,
-    scope: &Scope,
-    nodes: &[u32],
-) -> Result<Option<Refusal>, Memory>
-    ensures { IfOk result (λ r. r ≡ least (breaks_inside above file (with_arguments (scope_of scope.now) []) nodes.now)) }
-{
-    let none = Fields::of(alloc, Items::new(alloc))?;
-    break_inside(alloc, above, file, scope, Some(&none), nodes)
-}
-
 // The least break in the guard and the action of a transition.
 fn inner_break(
     alloc: Global,
@@ -218,10 +182,11 @@ fn inner_break(
     ensures { IfOk result (λ r. r ≡ least (inner_breaks above file (scope_of scope.now) transition)) }
 {
     let nodes = guarded_and_done(alloc, scope.tree, transition)?;
-    match event_of(scope.tree, transition) {
-        None => break_at_start(alloc, above, file, scope, nodes.as_slice()),
-        Some(event) => break_on(alloc, above, file, scope, event, nodes.as_slice()),
+    if nodes.is_empty() {
+        return Ok(None);
     }
+    let carried = carried_if(alloc, scope, event_of(scope.tree, transition))?;
+    break_inside(alloc, above, file, scope, lent(&carried), nodes.as_slice())
 }
 
 fn transition_break(
@@ -357,13 +322,8 @@ fn least_at(
     let states = States::of(alloc, scope.tree, machine)?;
     let at_states = least_over_states(alloc, file, scope, states.nodes.as_slice())?;
     let transitions = transitions_of(alloc, scope.tree, machine)?;
-    let at_transitions = least_over_transitions(
-        alloc,
-        file,
-        scope,
-        &states,
-        transitions.as_slice(),
-    )?;
+    let at_transitions =
+        least_over_transitions(alloc, file, scope, &states, transitions.as_slice())?;
     let found = Refusal::first(entry, at_states);
     Ok(Refusal::first(found, at_transitions))
 }

@@ -6,20 +6,18 @@ ghost use Rattle.eds_tree.specs.Trees.{name_at};
 ghost use Rattle.eds_plan.specs.Statements.{condition};
 ghost use Rattle.eds_names.specs.Positions.{place_among};
 ghost use Rattle.eds_read_act.specs.Inside.{child_named as child_in};
-ghost use Rattle.eds_read_act.specs.MachinePlans.{planned_transition, planned_machine, action_in as action_of, state_at as state_in, position as position_of, entry_number as entry_in, guard_at as guard_of, transition_in, transition_at as transition_of, machine_at as machine_in, machines_at};
-ghost use Rattle.eds_read_act.specs.Scopes.{scope_of, with_known, with_arguments};
-ghost use Rattle.eds_read_act.specs.Events.{carried_at};
+ghost use Rattle.eds_read_act.specs.MachinePlans.{planned_transition, planned_machine, action_in as action_of, state_at as state_in, position as position_of, entry_number as entry_in, guard_at as guard_of, transition_at as transition_in, machine_at as machine_in, machines_at};
+ghost use Rattle.eds_read_act.specs.Scopes.{scope_of, with_known};
 ghost use Rattle.eds_read_act.specs.States.{TellsStates};
 
 use crate::action::action_at;
 use crate::condition::condition_under;
-use crate::event::{event_of, is_command, transaction_if, trigger_if, value_carried};
+use crate::event::{carried_if, event_of, transaction_if, trigger_if};
 use crate::fields::Fields;
 use crate::inside::{child_named, text_at};
 use crate::machine::{lent, transitions_of};
 use crate::naming::short;
 use crate::scope::Scope;
-use crate::sending::received_by;
 use crate::state::States;
 use eds_base::{Items, Memory, Text};
 use eds_plan::{Action, Guard, Machine, State, Transition, Transitions};
@@ -109,20 +107,19 @@ fn guard_in(
     }
 }
 
-// The transition that an element is, whose guard and action see these arguments.
-fn transition_with(
+fn transition_at(
     alloc: Global,
     scope: &Scope,
     states: &States,
-    arguments: Option<&Fields>,
     node: u32,
 ) -> Result<Transition, Memory>
     requires { TellsStates scope.now.tree.now states.now }
-    ensures { IfOk result (λ x. planned_transition x ≡ transition_in (scope_of scope.now) (with_known (scope_of scope.now) (option_copied arguments.entry)) states.now.machine node) }
+    ensures { IfOk result (λ x. planned_transition x ≡ transition_in (scope_of scope.now) states.now.machine node) }
 {
     let event = event_of(scope.tree, node);
-    let guard = guard_in(alloc, scope, arguments, node)?;
-    let action = action_in(alloc, scope, arguments, "Do", node)?;
+    let carried = carried_if(alloc, scope, event)?;
+    let guard = guard_in(alloc, scope, lent(&carried), node)?;
+    let action = action_in(alloc, scope, lent(&carried), "Do", node)?;
     Ok(Transition {
         from: position(states.number(scope.tree, node, "fromState")),
         to: position(states.number(scope.tree, node, "toState")),
@@ -133,53 +130,6 @@ fn transition_with(
     })
 }
 
-// The transition that an element is, which waits for an event.
-fn transition_on(
-    alloc: Global,
-    scope: &Scope,
-    states: &States,
-    event: u32,
-    node: u32,
-) -> Result<Transition, Memory>
-    requires { TellsStates scope.now.tree.now states.now }
-    ensures { IfOk result (λ x. planned_transition x ≡ transition_in (scope_of scope.now) (with_known (scope_of scope.now) (carried_at (scope_of scope.now) event)) states.now.machine node) }
-{
-    if is_command(scope.tree, event) {
-        return transition_with(alloc, scope, states, received_by(scope, event), node);
-    }
-    let value = value_carried(alloc, scope, event)?;
-    transition_with(alloc, scope, states, lent(&value), node)
-}
-
-// The transition that an element is, which waits for the start.
-fn transition_at_start(
-    alloc: Global,
-    scope: &Scope,
-    states: &States,
-    node: u32,
-) -> Result<Transition, Memory>
-    requires { TellsStates scope.now.tree.now states.now }
-    ensures { IfOk result (λ x. planned_transition x ≡ transition_in (scope_of scope.now) (with_arguments (scope_of scope.now) []) states.now.machine node) }
-{
-    let none = Fields::of(alloc, Items::new(alloc))?;
-    transition_with(alloc, scope, states, Some(&none), node)
-}
-
-fn transition_at(
-    alloc: Global,
-    scope: &Scope,
-    states: &States,
-    node: u32,
-) -> Result<Transition, Memory>
-    requires { TellsStates scope.now.tree.now states.now }
-    ensures { IfOk result (λ x. planned_transition x ≡ transition_of (scope_of scope.now) states.now.machine node) }
-{
-    match event_of(scope.tree, node) {
-        None => transition_at_start(alloc, scope, states, node),
-        Some(event) => transition_on(alloc, scope, states, event, node),
-    }
-}
-
 fn read_transitions(
     alloc: Global,
     scope: &Scope,
@@ -187,7 +137,7 @@ fn read_transitions(
     nodes: &[u32],
 ) -> Result<Transitions, Memory>
     requires { TellsStates scope.now.tree.now states.now }
-    ensures { IfOk result (λ xs. map planned_transition xs ≡ map (transition_of (scope_of scope.now) states.now.machine) nodes.now) }
+    ensures { IfOk result (λ xs. map planned_transition xs ≡ map (transition_in (scope_of scope.now) states.now.machine) nodes.now) }
 {
     if nodes.len() > TRANSITIONS {
         return Err(Memory);

@@ -5,8 +5,8 @@ ghost use Rattle.std.specs.Option.{option_copied};
 ghost use Rattle.eds_types.specs.Fields.{part_at};
 ghost use Rattle.eds_read_act.specs.Naming.{names_in, names_after, octets_left, has_name as has_name_of, entry_type as entry_type_of, entry_at as entry_at_place, entry_among as entry_in, entry_named as entry_of, short as short_of, follow as follow_names, follow_if, field_named as field_of, found_in as found_by_text, fields_of};
 
-use crate::component::Component;
 use crate::fields::Fields;
+use crate::scope::Component;
 use eds_base::{Items, Memory, TypeId};
 use eds_types::{EntryPath, Part, TypeTable};
 use std::alloc::Global;

@@ -1,20 +1,19 @@
 //! The ends, members and activities that elements name, and what these take.
 
-ghost use Rattle.std.specs.Prelude.{◌≡◌, IfOk, Some, is_some, option_map, slice_get};
-ghost use Rattle.std.specs.Option.{option_copied};
+ghost use Rattle.std.specs.Prelude.{◌≡◌, IfOk, is_some, option_map};
 ghost use Rattle.eds_read_act.specs.Numbered.{numbered};
-ghost use Rattle.eds_plan.specs.Carried.{leaving as leaving_at, arriving as arriving_at};
+ghost use Rattle.eds_plan.specs.Carried.{goes as goes_in, carried_fields, leaving as leaving_at, arriving as arriving_at};
 ghost use Rattle.eds_read_act.specs.Scopes.{scope_of};
-ghost use Rattle.eds_read_act.specs.Sending.{as_command as command_as, as_parameter as parameter_as, end_of as end_in, command_at_end, command_of as command_in, parameter_at_end, parameter_of as parameter_in, activity_of as activity_in, taken_at as taken_of};
+ghost use Rattle.eds_read_act.specs.Sending.{as_command as command_as, as_parameter as parameter_as, end_of as end_in, command_at_end, command_of as command_in, parameter_at_end, parameter_of as parameter_in, activity_of as activity_in, taken_at as taken_of, fields_taken};
+ghost use Rattle.eds_read_act.specs.TypeMismatch.{field_type};
 
 use crate::activity_sort::{ActivitySort, sort_at};
-use crate::carrying::{carried, leaving};
 use crate::fields::Fields;
 use crate::inside::text_at;
 use crate::naming::short;
 use crate::scope::Scope;
 use eds_base::{Items, Memory, Text, TypeId};
-use eds_plan::{Argument, EndPlan, FieldList, Member, Way};
+use eds_plan::{Argument, EndPlan, FieldList, Member, Mode, Way};
 use std::alloc::Global;
 
 /// A command at an end, and what it carries in one way.
@@ -25,6 +24,13 @@ pub(crate) struct Taker {
     pub(crate) fields: FieldList,
 }
 
+/// What takes arguments: an activity, or a command that carries in a way those that go it.
+#[derive(Clone, Copy)]
+pub(crate) enum Taken<'a> {
+    Activity(&'a Fields),
+    Command(Way, &'a [Argument]),
+}
+
 /// A parameter at an end, with its type and whether it is read-only.
 #[derive(Clone, Copy, Debug)]
 pub(crate) struct Held {
@@ -33,6 +39,52 @@ pub(crate) struct Held {
     pub(crate) required: bool,
     pub(crate) id: TypeId,
     pub(crate) read_only: bool,
+}
+
+/// Whether an argument of a mode goes a way.
+pub(crate) fn goes(way: Way, mode: Mode) -> bool
+    ensures { result ≡ goes_in way mode }
+{
+    match way {
+        Way::Down => match mode {
+            Mode::In | Mode::InOut => true,
+            Mode::Out | Mode::Notify => false,
+        },
+        Way::Up => match mode {
+            Mode::In => false,
+            Mode::Out | Mode::InOut | Mode::Notify => true,
+        },
+    }
+}
+
+/// The way in which an end sends.
+fn leaving(required: bool) -> Way
+    ensures { result ≡ leaving_at required }
+{
+    if required { Way::Down } else { Way::Up }
+}
+
+/// The way in which what is sent arrives at an end.
+fn arriving(required: bool) -> Way
+    ensures { result ≡ arriving_at required }
+{
+    if required { Way::Up } else { Way::Down }
+}
+
+// The arguments that go a way.
+fn carried(alloc: Global, way: Way, arguments: &[Argument]) -> Result<FieldList, Memory>
+    ensures { IfOk result (λ fs. fs ≡ carried_fields way arguments.now) }
+{
+    let mut fields = Items::new(alloc);
+    let mut rest = arguments;
+    while let [argument, after @ ..] = rest {
+        if goes(way, argument.mode) {
+            let name = Text::of(alloc, argument.name.as_str())?;
+            fields.push((name, argument.id))?;
+        }
+        rest = after;
+    }
+    Ok(fields)
 }
 
 /// The same fields once more.
@@ -78,10 +130,7 @@ fn as_parameter(name: &str, member: &Member) -> Option<(TypeId, bool)>
 }
 
 /// The command of a name among members, with its position.
-pub(crate) fn command_among<'a>(
-    members: &'a [Member],
-    name: &str,
-) -> Option<(usize, &'a [Argument])>
+pub(crate) fn command_among<'a>(members: &'a [Member], name: &str) -> Option<(usize, &'a [Argument])>
     ensures { option_map (λ p. (p.0, p.1.now)) result ≡ numbered (command_as name.now) 0 members.now }
 {
     for (at, member) in members.iter().enumerate() {
@@ -143,6 +192,21 @@ pub(crate) fn sent_command(alloc: Global, scope: &Scope, node: u32) -> Result<Op
     }
 }
 
+/// The command that an element waits for, with what it carries.
+pub(crate) fn received_command(
+    alloc: Global,
+    scope: &Scope,
+    node: u32,
+) -> Result<Option<Taker>, Memory>
+    ensures { IfOk result (λ c. c ≡ command_in arriving_at (scope_of scope.now) node) }
+{
+    let name = text_at(scope.tree, node, "command");
+    match end_of(scope, node) {
+        None => Ok(None),
+        Some((at, end)) => command_at(alloc, arriving(end.required), at, end, name),
+    }
+}
+
 /// Whether the command that an element waits for is there.
 pub(crate) fn has_command(scope: &Scope, node: u32) -> bool
     ensures { result ≡ is_some (command_in arriving_at (scope_of scope.now) node) }
@@ -185,10 +249,7 @@ pub(crate) fn parameter_of(scope: &Scope, node: u32) -> Option<Held>
 pub(crate) fn activity_of<'a>(scope: &Scope<'a>, node: u32) -> Option<(usize, &'a Fields)>
     ensures { option_map (λ p. (p.0, p.1.now)) result ≡ activity_in (scope_of scope.now) node }
 {
-    match scope
-        .component
-        .activity(text_at(scope.tree, node, "activity"))
-    {
+    match scope.component.activity(text_at(scope.tree, node, "activity")) {
         None => None,
         Some((at, head)) => Some((at, &head.arguments)),
     }
@@ -196,37 +257,36 @@ pub(crate) fn activity_of<'a>(scope: &Scope<'a>, node: u32) -> Option<(usize, &'
 
 // ---- what takes arguments
 
-fn taken_by_call<'a>(scope: &Scope<'a>, node: u32) -> Option<&'a Fields>
-    ensures { option_copied result ≡ option_map (λ a. a.1) (activity_in (scope_of scope.now) node) }
+fn taken_by_call<'a>(scope: &Scope<'a>, node: u32) -> Option<Taken<'a>>
+    ensures { option_map fields_taken result ≡ option_map (λ a. a.1) (activity_in (scope_of scope.now) node) }
 {
     match activity_of(scope, node) {
         None => None,
-        Some((_, fields)) => Some(fields),
+        Some((_, fields)) => Some(Taken::Activity(fields)),
     }
 }
 
-// The arguments that the command of a name carries at an end, where the end sends.
-fn sent_fields<'a>(scope: &Scope<'a>, at: usize, end: &EndPlan, name: &str) -> Option<&'a Fields>
-    ensures { slice_get scope.now.component.now.ends.now at ≡ Some end.now → option_copied result ≡ option_map (λ c. c.fields) (command_at_end leaving_at name.now (at, end.now)) }
+fn taken_at_end<'a>(end: &'a EndPlan, name: &str) -> Option<Taken<'a>>
+    ensures { option_map fields_taken result ≡ option_map (λ c. carried_fields (leaving_at end.now.required) c.1) (numbered (command_as name.now) 0 end.now.instance.members) }
 {
     match command_among(end.instance.members.as_slice(), name) {
         None => None,
-        Some((member, _)) => scope.component.sent(at, member),
+        Some((_, arguments)) => Some(Taken::Command(leaving(end.required), arguments)),
     }
 }
 
-fn taken_by_command<'a>(scope: &Scope<'a>, node: u32) -> Option<&'a Fields>
-    ensures { option_copied result ≡ option_map (λ c. c.fields) (command_in leaving_at (scope_of scope.now) node) }
+fn taken_by_command<'a>(scope: &Scope<'a>, node: u32) -> Option<Taken<'a>>
+    ensures { option_map fields_taken result ≡ option_map (λ c. c.fields) (command_in leaving_at (scope_of scope.now) node) }
 {
     match end_of(scope, node) {
         None => None,
-        Some((at, end)) => sent_fields(scope, at, end, text_at(scope.tree, node, "command")),
+        Some((_, end)) => taken_at_end(end, text_at(scope.tree, node, "command")),
     }
 }
 
-/// The arguments to which an element gives values, if it names something that takes some.
-pub(crate) fn taken_at<'a>(scope: &Scope<'a>, node: u32) -> Option<&'a Fields>
-    ensures { option_copied result ≡ taken_of (scope_of scope.now) node }
+/// What an element takes that gives arguments their values.
+pub(crate) fn taken_at<'a>(scope: &Scope<'a>, node: u32) -> Option<Taken<'a>>
+    ensures { option_map fields_taken result ≡ taken_of (scope_of scope.now) node }
 {
     match sort_at(scope.tree, node) {
         ActivitySort::Call | ActivitySort::Action => taken_by_call(scope, node),
@@ -235,27 +295,34 @@ pub(crate) fn taken_at<'a>(scope: &Scope<'a>, node: u32) -> Option<&'a Fields>
     }
 }
 
-// The arguments that the command of a name carries at an end, where the end receives.
-fn received_fields<'a>(
-    scope: &Scope<'a>,
-    at: usize,
-    end: &EndPlan,
-    name: &str,
-) -> Option<&'a Fields>
-    ensures { slice_get scope.now.component.now.ends.now at ≡ Some end.now → option_copied result ≡ option_map (λ c. c.fields) (command_at_end arriving_at name.now (at, end.now)) }
+fn carried_type(way: Way, arguments: &[Argument], name: &str) -> Option<TypeId>
+    ensures { result ≡ field_type (carried_fields way arguments.now) name.now }
 {
-    match command_among(end.instance.members.as_slice(), name) {
-        None => None,
-        Some((member, _)) => scope.component.received(at, member),
+    let mut rest = arguments;
+    while let [argument, after @ ..] = rest {
+        if goes(way, argument.mode) && argument.name.as_str() == name {
+            return Some(argument.id);
+        }
+        rest = after;
     }
+    None
 }
 
-/// The arguments that the command which an element waits for carries.
-pub(crate) fn received_by<'a>(scope: &Scope<'a>, node: u32) -> Option<&'a Fields>
-    ensures { option_copied result ≡ option_map (λ c. c.fields) (command_in arriving_at (scope_of scope.now) node) }
-{
-    match end_of(scope, node) {
-        None => None,
-        Some((at, end)) => received_fields(scope, at, end, text_at(scope.tree, node, "command")),
+impl<'a> Taken<'a> {
+    ghost use Rattle.std.specs.Prelude.{◌≡◌};
+    ghost use Rattle.eds_read_act.specs.Sending.{fields_taken};
+    ghost use Rattle.eds_read_act.specs.TypeMismatch.{field_type};
+
+    /// The type of the argument of a name.
+    pub(crate) fn field_type(self, name: &str) -> Option<TypeId>
+        ensures { result ≡ field_type (fields_taken self) name.now }
+    {
+        match self {
+            Taken::Activity(fields) => match fields.field(name) {
+                None => None,
+                Some((_, field)) => Some(field.1),
+            },
+            Taken::Command(way, arguments) => carried_type(way, arguments, name),
+        }
     }
 }

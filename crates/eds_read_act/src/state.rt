@@ -36,7 +36,12 @@ fn states_of(alloc: Global, tree: &Tree, machine: u32) -> Result<Vec<u32>, Memor
     Ok(nodes)
 }
 
-fn names_of(alloc: Global, tree: &Tree, machine: u32, nodes: &[u32]) -> Result<NameList, Memory>
+fn names_of(
+    alloc: Global,
+    tree: &Tree,
+    machine: u32,
+    nodes: &[u32],
+) -> Result<NameList, Memory>
     requires { nodes.now ≡ states_in tree.now machine }
     ensures { IfOk result (λ n. n ≡ state_names tree.now machine) }
 {

@@ -1,12 +1,12 @@
 //! The rule that operands fit what takes them, and that calculations and iterations are of numbers.
 
-ghost use Rattle.std.specs.Prelude.{◌≡◌, ◌++◌, ◌+◌, ◌<◌, ◌≤◌, ◌^◌, ◌&&◌, codes, IfOk, IfSome, OnOk};
+ghost use Rattle.std.specs.Prelude.{◌≡◌, ◌++◌, ◌+◌, ◌<◌, ◌≤◌, ◌^◌, ◌&&◌, codes, IfOk, IfSome, OnOk, option_map};
 ghost use Rattle.std.specs.List.{flat_map};
-ghost use Rattle.std.specs.Option.{option_copied};
 ghost use Rattle.eds_base.specs.Refusals.{least};
 ghost use Rattle.eds_tree.specs.Trees.{children_at, children_of};
 ghost use Rattle.eds_read_act.specs.Given.{TellsGiven};
 ghost use Rattle.eds_read_act.specs.Scopes.{scope_of};
+ghost use Rattle.eds_read_act.specs.Sending.{fields_taken};
 ghost use Rattle.eds_read_act.specs.ActivitySorts.{sort_at as sort_at_in};
 ghost use Rattle.eds_read_act.specs.Inside.{text_at as text_of, operands_of as operands_in};
 ghost use Rattle.eds_read_act.specs.Operands.{type_of as type_in};
@@ -15,13 +15,12 @@ ghost use Rattle.eds_read_act.specs.TypeMismatch.{fits_if as fits_in_if, misfits
 
 use crate::activity_sort::{ActivitySort, sort_at};
 use crate::bad_reference::{broken_if, is_bad, iterator_of, output_of};
-use crate::fields::Fields;
 use crate::given::Given;
 use crate::inside::{operand_of, operands_of, text_at};
 use crate::naming::Found;
 use crate::operand::{Wanted, found_at, is_number, operand_fits, type_of};
 use crate::scope::Scope;
-use crate::sending::{Held, parameter_of, taken_at};
+use crate::sending::{Held, Taken, parameter_of, taken_at};
 use eds_base::{Memory, Refusal, Rule, TypeId, whole_number};
 use eds_plan::Relation;
 use eds_tree::{Link, Tree, is_passed_over};
@@ -77,15 +76,15 @@ fn misfits_argument(
     alloc: Global,
     scope: &Scope,
     link: Link,
-    taken: Option<&Fields>,
+    taken: Option<Taken>,
 ) -> Result<bool, Memory>
-    ensures { IfOk result (λ b. b ≡ argument_misfits (scope_of scope.now) link (option_copied taken.entry)) }
+    ensures { IfOk result (λ b. b ≡ argument_misfits (scope_of scope.now) link (option_map fields_taken taken)) }
 {
     match taken {
         None => Ok(false),
-        Some(fields) => {
+        Some(taken) => {
             let name = text_at(scope.tree, link.node, "name");
-            misfits_type(alloc, scope, link.node, fields.type_of(name))
+            misfits_type(alloc, scope, link.node, taken.field_type(name))
         }
     }
 }
@@ -411,29 +410,13 @@ fn push_sound_children(
     ensures { OnOk result (links.new.items ≡ links.old.items ++ flat_map (λ child. sound_from (scope_of scope.now) depth (record { parent = parent; node = child })) (children_of scope.now.tree.now parent)) }
 {
     let given = Given::of(alloc, scope.tree, parent)?;
-    push_sound_each(links, alloc, scope, &given, depth, parent)
-}
-
-// The same, where it is at hand what the children give.
-#[cycle(push_sound)]
-fn push_sound_each(
-    links: &mut Vec<Link>,
-    alloc: Global,
-    scope: &Scope,
-    given: &Given,
-    depth: usize,
-    parent: u32,
-) -> Result<(), Memory>
-    requires { TellsGiven scope.now.tree.now given.now }
-    ensures { OnOk result (links.new.items ≡ links.old.items ++ flat_map (λ child. sound_from (scope_of scope.now) depth (record { parent = parent; node = child })) (children_of scope.now.tree.now parent)) }
-{
     for child in scope.tree.children_at(parent) {
         if !is_passed_over(scope.tree.name_at(*child)) {
             push_sound(
                 links,
                 alloc,
                 scope,
-                given,
+                &given,
                 depth,
                 Link {
                     parent,

@@ -1,2 +1,13 @@
 pub mod MapLaws
 pub mod Judged
+pub mod Firsts
+pub mod Lists
+pub mod Growing
+pub mod EqualMaps
+pub mod SameMembers
+pub mod MapsFit
+pub mod SameEnds
+pub mod MapsKept
+pub mod Putting
+pub mod Scoping
+pub mod Staging

@@ -1,5 +1,5 @@
 -- The types of what is found are known.
-use Rattle.std.proofs.Common.{◌≡◌, ℕ, zero, suc, ◌+◌, ◌<◌, Bool, true, false, List, [], ◌∷◌, length, Option, Some, None, option_map, slice_get, refl, sym, ap, ◌∙◌}
+use Rattle.std.proofs.Common.{◌≡◌, ℕ, zero, suc, ◌+◌, ◌<◌, Bool, true, false, List, [], ◌∷◌, length, Option, Some, None, option_map, slice_get, refl, ap}
 use Rattle.eds_base.specs.Reading.{◌>>=◌, same}
 use Rattle.eds_types.specs.Rows.{Table}
 use Rattle.std.specs.List.{AllByRecursion}
@@ -41,33 +41,23 @@ parameter-known t name i (member.Parameter n id read_only ∷ ms) m e known = go
     go false h others = others (rw h at e)
 parameter-known t name i (member.Command n args ∷ ms) m e known = parameter-known t name (i + 1) ms m e known.1
 
-pub known-at : {A : Type 0} (P : A → Type 0) (xs : List A) (i : ℕ) (x : A) → slice_get xs i ≡ Some x → AllByRecursion P xs → P x
+known-at : {A : Type 0} (P : A → Type 0) (xs : List A) (i : ℕ) (x : A) → slice_get xs i ≡ Some x → AllByRecursion P xs → P x
 known-at P [] i x e known = cc
 known-at P (y ∷ ys) zero x e known = let is : y ≡ x = cc in rw (← is) known.0
 known-at P (y ∷ ys) (suc i) x e known = known-at P ys i x e known.1
 
--- an end that is found is there
-pub found-there : (plan : List ComponentPlan) (text : List ℕ) (e : End) (p : EndPlan) → found_end plan text ≡ Some (e, p) → end_at plan e ≡ Some p
-found-there plan text e p found = at_end (end_named plan text) found
-  where
-    at_place : (x : End) (o : Option EndPlan) → end_at plan x ≡ o → option_map {U = End × EndPlan} (λ q. (x, q)) o ≡ Some (e, p) → end_at plan e ≡ Some p
-    at_place x None is h = cc
-    at_place x (Some q) is h =
-        let both : ◌≡◌ {A = End × EndPlan} (x, q) (e, p) = cc in
-        ap (end_at plan) (sym (ap (λ (z : End × EndPlan). z.0) both)) ∙ is ∙ ap Some (ap (λ (z : End × EndPlan). z.1) both)
-
-    at_end : (o : Option End) → (o >>= λ x. option_map {U = End × EndPlan} (λ q. (x, q)) (end_at plan x)) ≡ Some (e, p) → end_at plan e ≡ Some p
-    at_end None h = cc
-    at_end (Some x) h = at_place x (end_at plan x) refl h
-
--- the members of an end that is there
-pub there-known : (t : Table) (plan : List ComponentPlan) (e : End) (p : EndPlan) → end_at plan e ≡ Some p → KnowsTypes t plan → AreKnown t p
-there-known t plan e p is known = at_comp (slice_get plan e.comp.0) refl is
-  where
-    at_comp : (o : Option ComponentPlan) → slice_get plan e.comp.0 ≡ o → (o >>= λ c. slice_get c.ends e.face) ≡ Some p → AreKnown t p
-    at_comp None has h = cc
-    at_comp (Some c) has h = known-at (AreKnown t) c.ends e.face p h (known-at (λ (d : ComponentPlan). AllByRecursion (AreKnown t) d.ends) plan e.comp.0 c has known)
-
--- those of one that is found
+-- the members of an end that is found
 pub end-known : (t : Table) (plan : List ComponentPlan) (text : List ℕ) (e : End) (p : EndPlan) → found_end plan text ≡ Some (e, p) → KnowsTypes t plan → AreKnown t p
-end-known t plan text e p found known = there-known t plan e p (found-there plan text e p found) known
+end-known t plan text e p found known = at_end (end_named plan text) found
+  where
+    at_face : (x : End) (c : ComponentPlan) → slice_get plan x.comp.0 ≡ Some c → (o : Option EndPlan) → slice_get c.ends x.face ≡ o → option_map {U = End × EndPlan} (λ q. (x, q)) o ≡ Some (e, p) → AreKnown t p
+    at_face x c has None face h = cc
+    at_face x c has (Some q) face h = let both : ◌≡◌ {A = End × EndPlan} (x, q) (e, p) = cc in let is : q ≡ p = ap (λ (z : End × EndPlan). z.1) both in rw (← is) (known-at (AreKnown t) c.ends x.face q face (known-at (λ (d : ComponentPlan). AllByRecursion (AreKnown t) d.ends) plan x.comp.0 c has known))
+
+    at_comp : (x : End) (o : Option ComponentPlan) → slice_get plan x.comp.0 ≡ o → option_map {U = End × EndPlan} (λ q. (x, q)) (o >>= λ c. slice_get c.ends x.face) ≡ Some (e, p) → AreKnown t p
+    at_comp x None has h = cc
+    at_comp x (Some c) has h = at_face x c has (slice_get c.ends x.face) refl h
+
+    at_end : (o : Option End) → (o >>= λ x. option_map {U = End × EndPlan} (λ q. (x, q)) (end_at plan x)) ≡ Some (e, p) → AreKnown t p
+    at_end None h = cc
+    at_end (Some x) h = at_comp x (slice_get plan x.comp.0) refl h

@@ -1,10 +1,8 @@
 mod Among
-mod Carrying
 mod Digits
 mod Knowing
 mod Packing
 mod Pieces
 mod Places
-mod Printing
 mod Scripting
 mod Utf8

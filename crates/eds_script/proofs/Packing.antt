@@ -1,5 +1,5 @@
 -- Values that pack.
-use Rattle.std.proofs.Common.{◌≡◌, ℕ, zero, suc, ◌+◌, ◌<◌, ◌&&◌, subst, map, take, ◌++◌, Bool, true, false, List, [], ◌∷◌, drop, length, Some, None, slice_get, refl, sym, ap, ◌∙◌, arith}
+use Rattle.std.proofs.Common.{◌≡◌, ℕ, zero, suc, ◌+◌, ◌<◌, ◌&&◌, subst, map, take, ◌++◌, Bool, true, false, List, [], ◌∷◌, drop, length, Option, Some, None, slice_get, refl, sym, ap, ◌∙◌, arith}
 use Rattle.eds_base.specs.declared.ids.TypeId.{TypeId}
 use Rattle.eds_types.specs.PackedSizes.{packs}
 use Rattle.eds_types.specs.Plain.{Plain, plain}

@@ -1,5 +1,6 @@
 -- Scripts, read line by line.
-use Rattle.std.proofs.Common.{subst, ◌≡◌, ℕ, zero, suc, ◌+◌, ◌<◌, ◌||◌, not, Bool, true, false, List, [], ◌∷◌, ◌++◌, map, take, drop, length, get_or, Result, Ok, Err, sum_by, refl, sym, ap, ◌∙◌, arith}
+use Rattle.std.proofs.Common.{subst, ◌≡◌, ℕ, zero, suc, ◌+◌, ◌<◌, ◌||◌, not, Bool, true, false, List, [], ◌∷◌, ◌++◌, map, take, drop, length, get_or, Result, Ok, Err, sum_by, refl, sym, ap, ◌∙◌, arith, drop-cons, add-one}
+use Rattle.std.specs.List.{list_any}
 use Rattle.std.proofs.lemmas.List.{append_assoc, map-append}
 use Rattle.std.proofs.lemmas.List.Folds.{list_any-append}
 use Rattle.std.proofs.lemmas.List.Sums.{sum_by-append}
@@ -10,15 +11,15 @@ use Rattle.eds_script.specs.Seen.{bad_line}
 use Rattle.eds_types.specs.Rows.{Table}
 use Rattle.eds_plan.specs.declared.component.ComponentPlan.{ComponentPlan}
 use Rattle.eds_plan.specs.declared.run.Wire.{Wire}
-use Rattle.eds_plan.specs.Lines.{Told}
+use Rattle.eds_plan.specs.Lines.{Told, starts}
 use Rattle.eds_script.specs.declared.why.BadLine.{BadLine}
 use Rattle.eds_script.specs.declared.why.LineWhy.{LineWhy}
 use Rattle.eds_base.specs.Numbers.{decimal_value}
 use Rattle.eds_script.specs.Arrivals.{arrival_told}
 use Rattle.eds_script.specs.Lines.{Numbered}
 use Rattle.eds_script.specs.Meaning.{Meaning, wire, tick, comes, is_wire, ticks_by, is_tie, ticks_of, begun, time_of, meaning, saying_meaning}
-use Rattle.eds_script.specs.Numbers.{tick_of, is_in_time, are_digits}
-use Rattle.eds_script.specs.Scripts.{Plot, happenings_of, meanings, wires_of}
+use Rattle.eds_script.specs.Numbers.{number_of, tick_of, is_in_time, are_digits}
+use Rattle.eds_script.specs.Scripts.{Plot, at_line, happenings_of, meanings, plot_of, wires_of}
 use Rattle.eds_script.specs.Words.{Saying, ties, ticks, arrives, form}
 
 -- a script that goes on by meanings

@@ -9,7 +9,7 @@ use Rattle.eds_plan.specs.declared.activity.Op.TheVariants as op
 use Rattle.eds_plan.specs.declared.component.ComponentPlan.{ComponentPlan}
 use Rattle.eds_plan.specs.declared.component.EndPlan.{EndPlan}
 use Rattle.eds_plan.specs.declared.run.End.{End}
-use Rattle.eds_plan.specs.Carried.{arriving}
+use Rattle.eds_plan.specs.Carried.{arriving, carried_fields}
 use Rattle.eds_plan.specs.Lines.{Told, arrives, framed}
 use Rattle.eds_script.specs.declared.why.LineWhy.{LineWhy}
 use Rattle.eds_script.specs.declared.why.LineWhy.TheVariants as why
@@ -17,7 +17,7 @@ use Rattle.eds_script.specs.declared.words.Verb.{Verb}
 use Rattle.eds_script.specs.declared.words.Verb.TheVariants.{Cmd, Frame, Get, Set, Val}
 use Rattle.eds_plan.specs.Ends.{found_end}
 use Rattle.eds_script.specs.Given.{frame_octets, given_arguments, given_value}
-use Rattle.eds_script.specs.Members.{commanded, parameter_from}
+use Rattle.eds_script.specs.Members.{Commanded, Parametered, command_from, parameter_from}
 use Rattle.eds_script.specs.Stops.{unless_stop}
 
 -- `get` and `set` fit provided ends, `val` required ones, and commands both
@@ -35,15 +35,15 @@ arrived e place required o vs = arrives e.comp.0 e.face place (arriving required
 -- a command with a JSON object of the arguments that it carries in the way that arrives at the end
 unfoldable pub command_told : Table → End → EndPlan → (name json : List ℕ) → Result Told LineWhy
 command_told t e p name json = do
-  m ← or_stop why.Member (commanded p name)
-  vs ← given_arguments t m.fields json
+  m ← or_stop why.Member (command_from name 0 p.instance.members)
+  vs ← given_arguments t (carried_fields (arriving p.required) m.arguments) json
   Ok (arrived e m.place p.required op.Command vs)
 
 -- a command with the packed octets of the one argument that it carries in the way that arrives at the end
 unfoldable pub frame_told : End → EndPlan → (name hex : List ℕ) → Result Told LineWhy
 frame_told e p name hex = do
-  m ← or_stop why.Member (commanded p name)
-  ok ← unless_stop why.Args (length m.fields == 1)
+  m ← or_stop why.Member (command_from name 0 p.instance.members)
+  ok ← unless_stop why.Args (length (carried_fields (arriving p.required) m.arguments) == 1)
   octets ← or_stop why.Hex (frame_octets hex)
   Ok (framed e.comp.0 e.face m.place octets)
 

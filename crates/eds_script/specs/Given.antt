@@ -1,6 +1,6 @@
 -- What is given behind the member's name: JSON, or hex.
-use Rattle.std.specs.Prelude.{ℕ, ◌&&◌, nat_le, List, [], ◌∷◌, length, Bool, true, Option, Result, Ok, Err}
-use Rattle.eds_base.specs.Answering.{◌>>=◌}
+use Rattle.std.specs.Prelude.{ℕ, ◌*◌, ◌==◌, ◌&&◌, nat_le, List, [], ◌∷◌, length, map, Bool, true, false, Option, Result, Ok, Err, if◌then◌else◌}
+use Rattle.eds_base.specs.Answering.{◌>>=◌, or_stop}
 use Rattle.eds_base.specs.Reading as reading
 use Rattle.eds_base.specs.Reading.{only}
 use Rattle.eds_base.specs.declared.ids.TypeId.{TypeId}

@@ -4,15 +4,8 @@ pub mod Seen
 pub mod Stops
 pub mod Numbers
 pub mod Members
-pub mod Carries
 pub mod Known
 pub mod Given
 pub mod Arrivals
 pub mod Meaning
 pub mod Scripts
-pub mod Pairs
-pub mod Names
-pub mod Fitting
-pub mod Events
-pub mod States
-pub mod Laws

@@ -9,6 +9,7 @@ use Rattle.eds_plan.specs.declared.component.ComponentPlan.{ComponentPlan}
 use Rattle.eds_plan.specs.Lines.{Told}
 use Rattle.eds_script.specs.declared.why.LineWhy.{LineWhy}
 use Rattle.eds_script.specs.declared.why.LineWhy.TheVariants as why
+use Rattle.eds_script.specs.declared.words.Verb.{Verb}
 use Rattle.eds_script.specs.Arrivals.{arrival_told}
 use Rattle.eds_script.specs.Lines.{Numbered}
 use Rattle.eds_script.specs.Numbers.{number_of, tick_of}

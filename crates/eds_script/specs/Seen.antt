@@ -2,9 +2,9 @@
 use Rattle.std.specs.Prelude.{ℕ, List, Bool, map, Result, Ok, Err}
 use Rattle.std.specs.List.{list_any}
 use Rattle.eds_base.specs.Reading.{same}
-use Rattle.eds_script.specs.declared.carries.Carrying.{Carrying as HeldCarrying}
+use Rattle.eds_script.specs.declared.members.Commanded.{Commanded as HeldCommand}
 use Rattle.eds_script.specs.declared.members.Parametered.{Parametered as HeldParameter}
-use Rattle.eds_script.specs.Members.{Carrying, Parametered}
+use Rattle.eds_script.specs.Members.{Commanded, Parametered}
 use Rattle.eds_script.specs.declared.lines.ScriptLine.{ScriptLine}
 use Rattle.eds_script.specs.declared.words.Saying.{Saying as Held}
 use Rattle.eds_script.specs.declared.words.Saying.TheVariants.{Ties, Ticks, Arrives}
@@ -39,9 +39,9 @@ abbrev pub seen_form : Result Held LineWhy → Result Saying LineWhy
 seen_form (Ok said) = Ok (said_of said)
 seen_form (Err why) = Err why
 
--- a command that arrives, by its position and fields
-abbrev pub carrying_of : HeldCarrying → Carrying
-carrying_of m = record { place = m.place; fields = m.fields.now }
+-- a command of an end, by its position and arguments
+abbrev pub command_of : HeldCommand → Commanded
+command_of m = record { place = m.place; arguments = m.arguments.now }
 
 -- a parameter of an end, by its position and type, and whether it is read-only
 abbrev pub parameter_of : HeldParameter → Parametered

@@ -1,5 +1,5 @@
 -- The words of a line.
-use Rattle.std.specs.Prelude.{ℕ, ◌==◌, List, [], codes, not, Bool, if◌then◌else◌, Option, None, option_map, Result, Err}
+use Rattle.std.specs.Prelude.{ℕ, ◌==◌, List, [], codes, not, Bool, if◌then◌else◌, Option, Some, None, option_map, Result, Ok, Err}
 use Rattle.std.specs.List.{after_first, before_first, list_any}
 use Rattle.std.specs.Str.{is_utf8}
 use Rattle.eds_base.specs.Answering.{or_stop}

@@ -5,13 +5,11 @@ ghost use Rattle.eds_base.specs.Answering.{Answers};
 ghost use Rattle.eds_plan.specs.Lines.{told};
 ghost use Rattle.eds_types.specs.Plain.{plain};
 ghost use Rattle.eds_script.specs.Arrivals.{arrived, command_told, fits as fits_end, frame_told, get_told, member_told, set_told, val_told};
-ghost use Rattle.eds_script.specs.Carries.{end_fields};
 ghost use Rattle.eds_script.specs.Known.{AreKnown};
 
 use crate::LineWhy;
-use crate::carries::{Facing, find_carrying};
 use crate::given::{frame_octets, given_arguments, given_value};
-use crate::members::{arriving, find_parameter};
+use crate::members::{arriving, carried_fields, carries_one, find_command, find_parameter};
 use crate::words::Verb;
 use eds_base::Fail;
 use eds_plan::{End, EndPlan, Line, Op, Primitive, Values};
@@ -49,46 +47,42 @@ fn arrival(end: End, place: u16, required: bool, op: Op, arguments: Values) -> L
 fn command_line(
     alloc: Global,
     table: &TypeTable,
-    facing: &Facing<'_>,
+    end: End,
+    plan: &EndPlan,
     name: &str,
     json: &str,
 ) -> Result<Line, Fail<LineWhy>>
-    requires known { AreKnown table.now facing.now.plan.now }
-    requires fields { facing.now.fields.now ≡ end_fields facing.now.plan.now }
-    ensures { Answers told result (command_told table.now facing.now.end facing.now.plan.now name.now json.now) }
+    requires known { AreKnown table.now plan.now }
+    ensures { Answers told result (command_told table.now end plan.now name.now json.now) }
 {
-    let Some(command) = find_carrying(facing, name)? else {
+    let Some(command) = find_command(plan.instance.members.as_slice(), name)? else {
         return Err(Fail::Named(LineWhy::Member));
     };
-    let values = given_arguments(alloc, table, command.fields, json)?;
-    Ok(arrival(
-        facing.end,
-        command.place,
-        facing.plan.required,
-        Op::Command,
-        values,
-    ))
+    let way = arriving(plan.required);
+    let fields = carried_fields(alloc, way, command.arguments.as_slice())?;
+    let values = given_arguments(alloc, table, &fields, json)?;
+    Ok(arrival(end, command.place, plan.required, Op::Command, values))
 }
 
 // A command with the octets of its one argument.
 #[tactic(auto, unfolding(crate::specs::Arrivals::frame_told))]
 fn frame_line(
     alloc: Global,
-    facing: &Facing<'_>,
+    end: End,
+    plan: &EndPlan,
     name: &str,
     hex: &str,
 ) -> Result<Line, Fail<LineWhy>>
-    requires { facing.now.fields.now ≡ end_fields facing.now.plan.now }
-    ensures { Answers told result (frame_told facing.now.end facing.now.plan.now name.now hex.now) }
+    ensures { Answers told result (frame_told end plan.now name.now hex.now) }
 {
-    let Some(command) = find_carrying(facing, name)? else {
+    let Some(command) = find_command(plan.instance.members.as_slice(), name)? else {
         return Err(Fail::Named(LineWhy::Member));
     };
-    if command.fields.len() != 1 {
+    if !carries_one(arriving(plan.required), command.arguments.as_slice()) {
         return Err(Fail::Named(LineWhy::Args));
     }
     let octets = frame_octets(alloc, hex)?;
-    Ok(Line::Frame(facing.end, command.place, octets))
+    Ok(Line::Frame(end, command.place, octets))
 }
 
 // A parameter that is asked for.
@@ -151,19 +145,17 @@ pub(crate) fn member_line(
     alloc: Global,
     table: &TypeTable,
     verb: Verb,
-    facing: &Facing<'_>,
+    end: End,
+    plan: &EndPlan,
     name: &str,
     rest: &str,
 ) -> Result<Line, Fail<LineWhy>>
-    requires known { AreKnown table.now facing.now.plan.now }
-    requires fields { facing.now.fields.now ≡ end_fields facing.now.plan.now }
-    ensures { Answers told result (member_told table.now verb facing.now.end facing.now.plan.now name.now rest.now) }
+    requires known { AreKnown table.now plan.now }
+    ensures { Answers told result (member_told table.now verb end plan.now name.now rest.now) }
 {
-    let end = facing.end;
-    let plan = facing.plan;
     match verb {
-        Verb::Cmd => command_line(alloc, table, facing, name, rest),
-        Verb::Frame => frame_line(alloc, facing, name, rest),
+        Verb::Cmd => command_line(alloc, table, end, plan, name, rest),
+        Verb::Frame => frame_line(alloc, end, plan, name, rest),
         Verb::Get => get_line(alloc, end, plan, name),
         Verb::Set => set_line(alloc, table, end, plan, name, rest),
         Verb::Val => val_line(alloc, table, end, plan, name, rest),

@@ -2,23 +2,15 @@
 #![tactic(auto)]
 
 mod arrival;
-mod carries;
-mod event;
 mod given;
-pub mod law;
 mod lines;
 mod meaning;
 mod members;
-mod names;
 mod number;
-mod print;
 mod script;
-mod state;
 mod why;
 mod wired;
 mod words;
 
-pub use event::print_event;
 pub use script::{Lines, Script, parse_script};
-pub use state::print_state;
 pub use why::{BadLine, LineWhy};

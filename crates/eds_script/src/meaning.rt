@@ -5,7 +5,6 @@ ghost use Rattle.std.specs.HashMap.{get_by_text};
 ghost use Rattle.eds_base.specs.Answering.{Answers};
 ghost use Rattle.eds_plan.specs.Lines.{told};
 ghost use Rattle.eds_script.specs.Arrivals.{arrival_told};
-ghost use Rattle.eds_script.specs.Carries.{plan_fields};
 ghost use Rattle.eds_plan.specs.Ends.{end_named};
 ghost use Rattle.eds_script.specs.Known.{KnowsTypes};
 ghost use Rattle.eds_script.specs.Meaning.{is_wire as wire_form, ticks_by, saying_meaning as meaning_of_saying, tie_meaning as meaning_of_tie, tick_meaning as meaning_of_tick};
@@ -13,7 +12,6 @@ ghost use Rattle.eds_script.specs.Seen.{is_among, meaning_of, said_of as saying_
 
 use crate::LineWhy;
 use crate::arrival::{fits, member_line};
-use crate::carries::{Facing, PlanFields, fields_at};
 use crate::number::tick_of;
 use crate::wired::{EndSet, is_held};
 use crate::words::{Saying, Verb};
@@ -57,14 +55,12 @@ impl Meaning<'_> {
     }
 }
 
-/// What a line is judged by: the table and plan, the plan's ends by their texts, what arrives at them, and the ends in wire
-/// lines.
+/// What a line is judged by: the table and plan, the plan's ends by their texts, and the ends in wire lines.
 #[derive(Clone, Copy)]
 pub(crate) struct Setting<'a> {
     pub(crate) table: &'a TypeTable,
     pub(crate) plan: &'a Plan,
     pub(crate) ends: &'a EndIndex,
-    pub(crate) fields: &'a PlanFields,
     pub(crate) wired: &'a EndSet,
 }
 
@@ -79,7 +75,6 @@ fn arrival_line(
     rest: &str,
 ) -> Result<Line, Fail<LineWhy>>
     requires ends { (q : List ℕ) → get_by_text setting.now.ends.now q ≡ end_named setting.now.plan.now q }
-    requires fields { setting.now.fields.now ≡ plan_fields setting.now.plan.now }
     requires known { KnowsTypes setting.now.table.now setting.now.plan.now }
     ensures { Answers told result (arrival_told setting.now.table.now setting.now.plan.now (is_among (map string_bytes setting.now.wired.now.keys)) verb end.now name.now rest.now) }
 {
@@ -92,15 +87,7 @@ fn arrival_line(
     if !fits(verb, plan.required) {
         return Err(Fail::Named(LineWhy::Way));
     }
-    let Some(fields) = fields_at(setting.fields, place) else {
-        unreachable!()
-    };
-    let facing = Facing {
-        end: place,
-        plan,
-        fields,
-    };
-    member_line(alloc, setting.table, verb, &facing, name, rest)
+    member_line(alloc, setting.table, verb, place, plan, name, rest)
 }
 
 fn tie_meaning<'a>(late: bool, lower: &'a str, upper: &'a str) -> Result<Meaning<'a>, Fail<LineWhy>>
@@ -134,7 +121,6 @@ pub(crate) fn saying_meaning<'a>(
     saying: Saying<'a>,
 ) -> Result<Meaning<'a>, Fail<LineWhy>>
     requires ends { (q : List ℕ) → get_by_text setting.now.ends.now q ≡ end_named setting.now.plan.now q }
-    requires fields { setting.now.fields.now ≡ plan_fields setting.now.plan.now }
     requires known { KnowsTypes setting.now.table.now setting.now.plan.now }
     requires time { time < 2 ^ 63 }
     ensures value { Answers meaning_of result (meaning_of_saying setting.now.table.now setting.now.plan.now (is_among (map string_bytes setting.now.wired.now.keys)) late time (saying_of saying.entry)) }

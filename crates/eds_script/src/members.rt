@@ -1,13 +1,20 @@
 //! The members of an end, by their names, and what a command carries.
 
-ghost use Rattle.std.specs.Prelude.{◌≡◌, ◌++◌, ◌∷◌, [], IfOk, OnOk, option_map};
+ghost use Rattle.std.specs.Prelude.{◌≡◌, ◌==◌, ◌++◌, ◌∷◌, [], IfOk, OnOk, length, option_map};
 ghost use Rattle.eds_plan.specs.Carried.{arriving as arriving_way, carried_fields as carried_of, goes as goes_way};
-ghost use Rattle.eds_script.specs.Members.{command_place, parameter_from};
-ghost use Rattle.eds_script.specs.Seen.{parameter_of};
+ghost use Rattle.eds_script.specs.Members.{command_from, parameter_from};
+ghost use Rattle.eds_script.specs.Seen.{command_of, parameter_of};
 
 use eds_base::{Memory, Text, TypeId};
-use eds_plan::{Argument, FieldList, Member, Mode, Way};
+use eds_plan::{Argument, Arguments, FieldList, Member, Mode, Way};
 use std::alloc::Global;
+
+/// A command: its position among the members, and its arguments.
+#[derive(Clone, Copy)]
+pub(crate) struct Commanded<'a> {
+    pub(crate) place: u16,
+    pub(crate) arguments: &'a Arguments,
+}
 
 /// A parameter: its position among the members, its type, and whether it is read-only.
 #[derive(Clone, Copy)]
@@ -17,15 +24,14 @@ pub(crate) struct Parametered {
     pub(crate) read_only: bool,
 }
 
-// The position of a command of the name.
-fn as_command(member: &Member, place: u16, name: &str) -> Option<u16>
-    ensures { result ≡ command_place name.now place (member.now ∷ []) }
+fn as_command<'a>(member: &'a Member, place: u16, name: &str) -> Option<Commanded<'a>>
+    ensures { option_map command_of result ≡ command_from name.now place (member.now ∷ []) }
 {
     match member {
         Member::Parameter(_, _, _) => None,
-        Member::Command(own, _) => {
+        Member::Command(own, arguments) => {
             if own.as_str() == name {
-                Some(place)
+                Some(Commanded { place, arguments })
             } else {
                 None
             }
@@ -33,9 +39,12 @@ fn as_command(member: &Member, place: u16, name: &str) -> Option<u16>
     }
 }
 
-/// The position of the first command of a name.
-pub(crate) fn find_command(members: &[Member], name: &str) -> Result<Option<u16>, Memory>
-    ensures { IfOk result (λ p. p ≡ command_place name.now 0 members.now) }
+/// The first command of a name.
+pub(crate) fn find_command<'a>(
+    members: &'a [Member],
+    name: &str,
+) -> Result<Option<Commanded<'a>>, Memory>
+    ensures { IfOk result (λ m. option_map command_of m ≡ command_from name.now 0 members.now) }
 {
     let mut place: u16 = 0;
     let mut rest = members;
@@ -142,4 +151,19 @@ pub(crate) fn carried_fields(
         rest = after;
     }
     Ok(fields)
+}
+
+/// Whether exactly one argument goes a way.
+pub(crate) fn carries_one(way: Way, arguments: &[Argument]) -> bool
+    ensures { result ≡ (length (carried_of way arguments.now) == 1) }
+{
+    let mut count: usize = 0;
+    let mut rest = arguments;
+    while let [argument, after @ ..] = rest {
+        if goes(way, argument.mode) {
+            count += 1;
+        }
+        rest = after;
+    }
+    count == 1
 }

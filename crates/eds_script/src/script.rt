@@ -4,14 +4,12 @@ ghost use Rattle.std.specs.Prelude.{◌≡◌, ◌<◌, ◌++◌, ◌∷◌, ◌
 ghost use Rattle.std.specs.HashMap.{get_by_text};
 ghost use Rattle.eds_base.specs.Answering.{Answers};
 ghost use Rattle.eds_plan.specs.Lines.{starts};
-ghost use Rattle.eds_script.specs.Carries.{plan_fields as plan_fields_of};
 ghost use Rattle.eds_plan.specs.Ends.{end_named};
 ghost use Rattle.eds_script.specs.Known.{KnowsTypes};
 ghost use Rattle.eds_script.specs.Meaning.{is_wire as wire_form, line_says, ticks_by};
 ghost use Rattle.eds_script.specs.Scripts.{happenings_of, plot_by, script_of, wires_of};
 ghost use Rattle.eds_script.specs.Seen.{bad_line, is_among, line_of, meaning_of, numbered_told, plot_seen};
 
-use crate::carries::plan_fields;
 use crate::lines::{ScriptLine, script_lines};
 use crate::meaning::{Meaning, Setting, saying_meaning};
 use crate::wired::wired_ends;
@@ -99,7 +97,6 @@ fn line_meaning<'a>(
     line: &ScriptLine<'a>,
 ) -> Result<Meaning<'a>, Fail<LineWhy>>
     requires ends { (q : List ℕ) → get_by_text setting.now.ends.now q ≡ end_named setting.now.plan.now q }
-    requires fields { setting.now.fields.now ≡ plan_fields_of setting.now.plan.now }
     requires known { KnowsTypes setting.now.table.now setting.now.plan.now }
     requires time { time < 2 ^ 63 }
     ensures value { Answers meaning_of result (line_says setting.now.table.now setting.now.plan.now (is_among (map string_bytes setting.now.wired.now.keys)) late time line.now.text.now) }
@@ -125,7 +122,6 @@ fn read_lines(
     lines: &[ScriptLine<'_>],
 ) -> Result<Script, Fail<BadLine>>
     requires ends { (q : List ℕ) → get_by_text setting.now.ends.now q ≡ end_named setting.now.plan.now q }
-    requires fields { setting.now.fields.now ≡ plan_fields_of setting.now.plan.now }
     requires known { KnowsTypes setting.now.table.now setting.now.plan.now }
     ensures { Answers plot_seen result (plot_by setting.now.table.now setting.now.plan.now (is_among (map string_bytes setting.now.wired.now.keys)) (map line_of lines.now)) }
 {
@@ -158,13 +154,11 @@ pub fn parse_script(
 {
     let lines = script_lines(alloc, octets)?;
     let ends = index_ends(alloc, plan)?;
-    let fields = plan_fields(alloc, plan)?;
     let wired = wired_ends(alloc, lines.as_slice())?;
     let setting = Setting {
         table,
         plan,
         ends: &ends,
-        fields: &fields,
         wired: &wired,
     };
     read_lines(alloc, &setting, lines.as_slice())

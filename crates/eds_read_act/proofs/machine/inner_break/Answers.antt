@@ -1,17 +1,22 @@
-use Rattle.std.proofs.Common.{◌≡◌, Option, None, ℕ, ap, ◌∙◌, IfOk, subst}
-use Rattle.eds_base.specs.declared.refusal.Refusal.{Refusal}
+use Rattle.std.proofs.Common.{◌≡◌, ℕ, Bool, true, false, List, [], ap, refl, sym, ◌∙◌}
 use Rattle.eds_base.specs.Refusals.{least}
-use Rattle.eds_read_act.specs.Events.{carried_if}
-use Rattle.eds_read_act.specs.MachineBreaks.{breaks_inside}
-use Rattle.eds_read_act.specs.Machines.{guarded_and_done}
-use Rattle.eds_read_act.specs.Scopes.{scope_of, with_known, with_arguments}
+use Rattle.eds_read_act.specs.MachineBreaks.{breaks_inside, event_scope}
+use Rattle.eds_read_act.specs.Scopes.{Scope, scope_of, with_known}
 use Rattle.eds_read_act.proofs.machine.inner_break.Goals as goal
 
-pub returns-in-None : goal.returns-in-None
-returns-in-None c =
+-- where there is nothing, nothing is broken
+nothing : (above : Bool) (file : ℕ) (s : Scope) → breaks_inside above file s [] ≡ []
+nothing true file s = refl
+nothing false file s = refl
+
+pub returns-then-is_empty : goal.returns-then-is_empty
+returns-then-is_empty c =
+    let s = event_scope (scope_of c.args.scope.now) c.args.transition in
+    sym (ap (λ ns. least (breaks_inside c.args.above c.args.file s ns)) (sym c.in_ok-nodes.ensures ∙ c.if-is_empty.true) ∙ ap least (nothing c.args.above c.args.file s))
+
+pub returns : goal.returns
+returns c =
     let s = scope_of c.args.scope.now in
-    let P : Option Refusal → Type 0 = λ x. IfOk c.break_at_start.result (λ y. y ≡ x) in
-    subst P
-    (ap (λ ns. least (breaks_inside c.args.above c.args.file (with_known s (carried_if s None)) ns)) (c.as_slice.ensures.value ∙ c.in_ok-nodes.ensures)
-    ∙ ap (λ (o : Option ℕ). least (breaks_inside c.args.above c.args.file (with_known s (carried_if s o)) (guarded_and_done s.tree c.args.transition))) c.in-None.ensures)
-    c.break_at_start.ensures
+    c.break_inside.ensures
+    ∙ ap (λ fs. least (breaks_inside c.args.above c.args.file (with_known s fs) c.as_slice.result.now)) (c.lent.ensures ∙ c.in_ok-carried.ensures)
+    ∙ ap (λ ns. least (breaks_inside c.args.above c.args.file (event_scope s c.args.transition) ns)) (c.as_slice.ensures.value ∙ c.in_ok-nodes.ensures)

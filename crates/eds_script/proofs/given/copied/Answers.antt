@@ -1,4 +1,4 @@
-use Rattle.std.proofs.Common.{◌<◌, length, sym, ◌∙◌, arith}
+use Rattle.std.proofs.Common.{rules, ◌≡◌, ◌<◌, length, map, sym, ap, ◌∙◌, arith}
 use Rattle.eds_types.specs.Plain.{plain}
 use Rattle.eds_script.proofs.Packing.{copied-step, not-missing}
 use Rattle.eds_script.proofs.given.copied.Goals as goal

@@ -1,5 +1,6 @@
-use Rattle.std.proofs.Common.{rules, map, ◌+◌, ◌≡◌}
+use Rattle.std.proofs.Common.{rules, refl, sym, ap, ◌∙◌, map, ◌+◌, ◌≡◌}
 use Rattle.eds_script.specs.Seen.{line_of}
+use Rattle.eds_script.specs.Lines.{script_lines, unskipped, ended, numbered_from, pieces}
 use Rattle.eds_script.proofs.Pieces.{lines-more}
 use Rattle.eds_script.proofs.lines.script_lines.Goals as goal
 

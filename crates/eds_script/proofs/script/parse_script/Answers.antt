@@ -2,7 +2,7 @@ use Rattle.std.proofs.Common.{subst, ◌≡◌, ap, ◌∙◌, map, string_bytes
 use Rattle.eds_base.specs.Answering.{Answers}
 use Rattle.eds_script.specs.Lines.{script_lines}
 use Rattle.eds_script.specs.Meaning.{wired_in}
-use Rattle.eds_script.specs.Scripts.{plot_by}
+use Rattle.eds_script.specs.Scripts.{plot_by, plot_in}
 use Rattle.eds_script.specs.Seen.{is_among, line_of, plot_seen}
 use Rattle.eds_script.proofs.script.parse_script.Goals as goal
 

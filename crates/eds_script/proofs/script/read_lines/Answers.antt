@@ -1,4 +1,4 @@
-use Rattle.std.proofs.Common.{◌+◌, ◌<◌, map, length, get_or, ap, arith, string_bytes}
+use Rattle.std.proofs.Common.{◌≡◌, ◌+◌, ◌<◌, map, length, get_or, ap, arith, string_bytes}
 use Rattle.eds_script.specs.Seen.{is_among, line_of, meaning_of, numbered_told}
 use Rattle.eds_script.proofs.Scripting.{item-opens, item-taken, stands-more, stands-stop, stops-at}
 use Rattle.eds_script.proofs.script.read_lines.Goals as goal

@@ -1,4 +1,4 @@
-use Rattle.std.proofs.Common.{◌<◌, ◌^◌, map, string_bytes}
+use Rattle.std.proofs.Common.{◌≡◌, ◌<◌, ◌^◌, map, string_bytes}
 use Rattle.eds_script.specs.Scripts.{plot_by}
 use Rattle.eds_script.specs.Seen.{is_among, line_of, numbered_told}
 use Rattle.eds_script.proofs.Scripting.{Stands}

@@ -1,4 +1,4 @@
-use Rattle.std.proofs.Common.{refl, lit<}
+use Rattle.std.proofs.Common.{rules, Some, None, refl, sym, ap, ◌∙◌, lit<}
 use Rattle.eds_script.specs.Words.{is_space}
 use Rattle.eds_script.proofs.Places.{some-placed, none-placed}
 use Rattle.eds_script.proofs.words.word_and_rest.Goals as goal

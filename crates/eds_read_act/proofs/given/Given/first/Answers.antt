@@ -11,6 +11,6 @@ returns-in-None c =
 
 pub returns-in-Some : goal.returns-in-Some
 returns-in-Some c =
-    c.node_at.ensures ∙ ap (λ ns. slice_get ns c.in-Some.at) c.as_slice.ensures.value
+    c.copied.ensures ∙ ap (λ ns. slice_get ns c.in-Some.at) c.as_slice.ensures.value
     ∙ ap (λ o. o >>= λ k. slice_get c.args.self.now.nodes.items k) c.in-Some.ensures
     ∙ given-first c.args.tree.now c.args.self.now.holder c.args.name.now c.args.self.now.nodes.items c.args.self.now.names c.requires.nodes c.requires.names

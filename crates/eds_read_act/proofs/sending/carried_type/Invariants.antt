@@ -1,0 +1,10 @@
+use Rattle.std.proofs.Common.{◌≡◌, length}
+use Rattle.eds_plan.specs.Carried.{carried_fields}
+use Rattle.eds_read_act.specs.TypeMismatch.{field_type}
+use Rattle.eds_read_act.proofs.sending.carried_type.Given as goal
+
+abbrev pub invariant-loop-rest : goal.invariant-loop-rest
+invariant-loop-rest l = field_type (carried_fields l.way l.rest) l.name ≡ field_type (carried_fields l.way l.arguments) l.name
+
+abbrev pub decreases-loop-rest : goal.decreases-loop-rest
+decreases-loop-rest l = length l.rest

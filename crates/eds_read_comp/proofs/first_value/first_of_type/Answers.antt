@@ -1,0 +1,7 @@
+use Rattle.std.proofs.Common.{map, arith}
+use Rattle.std.specs.Prelude.{option_map}
+use Rattle.eds_read_comp.proofs.Firsts.{absent}
+use Rattle.eds_read_comp.proofs.first_value.first_of_type.Goals as goal
+
+pub returns-then-id-rows-clause-none : goal.returns-then-id-rows-clause-none
+returns-then-id-rows-clause-none c = λ v. absent c.args.table.now c.args.id.0 (option_map (λ t. t.now) c.args.initial) v (omega arith)
