@@ -124,14 +124,6 @@ def inputs():
     yield "an enumeration of 32,767 labels", "check s", {
         "s": sheet(["EnumeratedDataType", {"name": "E"}, ["EnumerationList", *(["Enumeration", {"label": f"L{i}", "value": str(i)}] for i in range(32767))]])
     }, (0, "accepted types 1 containers 0 interfaces 0 components 0\n")
-    yield "32,767 fixed values of 32,767 labels", "check s", {
-        "s": sheet(["EnumeratedDataType", {"name": "E"}, ["EnumerationList", *(["Enumeration", {"label": f"L{i}", "value": str(i)}] for i in range(32767))]],
-                   container("C", *(["FixedValueEntry", {"type": "E", "fixedValue": f"L{32766 - i}"}] for i in range(32767))))
-    }, (0, "accepted types 2 containers 1 interfaces 0 components 0\n")
-    yield "32,766 fixed values of 32,766 labels, and one of none", "check s", {
-        "s": sheet(["EnumeratedDataType", {"name": "E"}, ["EnumerationList", *(["Enumeration", {"label": f"L{i}", "value": str(i)}] for i in range(32766))]],
-                   container("C", *(["FixedValueEntry", {"type": "E", "fixedValue": f"L{i}"}] for i in range(32767))))
-    }, (1, "refused 21 FixedValue at 0:%d\n" % (3 + 2 + 32766 + 2 + 32766))
     yield "an enumeration whose last label is its first", "check s", {
         "s": sheet(["EnumeratedDataType", {"name": "E"}, ["EnumerationList", *(["Enumeration", {"label": f"L{i % 32766}", "value": str(i)}] for i in range(32767))]])
     }, (1, "refused 14 BadEnumeration at 0:3\n")

@@ -11,8 +11,7 @@ use Rattle.eds_plan.specs.declared.run.Halt.TheVariants.{BadArgument}
 use Rattle.eds_plan.specs.Statements.{stmts}
 use Rattle.eds_act.specs.declared.ending.ActEnd.{ActEnd}
 use Rattle.eds_act.specs.Acting.{acting, acted, entered, noted, noted_end}
-use Rattle.eds_plan.specs.Plans.{argument_types}
-use Rattle.eds_act.specs.Does.{World, Ended, exec, items_of, value_of, arguments_of}
+use Rattle.eds_act.specs.Does.{World, Ended, exec, items_of, value_of, arguments_of, argument_types}
 use Rattle.eds_act.specs.Running.{types_of}
 
 module _ (packs : ℕ → Plain → Bool) (t : Table) (c : ComponentPlan) (machine : ℕ) where

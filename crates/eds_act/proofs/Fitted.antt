@@ -15,9 +15,7 @@ use Rattle.eds_plan.specs.declared.instance.Member.{Member}
 use Rattle.eds_plan.specs.declared.instance.Member.TheVariants as member
 use Rattle.eds_plan.specs.declared.run.Way.{Way}
 use Rattle.eds_plan.specs.Fitting.{ComponentFits, MemberKnown}
-use Rattle.eds_plan.specs.Carried.{carried, carried_of, goes}
-use Rattle.eds_plan.specs.Plans.{argument_types, variable_types}
-use Rattle.eds_act.specs.Does.{Conforms, way_of}
+use Rattle.eds_act.specs.Does.{Conforms, variable_types, argument_types, is_carried, carried_of, carried, way_of}
 use Rattle.eds_act.specs.Running.{IsKnown, Fits}
 
 known_by : (t : Table) (id : ℕ) (v : Plain) → Conforms t id v → id < length t
@@ -42,7 +40,7 @@ more_known t n ids lt h (suc i) id at = h i id at
 
 carried_known : (t : Table) (way : Way) (args : List Argument) → AllByRecursion (λ (a : Argument). a.id.0 < length t) args → IsKnown t (carried_of way args)
 carried_known t way [] h = none_known t
-carried_known t way (a ∷ args) h = go (goes way a.mode) (carried_known t way args h.1)
+carried_known t way (a ∷ args) h = go (is_carried way a.mode) (carried_known t way args h.1)
   where
     go : (b : Bool) → IsKnown t (carried_of way args) → IsKnown t (if b then a.id.0 ∷ carried_of way args else carried_of way args)
     go true ih = more_known t a.id.0 (carried_of way args) h.0 ih
@@ -58,8 +56,8 @@ member_known t way op.Get (member.Command name args) h = none_known t
 member_known t way op.Set (member.Command name args) h = none_known t
 member_known t way op.Val (member.Command name args) h = none_known t
 
-pub fitted : (t : Table) (c : ComponentPlan) → ComponentFits t (Conforms t) c → Fits t c
-fitted t c f = record {
+pub fitted : (t : Table) (Carries : ℕ → ℕ → Op → List ℕ → Type 0) (c : ComponentPlan) → ComponentFits t (Conforms t) Carries c → Fits t c
+fitted t Carries c f = record {
   variables = variables_known t c.variables f.initial;
   members = λ i j e m o at at'. member_known t (way_of e) o m (let P : Option Member → Type 0 = MemberKnown t in subst P at' (f.members i j e at));
   arguments = λ i a at j id at'. f.known i j a id at at';

@@ -15,4 +15,3 @@ pub mod Working
 pub mod Telling
 pub mod Parts
 pub mod Equal
-pub mod Leaving

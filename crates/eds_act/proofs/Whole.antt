@@ -25,9 +25,7 @@ use Rattle.eds_plan.specs.Sends.{Sent, primitive}
 use Rattle.eds_plan.specs.Statements.{Stmt, Stmts, assign, calculate, choose, iterate, call, send_command, send_parameter, stmts, list_of}
 use Rattle.eds_act.specs.declared.ending.ActEnd.{ActEnd}
 use Rattle.eds_act.specs.declared.ending.ActEnd.TheVariants.{Done, Halted}
-use Rattle.eds_plan.specs.Carried.{carried}
-use Rattle.eds_plan.specs.Plans.{argument_types, variable_types}
-use Rattle.eds_act.specs.Does.{World, Item, statement, turn, items_of, Started, goes, halts, Ended, Tells, Conforms, exec, start, after, storing, iterating, calling, entering, Does, budget, value_of, number_of, arguments_of, turns, emitting, sending, way_of, begun, calculated, targeted}
+use Rattle.eds_act.specs.Does.{World, Item, statement, turn, items_of, Started, goes, halts, Ended, Tells, Conforms, exec, start, after, storing, iterating, calling, entering, Does, budget, variable_types, value_of, number_of, arguments_of, argument_types, turns, emitting, sending, way_of, carried, begun, calculated, targeted}
 use Rattle.eds_act.specs.Running.{Leads, Runs}
 
 -- ---- a test that tells what packs

@@ -13,8 +13,7 @@ use Rattle.eds_plan.specs.Sends.{sent, halted}
 use Rattle.eds_plan.specs.Statements.{stmts}
 use Rattle.eds_act.specs.declared.ending.ActEnd.{ActEnd}
 use Rattle.eds_act.specs.declared.ending.ActEnd.TheVariants.{Done, Halted}
-use Rattle.eds_plan.specs.Plans.{argument_types}
-use Rattle.eds_act.specs.Does.{World, Ended, exec, items_of, value_of, arguments_of}
+use Rattle.eds_act.specs.Does.{World, Ended, exec, items_of, value_of, arguments_of, argument_types}
 
 -- the world of a component in an event: its state, and what it sent
 abbrev pub world_of : ℕ → CompState → List Send → World

@@ -18,15 +18,20 @@ use Rattle.eds_plan.specs.declared.activity.Relation.{Relation}
 use Rattle.eds_plan.specs.declared.activity.Relation.TheVariants.{Equal, NotEqual, Less, LessOrEqual, Greater, GreaterOrEqual}
 use Rattle.eds_plan.specs.declared.activity.Activity.{Activity}
 use Rattle.eds_plan.specs.declared.component.ComponentPlan.{ComponentPlan}
+use Rattle.eds_plan.specs.declared.component.VarPlan.{VarPlan}
 use Rattle.eds_plan.specs.declared.run.Halt.{Halt}
 use Rattle.eds_plan.specs.declared.run.Halt.TheVariants.{OutOfRange, BadArgument, Budget}
 use Rattle.eds_plan.specs.declared.activity.Op.{Op}
 use Rattle.eds_plan.specs.declared.activity.Op.TheVariants as op
 use Rattle.eds_plan.specs.declared.component.EndPlan.{EndPlan}
+use Rattle.eds_plan.specs.declared.instance.Argument.{Argument}
+use Rattle.eds_plan.specs.declared.instance.Member.{Member}
+use Rattle.eds_plan.specs.declared.instance.Member.TheVariants as member
+use Rattle.eds_plan.specs.declared.instance.Mode.{Mode}
+use Rattle.eds_plan.specs.declared.instance.Mode.TheVariants.{In, Out, InOut, Notify}
 use Rattle.eds_plan.specs.declared.run.Outstanding.{Outstanding}
 use Rattle.eds_plan.specs.declared.run.Way.{Way}
-use Rattle.eds_plan.specs.Carried.{carried, leaving}
-use Rattle.eds_plan.specs.Plans.{argument_types, variable_types}
+use Rattle.eds_plan.specs.declared.run.Way.TheVariants.{Down, Up}
 use Rattle.eds_plan.specs.Sends.{Sent, primitive}
 use Rattle.eds_plan.specs.Statements.{Condition, Conditions, compare, every, some, none, more, Stmt, Stmts, assign, calculate, choose, iterate, call, send_command, send_parameter, list_of, stmts}
 use Rattle.eds_act.specs.declared.ending.ActEnd.{ActEnd}
@@ -49,6 +54,14 @@ AllConform t [] [] = Unit {0}
 AllConform t [] (v ∷ vs) = ⊥
 AllConform t (id ∷ ids) [] = ⊥
 AllConform t (id ∷ ids) (v ∷ vs) = Conforms t id v × AllConform t ids vs
+
+-- the types of a component's variables
+abbrev pub variable_types : ComponentPlan → List ℕ
+variable_types c = map (λ (x : VarPlan). x.id.0) c.variables
+
+-- the types of an activity's arguments
+abbrev pub argument_types : Activity → List ℕ
+argument_types a = map (λ (p : List ℕ × TypeId). (p.1).0) a.arguments
 
 -- ---- the world of an event
 
@@ -283,7 +296,35 @@ calculated t args vars is = only_number (with_items t args vars is (Some []))
 
 -- the way of what is sent at an end
 abbrev pub way_of : EndPlan → Way
-way_of e = leaving e.required
+way_of e = if e.required then Down else Up
+
+-- whether an argument is carried in a way
+abbrev pub is_carried : Way → Mode → Bool
+is_carried Down In = true
+is_carried Down Out = false
+is_carried Down InOut = true
+is_carried Down Notify = false
+is_carried Up In = false
+is_carried Up Out = true
+is_carried Up InOut = true
+is_carried Up Notify = true
+
+-- the types of the arguments that a command carries in a way
+abbrev pub carried_of : Way → List Argument → List ℕ
+carried_of way [] = []
+carried_of way (a ∷ as') = if is_carried way a.mode then a.id.0 ∷ carried_of way as' else carried_of way as'
+
+-- the types of the values that a member carries in a way
+abbrev pub carried : Op → Way → Option Member → List ℕ
+carried o way None = []
+carried op.Command way (Some (member.Parameter name id read_only)) = []
+carried op.Get way (Some (member.Parameter name id read_only)) = []
+carried op.Set way (Some (member.Parameter name id read_only)) = id.0 ∷ []
+carried op.Val way (Some (member.Parameter name id read_only)) = id.0 ∷ []
+carried op.Command way (Some (member.Command name args)) = carried_of way args
+carried op.Get way (Some (member.Command name args)) = []
+carried op.Set way (Some (member.Command name args)) = []
+carried op.Val way (Some (member.Command name args)) = []
 
 -- ---- transactions
 

@@ -3,4 +3,3 @@ pub mod Running
 pub mod Laws
 pub mod Work
 pub mod Acting
-pub mod Leaves

@@ -19,9 +19,7 @@ use Rattle.eds_act.specs.declared.turn.Turn.{Turn}
 use Rattle.eds_act.specs.declared.ending.ActEnd.{ActEnd}
 use Rattle.eds_act.specs.declared.ending.ActEnd.TheVariants.{Done, Halted}
 use Rattle.eds_act.specs.declared.event.Event.{Event}
-use Rattle.eds_plan.specs.Carried.{carried}
-use Rattle.eds_plan.specs.Plans.{argument_types, variable_types}
-use Rattle.eds_act.specs.Does.{World, Does, way_of, budget, Item, turn, turns, Started, goes, halts, Ended, Tells, exec, start, AllConform}
+use Rattle.eds_act.specs.Does.{World, Does, carried, way_of, argument_types, budget, Item, turn, turns, Started, goes, halts, Ended, Tells, exec, start, AllConform, variable_types}
 
 -- the variables and what was sent, as plain data
 abbrev pub world : Event → World

@@ -4,8 +4,7 @@ ghost use Rattle.std.specs.Prelude.{◌≡◌, ◌≤◌, ◌++◌, [], ◌∷�
 ghost use Rattle.eds_types.specs.PackedSizes.{packs};
 ghost use Rattle.eds_types.specs.Plain.{Plain, plain};
 ghost use Rattle.eds_act.specs.Acting.{noted, acting, world_of};
-ghost use Rattle.eds_plan.specs.Plans.{variable_types};
-ghost use Rattle.eds_act.specs.Does.{Tells, AllConform};
+ghost use Rattle.eds_act.specs.Does.{Tells, AllConform, variable_types};
 ghost use Rattle.eds_act.specs.Running.{world, Fits, HasConforming};
 
 use crate::ActEnd;

@@ -4,8 +4,7 @@ ghost use Rattle.std.specs.Prelude.{◌≡◌, ◌≤◌, ◌<◌, map, length, 
 ghost use Rattle.eds_types.specs.Plain.{plain};
 ghost use Rattle.eds_plan.specs.Plans.{component_at, activity_at};
 ghost use Rattle.eds_plan.specs.Sends.{sent};
-ghost use Rattle.eds_plan.specs.Plans.{variable_types};
-ghost use Rattle.eds_act.specs.Does.{AllConform, budget};
+ghost use Rattle.eds_act.specs.Does.{AllConform, variable_types, budget};
 ghost use Rattle.eds_act.specs.Running.{Fits, HasConforming, Runs};
 
 use crate::ActEnd;

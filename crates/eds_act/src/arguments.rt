@@ -3,9 +3,7 @@
 ghost use Rattle.std.specs.Prelude.{◌≡◌, ℕ, ◌<◌, length, Bool, map, List, [], ◌∷◌, ◌++◌, Option, option_map, IfOk, OnOk};
 ghost use Rattle.std.specs.Option.{option_copied};
 ghost use Rattle.eds_types.specs.Plain.{Plain, plain};
-ghost use Rattle.eds_plan.specs.Carried.{carried, carried_of, goes as is_carried_in};
-ghost use Rattle.eds_plan.specs.Plans.{argument_types};
-ghost use Rattle.eds_act.specs.Does.{Tells, value_of, argument_of, arguments_of};
+ghost use Rattle.eds_act.specs.Does.{Tells, value_of, argument_of, arguments_of, argument_types, is_carried, carried_of, carried};
 ghost use Rattle.eds_act.specs.Running.{IsKnown, types_of};
 
 use crate::check::packs;
@@ -78,7 +76,7 @@ pub(crate) fn argument_types(alloc: Global, activity: &Activity) -> Result<Vec<T
 }
 
 fn is_carried(way: Way, mode: Mode) -> bool
-    ensures { result ≡ is_carried_in way mode }
+    ensures { result ≡ is_carried way mode }
 {
     match way {
         Way::Down => match mode {

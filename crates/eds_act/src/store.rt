@@ -3,8 +3,7 @@
 ghost use Rattle.std.specs.Prelude.{◌≡◌, ℕ, ◌<◌, length, Bool, true, map, List, Option, None, Some, option_map, slice_set, slice_get, IfOk, if◌then◌else◌};
 ghost use Rattle.eds_base.specs.declared.ids.TypeId.{TypeId};
 ghost use Rattle.eds_types.specs.Plain.{Plain, plain};
-ghost use Rattle.eds_plan.specs.Plans.{variable_types};
-ghost use Rattle.eds_act.specs.Does.{Item, Conforms, Tells, AllConform, storing, halts, goes};
+ghost use Rattle.eds_act.specs.Does.{Item, Conforms, Tells, AllConform, variable_types, storing, halts, goes};
 ghost use Rattle.eds_act.specs.Running.{world, IsKnown, OnHalted, stored};
 
 use crate::ActEnd;

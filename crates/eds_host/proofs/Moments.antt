@@ -61,42 +61,6 @@ module _ (sys : System) where
   pub none_before : (t : ℕ) (xs : List StateNow) → ComesBy t (first_due sys 0 xs) → (i : ℕ) (s : StateNow) → slice_get xs i ≡ Some s → NotBefore t (sys.waits i s)
   none_before t xs h i s e = subst (λ n. NotBefore t (sys.waits n s)) (omega arith) (from_late t 0 xs h i s e)
 
-  -- a component waits for what is due
-  pub record IsWaited (first : ℕ) (xs : List StateNow) (d : Due) : Type 0 where
-    pub at : ℕ
-    pub state : StateNow
-    pub comp : d.comp ≡ first + at
-    pub there : slice_get xs at ≡ Some state
-    pub waits : sys.waits d.comp state ≡ Some (d.moment, d.machine)
-
-  abbrev IfWaited : ℕ → List StateNow → Option Due → Type 0
-  IfWaited first xs None = Unit {0}
-  IfWaited first xs (Some d) = IsWaited first xs d
-
-  first_waited : (first : ℕ) (xs : List StateNow) (a b : Option Due) → IfWaited first xs a → IfWaited first xs b → IfWaited first xs (first_of a b)
-  first_waited first xs None b h k = k
-  first_waited first xs (Some a) None h k = h
-  first_waited first xs (Some a) (Some b) h k = go (nat_lt b.moment a.moment)
-    where
-      go : (c : Bool) → IfWaited first xs (cond c (Some b) (Some a))
-      go true = k
-      go false = h
-
-  waited_from : (first : ℕ) (xs : List StateNow) → IfWaited first xs (first_due sys first xs)
-  waited_from first [] = tt
-  waited_from first (x ∷ xs) = first_waited first (x ∷ xs) _ _ (here (sys.waits first x) refl) (rest (first_due sys (first + 1) xs) (waited_from (first + 1) xs))
-    where
-      here : (d : Option (ℕ × ℕ)) → sys.waits first x ≡ d → IfWaited first (x ∷ xs) (due_at first d)
-      here None e = tt
-      here (Some d) e = record { at = 0; state = x; comp = omega arith; there = refl; waits = e }
-
-      rest : (d : Option Due) → IfWaited (first + 1) xs d → IfWaited first (x ∷ xs) d
-      rest None h = tt
-      rest (Some d) h = record { at = suc h.at; state = h.state; comp = omega (arith, h.comp); there = h.there; waits = h.waits }
-
-  pub due_waited : (xs : List StateNow) (d : Due) → first_due sys 0 xs ≡ Some d → IsWaited 0 xs d
-  due_waited xs d e = subst (λ o. IfWaited 0 xs o) e (waited_from 0 xs)
-
 not_come : (t : ℕ) (d : Option Due) → has_come (Some t) d ≡ None → ComesBy (t + 1) d
 not_come t None e = tt
 not_come t (Some d) e = go (nat_le d.moment t) refl e

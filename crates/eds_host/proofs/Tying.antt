@@ -29,7 +29,7 @@ at_same a e = go (nat_lt a.comp.0 e.comp.0) (nat_eq a.comp.0 e.comp.0) (nat_lt a
     go false true false true p q r s = refl
     go false true false false p q r s = refl
 
-pub same_is : (a e : End) → same_end a e ≡ true → a ≡ e
+same_is : (a e : End) → same_end a e ≡ true → a ≡ e
 same_is a e h = go (nat_eq a.comp.0 e.comp.0) (nat_eq a.face e.face) refl refl h
   where
     go : (c f : Bool) → nat_eq a.comp.0 e.comp.0 ≡ c → nat_eq a.face e.face ≡ f → (c && f) ≡ true → a ≡ e

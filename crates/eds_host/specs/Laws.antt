@@ -1,12 +1,10 @@
 -- What holds of all runs.
-use Rattle.std.specs.Prelude.{◌≡◌, ◌≤◌, ◌+◌, ℕ, List, [], ◌∷◌, ◌++◌, take, slice_get, Option, Some, None, IfSome, Result, ◌⊎◌}
+use Rattle.std.specs.Prelude.{◌≡◌, ◌≤◌, ◌+◌, ℕ, List, [], ◌∷◌, ◌++◌, take, slice_get, Option, Some, None, ◌⊎◌}
 use Rattle.eds_plan.specs.Outs.{Signal, Report}
 use Rattle.eds_plan.specs.Sends.{Sent}
 use Rattle.eds_host.specs.declared.due.Due.{Due}
-use Rattle.eds_host.specs.Systems.{System, World, StateNow, Happening, Coming, arrival, arrives, moment, state_at, queued, first_due, has_come, next}
-use Rattle.eds_base.specs.declared.fault.Fault.{Fault}
-use Rattle.eds_types.specs.Plain.{Plain}
-use Rattle.eds_host.specs.Runs.{Chain, Reading, Rests, Storms, go_on, time_passes}
+use Rattle.eds_host.specs.Systems.{System, World, StateNow, Happening, Coming, arrival, moment, state_at, queued, first_due, has_come, next}
+use Rattle.eds_host.specs.Runs.{Chain, Rests, Storms, go_on, time_passes}
 
 -- a tick of m + n that is no storm gives the outs and the end of a tick of m followed by one of n
 abbrev pub TicksAdd : Type 0
@@ -72,34 +70,3 @@ TimeGoesOn = (sys : System) → IsPunctual sys → (until : Option ℕ) (w v : W
 -- where nothing is next up to a time, components wait for later moments alone
 abbrev pub NoneIsLate : Type 0
 NoneIsLate = (sys : System) (until : ℕ) (w : World) → next sys (Some until) w ≡ None → WaitFrom sys (until + 1) w.states
-
--- ---- timers
-
--- what is next in a world is the firing of a machine at the moment for which its component waits: then and no later, as time
--- hasn't passed it; and not before it has come
-pub record IsOnTime (sys : System) (until : Option ℕ) (w : World) (h : Happening) (d : Due) : Type 0 where
-  pub waits : sys.waits d.comp (state_at w d.comp) ≡ Some (d.moment, d.machine)
-  pub is : h ≡ arrives sys d.comp (moment d.machine) (record w { now = d.moment })
-  pub on_time : h.world.now ≡ d.moment
-  pub not_late : w.now ≤ d.moment
-  pub not_early : IfSome until (λ t. d.moment ≤ t)
-
--- a delivery takes no time; where nothing is to be delivered, a machine fires on time
-abbrev pub TakesItsTime : System → Option ℕ → World → Happening → List Signal → Type 0
-TakesItsTime sys until w h [] = (d : Due) × IsOnTime sys until w h d
-TakesItsTime sys until w h (s ∷ ss) = h.world.now ≡ w.now
-
--- so it is with each of some happenings
-abbrev pub AllTakeTheirTime : System → Option ℕ → World → List Happening → Type 0
-AllTakeTheirTime sys until w [] = Unit {0}
-AllTakeTheirTime sys until w (h ∷ hs) = TakesItsTime sys until w h w.queue × AllTakeTheirTime sys until h.world hs
-
--- no timer fires early or late
-abbrev pub TimersAreOnTime : Type 0
-TimersAreOnTime = (sys : System) → IsPunctual sys → (until : Option ℕ) (w v : World) (hs : List Happening) → WaitFrom sys w.now w.states → Chain sys until w hs v → AllTakeTheirTime sys until w hs
-
--- ---- frames
-
--- a frame for a member of an end comes to one thing alone
-abbrev pub ReadsOne : Reading → Type 0
-ReadsOne reading = (comp face member : ℕ) (octets : List ℕ) (r s : Result Plain Fault) → reading.reads comp face member octets r → reading.reads comp face member octets s → r ≡ s

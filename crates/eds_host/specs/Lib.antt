@@ -5,10 +5,3 @@ pub mod Mirrors
 pub mod Frames
 pub mod Wires
 pub mod Links
-pub mod Machines
-pub mod Plans
-pub mod Settings
-pub mod Comings
-pub mod Steps
-pub mod Hosts
-pub mod Resting

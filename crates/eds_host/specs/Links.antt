@@ -1,5 +1,5 @@
 -- The map of ends that are tied.
-use Rattle.std.specs.Prelude.{◌≡◌, List, Option, Result, Err}
+use Rattle.std.specs.Prelude.{◌≡◌, List, Option, Result, Ok, Err}
 use Rattle.std.specs.BTreeMap.{BTreeMap, get}
 use Rattle.std.specs.Ordering.{nat_cmp, ordering_then}
 use Rattle.std.specs.declared.cmp.Ordering.{Ordering}
@@ -31,3 +31,8 @@ HasTies m ts = (e : End) → link_of m e ≡ other_end ts e
 abbrev pub Stops : Fail HostFail → Result (List Tie) HostFail → Type 0
 Stops (Named fail) ties = ties ≡ Err fail
 Stops Memory ties = Unit {0}
+
+-- a function returned a map of all that wires tie, or stopped so
+abbrev pub TiesAll : Result (BTreeMap Place End) (Fail HostFail) → Result (List Tie) HostFail → Type 0
+TiesAll (Ok m) ties = (ts : List Tie) × (ties ≡ Ok ts) × HasTies m ts
+TiesAll (Err stop) ties = Stops stop ties

@@ -5,7 +5,7 @@ use Rattle.std.specs.declared.cmp.Ordering.{Ordering}
 use Rattle.std.specs.BTreeMap.{BTreeMap, get}
 use Rattle.eds_host.specs.declared.due.Due.{Due}
 use Rattle.eds_host.specs.declared.due.When.{When}
-use Rattle.eds_host.specs.Systems.{System, StateNow, due_at, first_of}
+use Rattle.eds_host.specs.Systems.{due_at, first_of}
 
 -- by moment, and then by component
 abbrev pub when_cmp : When → When → Ordering
@@ -28,8 +28,3 @@ Mirrors m ds = (q : When) → get when_cmp m q ≡ machine_of ds q
 abbrev pub first_in : ℕ → List (Option (ℕ × ℕ)) → Option Due
 first_in comp [] = None
 first_in comp (d ∷ ds) = first_of (due_at comp d) (first_in (comp + 1) ds)
-
--- the moments for which components in these states wait, the first of them being this one
-abbrev pub dues_of : System → ℕ → List StateNow → List (Option (ℕ × ℕ))
-dues_of sys comp [] = []
-dues_of sys comp (s ∷ states) = sys.waits comp s ∷ dues_of sys (comp + 1) states

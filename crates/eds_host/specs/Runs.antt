@@ -7,7 +7,7 @@ use Rattle.eds_plan.specs.Lines.{Told, starts, passes, framed}
 use Rattle.eds_plan.specs.Lines as lines
 use Rattle.eds_plan.specs.Outs.{Signal, Report, refused}
 use Rattle.eds_types.specs.Plain.{Plain}
-use Rattle.eds_host.specs.Systems.{System, StateNow, World, Happening, Reaction, next, arrives, arrival, queued, leaving, sent_at}
+use Rattle.eds_host.specs.Systems.{System, World, Happening, Reaction, next, arrives, arrival, queued, leaving, sent_at}
 
 -- ---- the course of a line
 
@@ -72,16 +72,7 @@ most = 10000
 abbrev pub follows : System → Happening → Course
 follows sys h = after h.outs (go_on sys most None h.world)
 
--- so many components from this one on, before they start
-abbrev pub all_fresh : (fresh : ℕ → StateNow) → (component : ℕ) → ℕ → List StateNow
-all_fresh fresh comp zero = []
-all_fresh fresh comp (suc more) = fresh comp ∷ all_fresh fresh (comp + 1) more
-
--- the world before the start: time 0, no component has started, and nothing is to be delivered
-abbrev pub unbegun : System → World
-unbegun sys = record { now = 0; states = all_fresh sys.fresh 0 sys.count; queue = [] }
-
--- the world in which components start: time 0, and none is there yet
+-- the world before the start
 abbrev pub nothing : World
 nothing = record { now = 0; states = []; queue = [] }
 
@@ -106,10 +97,10 @@ all_start sys comp (suc more) h = all_start sys (comp + 1) more (begun sys comp 
 abbrev pub comes : System → Signal → World → Happening
 comes sys s w = arrives sys s.end.comp.0 (arrival s) w
 
--- a frame arrives as its value at an end; or it is refused, and nothing changes
-abbrev pub frame_goes : System → Way → (component end member : ℕ) → Result Plain Fault → World → Course
-frame_goes sys way comp end member (Ok v) w = follows sys (comes sys (sent_at comp end member way op.Command (v ∷ [])) w)
-frame_goes sys way comp end member (Err fault) w = record { outs = refused w.now (sent_at comp end member way op.Command []).end member fault ∷ []; end = Some w }
+-- a frame arrives as its value at an end, or it is refused and nothing changes
+abbrev pub frame_arrives : System → Way → (component end member : ℕ) → Result Plain Fault → World → Happening
+frame_arrives sys way comp end member (Ok v) w = comes sys (sent_at comp end member way op.Command (v ∷ [])) w
+frame_arrives sys way comp end member (Err fault) w = record { world = w; outs = refused w.now (sent_at comp end member way op.Command []).end member fault ∷ [] }
 
 -- the course with the time set at its end
 abbrev pub at_time : ℕ → Course → Course
@@ -124,12 +115,12 @@ pub record Reading : Type 1 where
   pub way : (component end : ℕ) → Way
   pub reads : (component end member : ℕ) → List ℕ → Result Plain Fault → Type 0
 
--- one line makes a course of a world; the start begins anew, whatever was
+-- one line makes a course of a world
 abbrev pub LineGoes : System → Reading → Told → World → Course → Type 0
-LineGoes sys reading starts w c = c ≡ follows sys (all_start sys 0 sys.count (happening nothing []))
+LineGoes sys reading starts w c = c ≡ follows sys (all_start sys 0 sys.count (happening w []))
 LineGoes sys reading (passes n) w c = c ≡ time_passes sys n w
 LineGoes sys reading (lines.arrives comp end member way o vs) w c = c ≡ follows sys (comes sys (sent_at comp end member way o vs) w)
-LineGoes sys reading (framed comp end member octets) w c = (r : Result Plain Fault) × reading.reads comp end member octets r × (c ≡ frame_goes sys (reading.way comp end) comp end member r w)
+LineGoes sys reading (framed comp end member octets) w c = (r : Result Plain Fault) × reading.reads comp end member octets r × (c ≡ follows sys (frame_arrives sys (reading.way comp end) comp end member r w))
 
 -- ---- many lines
 

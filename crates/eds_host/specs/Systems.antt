@@ -33,11 +33,10 @@ pub record Reaction : Type 0 where
   pub state : StateNow
   pub sends : List Sent
 
--- a number of components: the state of each before it starts, how it starts, what it makes of an event at a time, the least
--- moment that it waits for with the first machine that does, and the end at the other side of an end's wire
+-- a number of components: how each starts, what it makes of an event at a time, the least moment that it waits for with
+-- the first machine that does, and the end at the other side of an end's wire
 pub record System : Type 0 where
   pub count : ℕ
-  pub fresh : (component : ℕ) → StateNow
   pub starts : (component : ℕ) → Reaction
   pub reacts : (component : ℕ) → Coming → (now : ℕ) → StateNow → Reaction
   pub waits : (component : ℕ) → StateNow → Option (ℕ × ℕ)

@@ -1,9 +1,10 @@
 -- Wires between ends: what is wrong with them, and what they tie.
-use Rattle.std.specs.Prelude.{ℕ, List, [], ◌∷◌, ◌++◌, Bool, not, ◌&&◌, ◌==◌, if◌then◌else◌, Option, Some, None, is_some, Result, Ok, Err}
-use Rattle.eds_plan.specs.Ends.{end_at}
-use Rattle.eds_plan.specs.Interfaces.{same_interface}
+use Rattle.std.specs.Prelude.{ℕ, List, [], ◌∷◌, ◌++◌, Bool, true, false, not, ◌&&◌, ◌==◌, if◌then◌else◌, Option, Some, None, is_some, Result, Ok, Err, slice_get}
+use Rattle.eds_base.specs.Reading.{◌>>=◌, same}
+use Rattle.eds_base.specs.declared.ids.TypeId.{TypeId}
 use Rattle.eds_plan.specs.declared.component.ComponentPlan.{ComponentPlan}
 use Rattle.eds_plan.specs.declared.component.EndPlan.{EndPlan}
+use Rattle.eds_plan.specs.declared.instance.Instance.{Instance}
 use Rattle.eds_plan.specs.declared.run.End.{End}
 use Rattle.eds_host.specs.declared.wiring.Asked.{Asked}
 use Rattle.eds_host.specs.declared.wiring.HostFail.{HostFail}
@@ -11,11 +12,42 @@ use Rattle.eds_host.specs.declared.wiring.Tie.{Tie}
 use Rattle.eds_host.specs.declared.wiring.WireWhy.{WireWhy}
 use Rattle.eds_host.specs.declared.wiring.WireWhy.TheVariants.{WireEnd, WireType, WireTwice}
 
+-- ---- one interface under equal maps
+
+-- the type that a map has for a name, of one name the first
+abbrev pub type_named : List (List ℕ × TypeId) → List ℕ → Option ℕ
+type_named [] name = None
+type_named (p ∷ ps) name = if same p.0 name then Some (p.1).0 else type_named ps name
+
+-- two types that may be there are one, or neither is there
+abbrev pub same_type : Option ℕ → Option ℕ → Bool
+same_type None None = true
+same_type None (Some b) = false
+same_type (Some a) None = false
+same_type (Some a) (Some b) = a == b
+
+-- the other map has for each name of the first the same type
+abbrev pub agrees : List (List ℕ × TypeId) → List (List ℕ × TypeId) → List (List ℕ × TypeId) → Bool
+agrees m n [] = true
+agrees m n (p ∷ ps) = if same_type (type_named m p.0) (type_named n p.0) then agrees m n ps else false
+
+-- two maps are one as finite maps
+abbrev pub same_map : List (List ℕ × TypeId) → List (List ℕ × TypeId) → Bool
+same_map m n = agrees m n m && agrees m n n
+
+-- one interface under equal maps
+abbrev pub same_interface : Instance → Instance → Bool
+same_interface a b = a.face.0 == b.face.0 && same_map a.map b.map
+
 -- ---- one wire
 
 -- two ends are the same end of one component
 abbrev pub same_end : End → End → Bool
 same_end a b = a.comp.0 == b.comp.0 && a.face == b.face
+
+-- what a plan has of an end
+abbrev pub plan_of : List ComponentPlan → End → Option EndPlan
+plan_of plan e = slice_get plan e.comp.0 >>= λ c. slice_get c.ends e.face
 
 -- the end at the other side of an end's wire, where one of these ties it
 abbrev pub other_end : List Tie → End → Option End
@@ -47,7 +79,7 @@ tie_at ts l u (Some lp) (Some up) = tie_unless (wrong_between ts l u lp up) l u
 abbrev pub tie_of : List ComponentPlan → List Tie → Option End → Option End → Result Tie WireWhy
 tie_of plan ts None u = Err WireEnd
 tie_of plan ts (Some l) None = Err WireEnd
-tie_of plan ts (Some l) (Some u) = tie_at ts l u (end_at plan l) (end_at plan u)
+tie_of plan ts (Some l) (Some u) = tie_at ts l u (plan_of plan l) (plan_of plan u)
 
 -- ---- all wires
 

@@ -1,9 +1,6 @@
 //! Laws of runs.
 
-ghost use Rattle.eds_host.specs.Hosts.{ComponentsArePunctual, FramesHaveOneOutcome, PlansReadOne, RunsGoOn, RunsHaveOneOutcome, RunsJoin, TimersFireOnce, UnnamedEndsAreOutside};
-ghost use Rattle.eds_host.specs.Laws.{CoursesAreChains, CoursesGoOnOrStorm, EachIsDelivered, NoneIsLate, TicksAdd, TimeGoesOn, TimersAreOnTime};
-
-use eds_overlap::law::one_outcome;
+ghost use Rattle.eds_host.specs.Laws.{CoursesAreChains, CoursesGoOnOrStorm, EachIsDelivered, NoneIsLate, TicksAdd, TimeGoesOn};
 
 /// A tick is two ticks of the same time together, unless it is a storm.
 pub fn ticks_add()
@@ -26,42 +23,3 @@ pub fn time_goes_on()
     ensures goes_on { TimeGoesOn }
     ensures late { NoneIsLate }
 {}
-
-/// The components of every plan are such: once they have reacted they wait for later moments, or for those of before.
-pub fn components_are_punctual()
-    ensures { ComponentsArePunctual }
-{}
-
-/// No timer fires early or late: a machine fires at the moment for which its component waits, which time hasn't passed and
-/// which has come. What is delivered takes no time.
-pub fn timers_are_on_time()
-    ensures { TimersAreOnTime }
-{}
-
-/// No timer fires twice: a machine that has fired waits for later moments alone.
-pub fn timers_fire_once()
-    ensures { TimersFireOnce }
-{}
-
-/// Where wires tie what they name, an end that none of them names is tied to none.
-pub fn unnamed_ends_are_outside()
-    ensures { UnnamedEndsAreOutside }
-{}
-
-/// Lines that are joined are the first ones and then the second ones, unless one of the first is a storm; and what they come
-/// to is one thing.
-pub fn runs_join()
-    ensures join { RunsJoin }
-    ensures more { RunsGoOn }
-    ensures one { RunsHaveOneOutcome }
-{
-    one_outcome();
-}
-
-/// A frame comes to one thing alone, and so do all frames of a plan that fits.
-pub fn frames_have_one_outcome()
-    ensures frame { FramesHaveOneOutcome }
-    ensures plan { PlansReadOne }
-{
-    one_outcome();
-}

@@ -1,18 +1,15 @@
 //! Wires between ends.
 
-ghost use Rattle.std.specs.Prelude.{◌≡◌, ◌++◌, ◌∷◌, [], List, None, Ok, OnOk, IfOk, IfErr};
+ghost use Rattle.std.specs.Prelude.{◌≡◌, ◌++◌, ◌∷◌, [], List, None, OnOk, IfOk};
 ghost use Rattle.std.specs.Option.{option_copied};
 ghost use Rattle.eds_host.specs.declared.wiring.Tie.{Tie as tie_now};
-ghost use Rattle.eds_host.specs.Links.{HasTies, Stops, place_of, link_of};
-ghost use Rattle.eds_host.specs.Wires.{tie_of, ties_of, wrong_between as wrong_between_of};
-ghost use Rattle.eds_plan.specs.Ends.{end_at};
-ghost use Rattle.eds_plan.specs.Interfaces.{agrees as agrees_of, same_interface as same_interface_of, same_type as same_type_of, type_named as type_named_of};
+ghost use Rattle.eds_host.specs.Links.{HasTies, TiesAll, place_of, link_of};
+ghost use Rattle.eds_host.specs.Wires.{agrees as agrees_of, other_end as other_end_of, plan_of, same_interface as same_interface_of, same_type as same_type_of, tie_of, ties_of, type_named as type_named_of, wrong_between as wrong_between_of};
 
 use eds_base::{Fail, Memory, Text};
 use eds_plan::{End, EndPlan, Instance, Plan, TypeMap};
 use std::alloc::Global;
 use std::collections::BTreeMap;
-use std::marker::Model;
 
 /// Why a wire ties nothing.
 #[derive(Clone, Copy, Debug, PartialEq, Eq)]
@@ -55,26 +52,7 @@ pub struct Place {
 }
 
 /// For each end that is tied the end at the other side.
-type Others = BTreeMap<Place, End>;
-
-/// What wires tie. Clauses see the ties, in the order of the wires.
-#[derive(Drop)]
-pub struct Links {
-    ties: Vec<Tie>,
-    others: Others,
-}
-
-impl Model for Links {
-    ghost use Rattle.std.specs.Prelude.{List};
-    ghost use Rattle.eds_host.specs.declared.wiring.Tie.{Tie as tie_now};
-    ghost use Rattle.eds_host.specs.Links.{HasTies};
-
-    ghost Value = { List tie_now };
-
-    ghost view = { λ l. l.ties.items };
-
-    ghost invariant = { λ l. HasTies l.others l.ties.items };
-}
+pub(crate) type Links = BTreeMap<Place, End>;
 
 fn key_of(end: End) -> Place
     ensures { result ≡ place_of end }
@@ -85,23 +63,11 @@ fn key_of(end: End) -> Place
     }
 }
 
-// The end that the map has for an end.
-fn other_in(others: &Others, end: End) -> Option<End>
-    ensures { result ≡ link_of others.now end }
+/// The end at the other side of an end's wire.
+pub(crate) fn other_end(links: &Links, end: End) -> Option<End>
+    ensures { result ≡ link_of links.now end }
 {
-    others.get(&key_of(end)).copied()
-}
-
-impl Links {
-    ghost use Rattle.std.specs.Prelude.{◌≡◌};
-    ghost use Rattle.eds_host.specs.Wires.{other_end as other_end_of};
-
-    /// The end at the other side of an end's wire.
-    pub(crate) fn other_end(&self, end: End) -> Option<End>
-        ensures { result ≡ other_end_of self.now end }
-    {
-        other_in(&self.others, end)
-    }
+    links.get(&key_of(end)).copied()
 }
 
 // The type that a map has for a name, of one name the first.
@@ -151,9 +117,9 @@ fn same_interface(one: &Instance, other: &Instance) -> bool
         && agrees(&one.map, &other.map, &other.map)
 }
 
-/// What a plan has of an end.
-pub(crate) fn end_plan(plan: &Plan, end: End) -> Option<&EndPlan>
-    ensures { option_copied result ≡ end_at plan.now end }
+// What a plan has of an end.
+fn end_plan(plan: &Plan, end: End) -> Option<&EndPlan>
+    ensures { option_copied result ≡ plan_of plan.now end }
 {
     let component = plan.get(end.comp.0 as usize)?;
     component.ends.get(usize::from(end.face))
@@ -161,15 +127,15 @@ pub(crate) fn end_plan(plan: &Plan, end: End) -> Option<&EndPlan>
 
 // What is wrong with a wire between two ends.
 fn wrong_between(
-    others: &Others,
+    links: &Links,
     lower: End,
     upper: End,
     one: &EndPlan,
     other: &EndPlan,
 ) -> Option<WireWhy>
-    ensures why { (ts : List tie_now) → HasTies others.now ts → result ≡ wrong_between_of ts lower upper one.now other.now }
-    ensures lower { result ≡ None → link_of others.now lower ≡ None }
-    ensures upper { result ≡ None → link_of others.now upper ≡ None }
+    ensures why { (ts : List tie_now) → HasTies links.now ts → result ≡ wrong_between_of ts lower upper one.now other.now }
+    ensures lower { result ≡ None → link_of links.now lower ≡ None }
+    ensures upper { result ≡ None → link_of links.now upper ≡ None }
 {
     if !one.required || other.required {
         return Some(WireWhy::WireEnd);
@@ -177,23 +143,23 @@ fn wrong_between(
     if !same_interface(&one.instance, &other.instance) {
         return Some(WireWhy::WireType);
     }
-    if other_in(others, lower).is_some() || other_in(others, upper).is_some() {
+    if other_end(links, lower).is_some() || other_end(links, upper).is_some() {
         return Some(WireWhy::WireTwice);
     }
     None
 }
 
 // The ends that a wire ties, or what is wrong with it.
-fn judge(plan: &Plan, others: &Others, asked: &Asked) -> Result<Tie, WireWhy>
-    ensures what { (ts : List tie_now) → HasTies others.now ts → result ≡ tie_of plan.now ts asked.now.lower asked.now.upper }
-    ensures lower { IfOk result (λ t. link_of others.now t.lower ≡ None) }
-    ensures upper { IfOk result (λ t. link_of others.now t.upper ≡ None) }
+fn judge(plan: &Plan, links: &Links, asked: &Asked) -> Result<Tie, WireWhy>
+    ensures what { (ts : List tie_now) → HasTies links.now ts → result ≡ tie_of plan.now ts asked.now.lower asked.now.upper }
+    ensures lower { IfOk result (λ t. link_of links.now t.lower ≡ None) }
+    ensures upper { IfOk result (λ t. link_of links.now t.upper ≡ None) }
 {
     let (Some(lower), Some(upper)) = (asked.lower, asked.upper) else {
         return Err(WireWhy::WireEnd);
     };
     match (end_plan(plan, lower), end_plan(plan, upper)) {
-        (Some(one), Some(other)) => match wrong_between(others, lower, upper, one, other) {
+        (Some(one), Some(other)) => match wrong_between(links, lower, upper, one, other) {
             None => Ok(Tie { lower, upper }),
             Some(why) => Err(why),
         },
@@ -202,31 +168,25 @@ fn judge(plan: &Plan, others: &Others, asked: &Asked) -> Result<Tie, WireWhy>
 }
 
 // Ties two ends.
-fn tie_ends(others: &mut Others, t: Tie) -> Result<(), Memory>
-    requires lower { link_of others.old t.lower ≡ None }
-    requires upper { link_of others.old t.upper ≡ None }
-    ensures { OnOk result ((ts : List tie_now) → HasTies others.old ts → HasTies others.new (ts ++ t ∷ [])) }
+fn tie_ends(links: &mut Links, t: Tie) -> Result<(), Memory>
+    requires lower { link_of links.old t.lower ≡ None }
+    requires upper { link_of links.old t.upper ≡ None }
+    ensures { OnOk result ((ts : List tie_now) → HasTies links.old ts → HasTies links.new (ts ++ t ∷ [])) }
 {
-    others.insert(key_of(t.upper), t.lower)?;
-    others.insert(key_of(t.lower), t.upper)?;
+    links.insert(key_of(t.upper), t.lower)?;
+    links.insert(key_of(t.lower), t.upper)?;
     Ok(())
 }
 
 /// Ties the ends of wires, or tells the first wire that ties nothing.
-#[tactic(auto, using(crate::proofs::Tying::next_ties, crate::proofs::Tying::stop_ties, crate::proofs::Tying::done_ties))]
 pub(crate) fn tie_all(alloc: Global, plan: &Plan, asked: &[Asked]) -> Result<Links, Fail<HostFail>>
-    ensures links { IfOk result (λ l. ties_of plan.now asked.now ≡ Ok l) }
-    ensures fail { IfErr result (λ f. Stops f (ties_of plan.now asked.now)) }
+    ensures { TiesAll result (ties_of plan.now asked.now) }
 {
-    let mut ties = Vec::new(alloc);
-    let mut others = BTreeMap::new(alloc);
+    let mut links = BTreeMap::new(alloc);
     let mut rest = asked;
     while let [wire, after @ ..] = rest {
-        match judge(plan, &others, wire) {
-            Ok(t) => {
-                tie_ends(&mut others, t)?;
-                ties.push(t)?;
-            }
+        match judge(plan, &links, wire) {
+            Ok(t) => tie_ends(&mut links, t)?,
             Err(why) => {
                 return Err(Fail::Named(HostFail {
                     why,
@@ -236,5 +196,5 @@ pub(crate) fn tie_all(alloc: Global, plan: &Plan, asked: &[Asked]) -> Result<Lin
         }
         rest = after;
     }
-    Ok(Links { ties, others })
+    Ok(links)
 }

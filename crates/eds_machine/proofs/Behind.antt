@@ -1,5 +1,5 @@
 -- What a component makes of an event doesn't rest on what was sent before.
-use Rattle.std.proofs.Common.{◌≡◌, ℕ, ◌+◌, ◌-◌, List, [], ◌∷◌, ◌++◌, map, Bool, true, false, Option, Some, None, slice_get, refl, sym, ap, ◌∙◌, append_assoc, append-nil}
+use Rattle.std.proofs.Common.{◌≡◌, ℕ, ◌+◌, ◌-◌, List, [], ◌∷◌, ◌++◌, map, Bool, true, false, Option, Some, None, slice_get, refl, sym, ap, ◌∙◌, append_assoc}
 use Rattle.std.specs.Prelude.{option_to_list, slice_set}
 use Rattle.std.specs.List.{find}
 use Rattle.eds_types.specs.Plain.{Plain, plain}
@@ -22,13 +22,12 @@ use Rattle.eds_plan.specs.Statements.{stmts}
 use Rattle.eds_act.specs.declared.ending.ActEnd.{ActEnd}
 use Rattle.eds_act.specs.declared.ending.ActEnd.TheVariants.{Done, Halted}
 use Rattle.eds_act.specs.Acting.{acting, acted, entered, noted, noted_end}
-use Rattle.eds_plan.specs.Plans.{argument_types}
-use Rattle.eds_act.specs.Does.{World, Ended, exec, items_of, value_of, arguments_of}
+use Rattle.eds_act.specs.Does.{World, Ended, exec, items_of, value_of, arguments_of, argument_types}
 use Rattle.eds_act.proofs.Whole.{sent_before, exec_before}
 use Rattle.eds_machine.specs.declared.event.Event.{Event}
 use Rattle.eds_machine.specs.declared.event.Event.TheVariants as event
-use Rattle.eds_machine.specs.Laws.{behind, SendsStandBehind, StartSendsStandBehind}
-use Rattle.eds_machine.specs.Reactions.{Reacting, standing, settles, taken, at_entry, at_exit, acts, moves, goes, goes_or_stays, machine_reacts, machines_react, map_reacts, mapped, mapped_by, maps_to, is_required, fires, fresh, reacts, starts, trigger_of}
+use Rattle.eds_machine.specs.Laws.{behind, SendsStandBehind}
+use Rattle.eds_machine.specs.Reactions.{Reacting, standing, settles, taken, at_entry, at_exit, acts, moves, goes, goes_or_stays, machine_reacts, machines_react, map_reacts, mapped, mapped_by, maps_to, is_required, fires, reacts, trigger_of}
 
 -- of a number and a world
 abbrev pair_behind : List Sent → ℕ × World → ℕ × World
@@ -107,14 +106,6 @@ module _ (packs : ℕ → Plain → Bool) (t : Table) (c : ComponentPlan) (o : L
       ap (machines_react packs t c now (trigger_of p.op p.end.face p.member) (map plain p.arguments) 0 c.machines) (map_behind p.end.face p.member p.op (map plain p.arguments) r)
       ∙ machines_behind now (trigger_of p.op p.end.face p.member) (map plain p.arguments) 0 c.machines (map_reacts c p.end.face p.member p.op (map plain p.arguments) r)
   reacts_behind now (event.Timer i) r = fires_behind now i (slice_get c.machines i) r
-
-  starts_behind : (comp : ℕ) → starts packs t c comp o ≡ behind o (starts packs t c comp [])
-  starts_behind comp =
-      ap (λ (ss : List Sent). starts packs t c comp ss) (sym (append-nil o))
-      ∙ machines_behind 0 trigger.Start [] 0 c.machines (fresh c comp [])
-
-pub start_sends_stand_behind : StartSendsStandBehind
-start_sends_stand_behind packs t c comp out = starts_behind packs t c out comp
 
 pub sends_stand_behind : SendsStandBehind
 sends_stand_behind packs t c now e out r = reacts_behind packs t c out now e r

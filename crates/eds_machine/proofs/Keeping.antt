@@ -18,8 +18,7 @@ use Rattle.eds_plan.specs.declared.run.CompState.{CompState}
 use Rattle.eds_plan.specs.declared.run.MachineState.{MachineState}
 use Rattle.eds_plan.specs.Matching.{waits_for}
 use Rattle.eds_plan.specs.Sends.{Sent}
-use Rattle.eds_plan.specs.Plans.{variable_types}
-use Rattle.eds_act.specs.Does.{AllConform}
+use Rattle.eds_act.specs.Does.{AllConform, variable_types}
 use Rattle.eds_machine.specs.declared.event.Event.{Event}
 use Rattle.eds_machine.specs.declared.event.Event.TheVariants as event
 use Rattle.eds_machine.specs.Conditions.{AreTimely, IsTimely, HasStates, IsStateAt}
@@ -72,7 +71,7 @@ mapped_same false op.Set args face member x r = refl
 mapped_same true op.Val args face member x r = refl
 mapped_same false op.Val args face member x r = refl
 
-pub map_same : (c : ComponentPlan) (face member : ℕ) (o : Op) (args : List Plain) (r : Reacting) → (map_reacts c face member o args r).machines ≡ r.machines
+map_same : (c : ComponentPlan) (face member : ℕ) (o : Op) (args : List Plain) (r : Reacting) → (map_reacts c face member o args r).machines ≡ r.machines
 map_same c face member o args r = go (find (maps_to face member) c.maps)
   where
     go : (m : Option MapPlan) → (mapped_by (is_required c face) o args face member m r).machines ≡ r.machines

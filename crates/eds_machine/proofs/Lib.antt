@@ -7,6 +7,3 @@ pub mod StartLaws
 pub mod Keeping
 pub mod MachineLaws
 pub mod Behind
-pub mod Leaving
-pub mod Punctual
-pub mod MachineFits

@@ -28,7 +28,7 @@ untaken_changes_nothing packs t c now e args i machine r none other = ap (λ o. 
 -- ---- moments
 
 -- a moment, if there is one, is later
-abbrev pub IsLater : ℕ → Option ℕ → Type 0
+abbrev IsLater : ℕ → Option ℕ → Type 0
 IsLater n None = Unit {0}
 IsLater n (Some t) = n < t
 
@@ -41,7 +41,7 @@ sooner_later n (Some a) (Some b) h k = go (nat_lt b a)
     go true = k
     go false = h
 
-pub moment_later : (m : MachineState) (x : Transition) → IsLater m.passed (moment m x)
+moment_later : (m : MachineState) (x : Transition) → IsLater m.passed (moment m x)
 moment_later m x = go (nat_eq x.from m.at) x.event
   where
     timed : (k : ℕ) (b : Bool) → nat_lt m.passed (m.entered + k) ≡ b → IsLater m.passed (cond b (Some (m.entered + k)) None)

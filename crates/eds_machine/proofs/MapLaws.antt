@@ -21,12 +21,9 @@ use Rattle.eds_plan.specs.declared.run.CompState.{CompState}
 use Rattle.eds_plan.specs.declared.run.Primitive.{Primitive}
 use Rattle.eds_plan.specs.declared.run.Send.{Send}
 use Rattle.eds_plan.specs.declared.run.Way.{Way}
-use Rattle.eds_plan.specs.Carried.{carried}
-use Rattle.eds_plan.specs.Plans.{variable_types}
-use Rattle.eds_act.specs.Does.{Conforms, AllConform}
+use Rattle.eds_act.specs.Does.{Conforms, AllConform, variable_types, carried}
 use Rattle.eds_act.proofs.Conforming.{conform_set}
-use Rattle.eds_plan.specs.Fitting.{MapFits}
-use Rattle.eds_machine.specs.Conditions.{MachinesFit, Arrives}
+use Rattle.eds_machine.specs.Conditions.{MapFits, MachinesFit, Arrives}
 use Rattle.eds_machine.specs.Reactions.{Reacting, reacting, stored, mapped, mapped_by, map_reacts, maps_to, is_required}
 
 -- a number of a list of types is that of its variable
@@ -80,23 +77,13 @@ module _ (t : Table) (c : ComponentPlan) where
   mapped_conforms true op.Val way e face number x args r same h all = stored_conforms op.Val way e x args r.world.variables (λ q. cc) (λ q. cc) same h all
 
   -- a map that is found fits, and is of the end and member
-  pub found_fits : (face number : ℕ) (ms : List MapPlan) (m : MapPlan) → find (maps_to face number) ms ≡ Some m → AllByRecursion (MapFits c) ms → MapFits c m × (m.face ≡ face) × (m.member ≡ number)
+  found_fits : (face number : ℕ) (ms : List MapPlan) (m : MapPlan) → find (maps_to face number) ms ≡ Some m → AllByRecursion (MapFits c) ms → MapFits c m × (m.face ≡ face) × (m.member ≡ number)
   found_fits face number [] m e h = absurd cc
   found_fits face number (y ∷ ys) m e h = go (maps_to face number y) refl e (λ f. found_fits face number ys m f h.1)
     where
       go : (b : Bool) → maps_to face number y ≡ b → (if b then Some y else find (maps_to face number) ys) ≡ Some m → (find (maps_to face number) ys ≡ Some m → MapFits c m × (m.face ≡ face) × (m.member ≡ number)) → MapFits c m × (m.face ≡ face) × (m.member ≡ number)
       go true p f rest = let same : y ≡ m = cc in (subst (MapFits c) same h.0, ap (λ (k : MapPlan). k.face) (sym same) ∙ grind (arith, nat_tests), ap (λ (k : MapPlan). k.member) (sym same) ∙ grind (arith, nat_tests))
       go false p f rest = rest f
-
-  -- the parameter of the map has the type of its variable
-  mapped_type : (m : MapPlan) (e : EndPlan) (number : ℕ) → MapFits c m → Some e ≡ slice_get c.ends m.face → m.member ≡ number → (name : List ℕ) (id : TypeId) (read_only : Bool) → slice_get e.instance.members number ≡ Some (member.Parameter name id read_only) → (y : VarPlan) → slice_get c.variables m.variable ≡ Some y → y.id ≡ id
-  mapped_type m e number fits at same name id read_only is y there =
-      let end : e ≡ fits.end = let f = at ∙ fits.end_is in cc in
-      let own : Some (member.Parameter fits.name fits.id fits.read_only) ≡ Some (member.Parameter name id read_only) =
-      sym fits.member_is ∙ ap (slice_get fits.end.instance.members) same ∙ ap (λ (x : EndPlan). slice_get x.instance.members number) (sym end) ∙ is in
-      let same_id : fits.id ≡ id = cc in
-      let one : y ≡ fits.variable = let f = sym there ∙ fits.variable_is in cc in
-      ap (λ (x : VarPlan). x.id) one ∙ fits.same ∙ same_id
 
   reacts_conforms : (p : Primitive) (e : EndPlan) (r : Reacting) → AllByRecursion (MapFits c) c.maps → slice_get c.ends p.end.face ≡ Some e → AllConform t (carried p.op p.way (slice_get e.instance.members p.member)) (map plain p.arguments) → AllConform t (variable_types c) r.world.variables → AllConform t (variable_types c) (map_reacts c p.end.face p.member p.op (map plain p.arguments) r).world.variables
   reacts_conforms p e r fits at h all = go (find (maps_to p.end.face p.member) c.maps) refl
@@ -106,7 +93,7 @@ module _ (t : Table) (c : ComponentPlan) where
       go (Some m) q =
           let f = found_fits p.end.face p.member c.maps m q fits in
           mapped_conforms (is_required c p.end.face) p.op p.way (slice_get e.instance.members p.member) p.end.face p.member m.variable (map plain p.arguments) r
-          (mapped_type m e p.member (f.0) (sym (ap (slice_get c.ends) f.1 ∙ at)) f.2) h all
+          (λ name id read_only is y there. f.0 e y name id read_only (ap (slice_get c.ends) f.1 ∙ at) (ap (slice_get e.instance.members) f.2 ∙ is) there) h all
 
   pub map_conforms : (res : Result (Unit {0}) Memory) (comp : ℕ) (p : Primitive) (s s' : CompState) (out out' : List Send) (left : ℕ) → MachinesFit t c → Arrives t comp c p → AllConform t (variable_types c) (map plain s.variables) → OnErr res (s'.variables ≡ s.variables) → OnOk res (reacting comp s' out' left ≡ map_reacts c p.end.face p.member p.op (map plain p.arguments) (reacting comp s out left)) → AllConform t (variable_types c) (map plain s'.variables)
   map_conforms (Ok u) comp p s s' out out' left fits a all kept ok = subst (AllConform t (variable_types c)) (sym (ap (λ (r : Reacting). r.world.variables) ok)) (reacts_conforms p a.end (reacting comp s out left) fits.maps a.end_is a.arguments all)

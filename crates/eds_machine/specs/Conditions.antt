@@ -4,22 +4,27 @@ use Rattle.std.specs.Prelude.{◌≡◌, ◌≤◌, ◌<◌, ℕ, List, [], ◌�
 use Rattle.eds_base.specs.declared.ids.TypeId.{TypeId}
 use Rattle.eds_types.specs.Plain.{plain}
 use Rattle.eds_types.specs.Rows.{Table}
-use Rattle.eds_plan.specs.Carried.{arriving, carried}
-use Rattle.eds_plan.specs.Fitting.{MapFits}
+use Rattle.eds_plan.specs.Carried.{arriving}
 use Rattle.eds_plan.specs.declared.component.ComponentPlan.{ComponentPlan}
 use Rattle.eds_plan.specs.declared.component.EndPlan.{EndPlan}
+use Rattle.eds_plan.specs.declared.component.MapPlan.{MapPlan}
 use Rattle.eds_plan.specs.declared.component.VarPlan.{VarPlan}
+use Rattle.eds_plan.specs.declared.instance.Member.TheVariants as member
 use Rattle.eds_plan.specs.declared.machine.Machine.{Machine}
 use Rattle.eds_plan.specs.declared.machine.Transition.{Transition}
 use Rattle.eds_plan.specs.declared.run.CompState.{CompState}
 use Rattle.eds_plan.specs.declared.run.MachineState.{MachineState}
 use Rattle.eds_plan.specs.declared.run.Primitive.{Primitive}
-use Rattle.eds_plan.specs.Plans.{variable_types}
-use Rattle.eds_act.specs.Does.{Conforms, AllConform}
+use Rattle.eds_act.specs.Does.{Conforms, AllConform, variable_types, carried}
 use Rattle.eds_act.specs.Running.{Fits}
 use Rattle.eds_machine.specs.declared.event.Event.{Event}
 use Rattle.eds_machine.specs.declared.event.Event.TheVariants as event
 use Rattle.eds_machine.specs.Moments.{HasTimers}
+
+-- the parameter of a map has the type of its variable
+abbrev pub MapFits : ComponentPlan → MapPlan → Type 0
+MapFits c m = (e : EndPlan) (x : VarPlan) (name : List ℕ) (id : TypeId) (read_only : Rattle.std.specs.Prelude.Bool) →
+    slice_get c.ends m.face ≡ Some e → slice_get e.instance.members m.member ≡ Some (member.Parameter name id read_only) → slice_get c.variables m.variable ≡ Some x → x.id ≡ id
 
 -- a machine begins in one of its states, and each transition leads to one
 pub record HasStates (machine : Machine) : Type 0 where

@@ -214,14 +214,9 @@ module _ (packs : ℕ → Plain → Bool) (t : Table) (c : ComponentPlan) where
   fires now i None r = r
   fires now i (Some machine) r = machine_reacts now (trigger.Timer (now - (standing r.machines i).entered)) [] i machine r
 
-  -- something done at a member of an end, with these values, is offered to the parameter map and then to each machine in
-  -- document order
-  abbrev pub receives : (now face member : ℕ) → Op → List Plain → Reacting → Reacting
-  receives now face member o args r = machines_react now (trigger_of o face member) args 0 c.machines (map_reacts c face member o args r)
-
-  -- a primitive is received, and a moment comes to its machine alone
+  -- a primitive is offered to the parameter map and then to each machine in document order, a moment to its machine alone
   abbrev pub reacts : (now : ℕ) → Event → Reacting → Reacting
-  reacts now (event.Prim p) r = receives now p.end.face p.member p.op (map plain p.arguments) r
+  reacts now (event.Prim p) r = machines_react now (trigger_of p.op p.end.face p.member) (map plain p.arguments) 0 c.machines (map_reacts c p.end.face p.member p.op (map plain p.arguments) r)
   reacts now (event.Timer i) r = fires now i (slice_get c.machines i) r
 
   -- a component starts

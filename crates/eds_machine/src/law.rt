@@ -1,6 +1,6 @@
 //! Laws of machines: each is the contract of a function without a body.
 
-ghost use Rattle.eds_machine.specs.Laws.{UntakenChangesNothing, MomentsAreLater, MomentsPass, ReactionsArePunctual, ReactionsSendWell, SendsStandBehind, StartSendsStandBehind, StartsArePunctual, StartsSendWell};
+ghost use Rattle.eds_machine.specs.Laws.{UntakenChangesNothing, MomentsAreLater, MomentsPass, SendsStandBehind};
 
 /// Where a machine takes no transition, nothing changes, but that a timer's moment has passed.
 pub fn untaken_changes_nothing()
@@ -16,20 +16,5 @@ pub fn timers_fire_once()
 
 /// What a component makes of an event doesn't rest on what was sent before, and what it sends stands behind that.
 pub fn sends_stand_behind()
-    ensures event { SendsStandBehind }
-    ensures start { StartSendsStandBehind }
-{}
-
-/// What a component that fits sends stands at one of its ends, goes the way that leaves there, and has a value that packs for
-/// each that the member carries so.
-pub fn components_send_well()
-    ensures event { ReactionsSendWell }
-    ensures start { StartsSendWell }
-{}
-
-/// After an event, no moment that is to come has been passed over: the machines wait for later moments than now, or for those
-/// for which they waited before.
-pub fn moments_are_not_passed_over()
-    ensures event { ReactionsArePunctual }
-    ensures start { StartsArePunctual }
+    ensures { SendsStandBehind }
 {}

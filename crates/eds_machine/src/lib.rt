@@ -13,4 +13,4 @@ mod waiting;
 pub use due::next_due;
 pub use event::Event;
 pub use reaction::react;
-pub use starting::{fresh_state, start};
+pub use starting::start;

@@ -1,16 +1,15 @@
 //! The start of a component.
 
-ghost use Rattle.std.specs.Prelude.{◌≡◌, ◌<◌, [], length, map, OnOk, IfOk};
+ghost use Rattle.std.specs.Prelude.{◌≡◌, ◌<◌, length, map, OnOk, IfOk};
 ghost use Rattle.eds_types.specs.PackedSizes.{packs};
 ghost use Rattle.eds_types.specs.Plain.{Plain, plain};
 ghost use Rattle.eds_plan.specs.declared.component.VarPlan.{VarPlan};
 ghost use Rattle.eds_plan.specs.Plans.{component_at};
 ghost use Rattle.eds_plan.specs.Sends.{sent};
 ghost use Rattle.eds_act.specs.Acting.{world_of};
-ghost use Rattle.eds_plan.specs.Plans.{variable_types};
-ghost use Rattle.eds_act.specs.Does.{AllConform};
+ghost use Rattle.eds_act.specs.Does.{AllConform, variable_types};
 ghost use Rattle.eds_machine.specs.Conditions.{MachinesFit, IsStateAt};
-ghost use Rattle.eds_machine.specs.Reactions.{begins, first_values as first_values_of, starts};
+ghost use Rattle.eds_machine.specs.Reactions.{begins, starts};
 
 use crate::reaction::{BUDGET, all_react};
 use eds_base::{CompId, Items, Memory};
@@ -51,32 +50,6 @@ fn beginnings(alloc: Global, machines: &[Machine]) -> Result<Items<MachineState>
     Ok(states)
 }
 
-// A component before it starts.
-fn fresh(alloc: Global, component: &ComponentPlan) -> Result<CompState, Memory>
-    ensures variables { IfOk result (λ s. map plain s.variables ≡ first_values_of component.now) }
-    ensures machines { IfOk result (λ s. s.machines ≡ map begins component.now.machines) }
-    ensures waiting { IfOk result (λ s. s.outstanding ≡ []) }
-{
-    let variables = first_values(alloc, component.variables.as_slice())?;
-    let machines = beginnings(alloc, component.machines.as_slice())?;
-    Ok(CompState {
-        variables,
-        machines,
-        outstanding: Items::new(alloc),
-    })
-}
-
-/// The state of a component before it starts: its variables have their first values, its machines are in their entry states
-/// since time 0, and no transaction is under way.
-pub fn fresh_state(alloc: Global, plan: &Plan, comp: CompId) -> Result<CompState, Memory>
-    requires { comp.0 < length plan.now }
-    ensures variables { IfOk result (λ s. map plain s.variables ≡ first_values_of (component_at plan.now comp.0)) }
-    ensures machines { IfOk result (λ s. s.machines ≡ map begins (component_at plan.now comp.0).machines) }
-    ensures waiting { IfOk result (λ s. s.outstanding ≡ []) }
-{
-    fresh(alloc, plan.component(comp))
-}
-
 // A component starts.
 #[tactic(auto, using(crate::proofs::StartLaws::initial_conform, crate::proofs::StartLaws::begin_count))]
 fn begin(
@@ -91,7 +64,13 @@ fn begin(
     ensures world { IfOk result (λ s. world_of comp.0 s out.new ≡ (starts (packs table.now) table.now component.now comp.0 (map sent out.old)).world) }
     ensures machines { IfOk result (λ s. s.machines ≡ (starts (packs table.now) table.now component.now comp.0 (map sent out.old)).machines) }
 {
-    let mut state = fresh(alloc, component)?;
+    let variables = first_values(alloc, component.variables.as_slice())?;
+    let machines = beginnings(alloc, component.machines.as_slice())?;
+    let mut state = CompState {
+        variables,
+        machines,
+        outstanding: Items::new(alloc),
+    };
     let mut fuel = BUDGET;
     let none: &[Value] = &[];
     all_react(

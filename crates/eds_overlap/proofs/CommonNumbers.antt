@@ -1,88 +1,20 @@
 -- The least numbers of the sets of two containers are the least that all their constraints have.
-use Rattle.std.proofs.Common.{◌≡◌, ◌∙◌, ℤ, ◌≤ℤ◌, List, [], ◌∷◌, ◌++◌, Option, Some, None, refl, sym, ap, subst, arith, inl, inr}
-use Rattle.std.specs.Prelude.{IfSome, IfNone}
-use Rattle.std.proofs.lemmas.Int.{ints}
+use Rattle.std.proofs.Common.{◌≡◌, ℕ, ℤ, List, ◌++◌, Option, Some, None, refl, sym, subst, inl, inr}
+use Rattle.std.specs.List.{AllByRecursion}
 use Rattle.eds_base.specs.declared.spans.Span.{Span}
 use Rattle.eds_base.specs.Spans.{IsWithin}
+use Rattle.eds_bits.specs.Lists.{HasOne}
 use Rattle.eds_types.specs.declared.row.Constraint.{Constraint}
 use Rattle.eds_types.specs.declared.sets.PathSet.{PathSet}
+use Rattle.eds_types.specs.Fields.{StartsInEntries, constraints_along}
 use Rattle.eds_types.specs.Rows.{Table}
-use Rattle.eds_types.specs.Overlap.{IsSolution, IsConstrained}
-use Rattle.eds_types.proofs.AllOf.{All-both, All-front, All-back, All-at}
-use Rattle.eds_overlap.specs.Common.{IsWithinBoth, IsInBoth, least_of_sets, least_of_both}
-use Rattle.eds_overlap.specs.LeastNumbers.{least_in_all, least_on}
+use Rattle.eds_types.specs.Overlap.{IsSolution, IsConstrained, Overlapping}
+use Rattle.eds_types.proofs.AllOf.{All-weaker, All-both, All-front, All-back, All-at}
+use Rattle.eds_overlap.specs.declared.common.Common.{Common}
+use Rattle.eds_overlap.specs.Common.{IsOn, IsWithinBoth, IsInBoth, IsLeastInBoth, IsMetBy, IsLeastSolution, AreLeastInBoth, AreLeastCommon, constraints_of_both}
 use Rattle.eds_overlap.specs.Pairs.{Steps, IsSolved, AreSets, IsWithinOn, set_on}
-use Rattle.eds_overlap.proofs.LeastInAll.{InAll, all_none, all_found, on_none as unsolved, on_found as solved}
-use Rattle.eds_overlap.proofs.Meeting.{one_either, on_found, within_other, other_within, swap}
-use Rattle.eds_overlap.proofs.Solutions.{on_none}
-
--- ---- the least number of some sets
-
--- it is the least number of some kind, or there is none
-pub record IsLeastOf (P : ℤ → Type 0) (o : Option ℤ) : Type 0 where
-  pub is : IfSome o P
-  pub least : IfSome o (λ n. (m : ℤ) → P m → n ≤ℤ m)
-  pub none : IfNone o ((m : ℤ) → P m → ⊥)
-
--- there is only one
-pub one_least : (P Q : ℤ → Type 0) (o p : Option ℤ) → IsLeastOf P o → IsLeastOf Q p → ((n : ℤ) → P n → Q n) → ((n : ℤ) → Q n → P n) → o ≡ p
-one_least P Q None None h k to from = refl
-one_least P Q None (Some m) h k to from = absurd (h.none m (from m k.is))
-one_least P Q (Some n) None h k to from = absurd (k.none n (to n h.is))
-one_least P Q (Some n) (Some m) h k to from =
-    let below : n ≤ℤ m = h.least m (from m k.is) in
-    let above : m ≤ℤ n = k.least n (to n h.is) in
-    let same : n ≡ m = omega (arith, ints) in
-    ap Some same
-
-pub all_least : (set : List Span) (sets : List (List Span)) → IsLeastOf (InAll (set ∷ sets)) (least_in_all (set ∷ sets))
-all_least set sets = go (least_in_all (set ∷ sets)) refl
-  where
-    go : (o : Option ℤ) → least_in_all (set ∷ sets) ≡ o → IsLeastOf (InAll (set ∷ sets)) o
-    go None e = record { is = tt; least = tt; none = all_none set sets e }
-    go (Some n) e = let f = all_found set sets n e in record { is = f.0; least = f.1; none = tt }
-
-weaker : (o : Option ℤ) (P Q : ℤ → Type 0) → IsLeastOf P o → ((n : ℤ) → P n → Q n) → ((n : ℤ) → Q n → P n) → IsLeastOf Q o
-weaker None P Q h to from = record { is = tt; least = tt; none = λ m q. h.none m (from m q) }
-weaker (Some n) P Q h to from = record { is = to n h.is; least = λ m q. h.least m (from m q); none = tt }
-
-pub both_least : (a b : Option (List Span)) → IsLeastOf (IsWithinBoth a b) (least_of_sets a b)
-both_least None None = record { is = tt; least = tt; none = λ m h. h }
-both_least None (Some theirs) = weaker (least_in_all (theirs ∷ [])) (InAll (theirs ∷ [])) (IsWithinBoth None (Some theirs)) (all_least theirs []) (λ n h. h.0) (λ n h. (h, tt))
-both_least (Some ours) None = weaker (least_in_all (ours ∷ [])) (InAll (ours ∷ [])) (IsWithinBoth (Some ours) None) (all_least ours []) (λ n h. h.0) (λ n h. (h, tt))
-both_least (Some ours) (Some theirs) = weaker (least_in_all (ours ∷ theirs ∷ [])) (InAll (ours ∷ theirs ∷ [])) (IsWithinBoth (Some ours) (Some theirs)) (all_least ours (theirs ∷ [])) (λ n h. (h.0, (h.1).0)) (λ n h. (h.0, (h.1, tt)))
-
--- ---- what the code finds of two sets
-
-two_least : (set other : List Span) (o : Option ℤ) → IfSome o (λ n. IsWithin set n × IsWithin other n) → IfSome o (λ n. (m : ℤ) → IsWithin set m → IsWithin other m → n ≤ℤ m) → IfNone o ((m : ℤ) → IsWithin set m → IsWithin other m → ⊥)
-    → IsLeastOf (λ n. IsWithin set n × IsWithin other n) o
-two_least set other None is least none = record { is = tt; least = tt; none = λ m w. none m w.0 w.1 }
-two_least set other (Some n) is least none = record { is = is; least = λ m w. least m w.0 w.1; none = tt }
-
-pub by_two : (ours theirs : List PathSet) (path : Steps) (set other : List Span) (o : Option ℤ) → Some set ≡ set_on ours path → Some other ≡ set_on theirs path
-    → IfSome o (λ n. IsWithin set n × IsWithin other n) → IfSome o (λ n. (m : ℤ) → IsWithin set m → IsWithin other m → n ≤ℤ m) → IfNone o ((m : ℤ) → IsWithin set m → IsWithin other m → ⊥) → o ≡ least_of_both ours theirs path
-by_two ours theirs path set other o e f is least none =
-    one_least (λ n. IsWithin set n × IsWithin other n) (IsWithinBoth (Some set) (Some other)) o (least_of_sets (Some set) (Some other)) (two_least set other o is least none) (both_least (Some set) (Some other)) (λ n h. h) (λ n h. h)
-    ∙ ap (λ a. least_of_sets a (Some other)) e ∙ ap (least_of_sets (set_on ours path)) f
-
-pub by_first : (ours theirs : List PathSet) (path : Steps) (set : List Span) (o : Option ℤ) → Some set ≡ set_on ours path → None ≡ set_on theirs path
-    → IfSome o (λ n. IsWithin set n × IsWithin set n) → IfSome o (λ n. (m : ℤ) → IsWithin set m → IsWithin set m → n ≤ℤ m) → IfNone o ((m : ℤ) → IsWithin set m → IsWithin set m → ⊥) → o ≡ least_of_both ours theirs path
-by_first ours theirs path set o e f is least none =
-    one_least (λ n. IsWithin set n × IsWithin set n) (IsWithinBoth (Some set) None) o (least_of_sets (Some set) None) (two_least set set o is least none) (both_least (Some set) None) (λ n h. h.0) (λ n h. (h, h))
-    ∙ ap (λ a. least_of_sets a None) e ∙ ap (least_of_sets (set_on ours path)) f
-
-pub by_second : (ours theirs : List PathSet) (path : Steps) (set : List Span) (o : Option ℤ) → None ≡ set_on ours path → Some set ≡ set_on theirs path
-    → IfSome o (λ n. IsWithin set n × IsWithin set n) → IfSome o (λ n. (m : ℤ) → IsWithin set m → IsWithin set m → n ≤ℤ m) → IfNone o ((m : ℤ) → IsWithin set m → IsWithin set m → ⊥) → o ≡ least_of_both ours theirs path
-by_second ours theirs path set o e f is least none =
-    one_least (λ n. IsWithin set n × IsWithin set n) (IsWithinBoth None (Some set)) o (least_of_sets None (Some set)) (two_least set set o is least none) (both_least None (Some set)) (λ n h. h.0) (λ n h. (h, h))
-    ∙ ap (λ a. least_of_sets a (Some set)) e ∙ ap (least_of_sets (set_on ours path)) f
-
-pub on_least : (t : Table) (cs : List Constraint) (path : Steps) → IsLeastOf (IsSolution t cs path) (least_on t cs path)
-on_least t cs path = go (least_on t cs path) refl
-  where
-    go : (o : Option ℤ) → least_on t cs path ≡ o → IsLeastOf (IsSolution t cs path) o
-    go None e = record { is = tt; least = tt; none = unsolved t cs path e }
-    go (Some n) e = let f = solved t cs path n e in record { is = f.0; least = f.1; none = tt }
+use Rattle.eds_overlap.proofs.Meeting.{has_of_one, one_either, one_before, on_found, within_other, other_within, swap}
+use Rattle.eds_overlap.proofs.Solutions.{on_none, one_later}
 
 module _ (t : Table) (cs ds : List Constraint) (ours theirs : List PathSet) (are : AreSets t cs ours) (others : AreSets t ds theirs) where
   -- a number of one list's set, and of the other's where it has one, is a solution
@@ -94,7 +26,7 @@ module _ (t : Table) (cs ds : List Constraint) (ours theirs : List PathSet) (are
       let sol = subst (λ p. IsSolution t bs p n) k.2 (solved.solves n (subst (λ s. IsWithin s n) (sym k.3) w)) in
       record { domain = sol.domain; constraints = All-both (λ c. c.path ≡ path → IsWithin c.set n) bs es sol.constraints (within_other t es rest path n further (set_on rest path) refl other) }
 
-  pub from_both : (path : Steps) (n : ℤ) → IsInBoth ours theirs path n → IsSolution t (cs ++ ds) path n
+  from_both : (path : Steps) (n : ℤ) → IsInBoth ours theirs path n → IsSolution t (cs ++ ds) path n
   from_both path n w = go (set_on ours path) refl (set_on theirs path) refl w
     where
       go : (a : Option (List Span)) → set_on ours path ≡ a → (b : Option (List Span)) → set_on theirs path ≡ b → IsWithinBoth a b n → IsSolution t (cs ++ ds) path n
@@ -118,6 +50,41 @@ module _ (t : Table) (cs ds : List Constraint) (ours theirs : List PathSet) (are
       go (Some set) e None f = first (Some set) e
       go (Some set) e (Some other) f = (first (Some set) e, second (Some other) f)
 
-  -- on a path that some constraint is on, the sets leave the least number that all constraints leave
-  pub same_least : (path : Steps) → IsConstrained (cs ++ ds) path → least_of_both ours theirs path ≡ least_on t (cs ++ ds) path
-  same_least path con = one_least (IsInBoth ours theirs path) (IsSolution t (cs ++ ds) path) _ _ (both_least (set_on ours path) (set_on theirs path)) (on_least t (cs ++ ds) path) (from_both path) (λ n s. to_both path n con s)
+  constrained : (path : Steps) (n : ℤ) → IsInBoth ours theirs path n → IsConstrained (cs ++ ds) path
+  constrained path n w = go (set_on ours path) refl (set_on theirs path) refl w
+    where
+      by_set : (bs : List Constraint) (some : List PathSet) (set : List Span) → AreSets t bs some → set_on some path ≡ Some set → IsConstrained bs path
+      by_set bs some set sets e = let k = on_found some path set e in subst (IsConstrained bs) k.2 (All-at (IsSolved t bs) some k.0 k.1 sets.each).constrained
+
+      go : (a : Option (List Span)) → set_on ours path ≡ a → (b : Option (List Span)) → set_on theirs path ≡ b → IsWithinBoth a b n → IsConstrained (cs ++ ds) path
+      go None e None f w = absurd w
+      go None e (Some set) f w = one_before (λ (c : Constraint). c.path ≡ path) cs ds (by_set ds theirs set others f)
+      go (Some set) e b f w = one_later (λ (c : Constraint). c.path ≡ path) cs ds (by_set cs ours set are e)
+
+  met : (x : ℕ) (common : List Common) (some : List PathSet) (path : Steps) → AllByRecursion (IsMetBy t x ours theirs common) some → HasOne (λ (s : PathSet). s.path ≡ path) some → StartsInEntries t x path → (n : ℤ) → IsInBoth ours theirs path n → IsOn common path
+  met x common some path a h st n w =
+      let k = has_of_one (λ (s : PathSet). s.path ≡ path) some h in
+      let s : PathSet = k.0 in
+      subst (IsOn common) k.2 (All-at (IsMetBy t x ours theirs common) some s k.1 a (subst (StartsInEntries t x) (sym k.2) st) n (subst (λ p. IsInBoth ours theirs p n) (sym k.2) w))
+
+pub common_are : (t : Table) (Used : ℕ → Type 0) (x k l : ℕ) (ours theirs : List PathSet) (common : List Common) → AreSets t (constraints_along t k) ours → AreSets t (constraints_along t l) theirs → Overlapping t Used x k l
+    → AreLeastInBoth t x ours theirs common → AreLeastCommon t x k l common
+common_are t Used x k l ours theirs common are others o least =
+    let cs : List Constraint = constraints_along t k in
+    let ds : List Constraint = constraints_along t l in
+    record {
+      judged = All-weaker (IsLeastInBoth t x ours theirs) (λ c. StartsInEntries t x c.path × IsConstrained (constraints_of_both t k l) c.path) (λ c h. (h.starts, constrained t cs ds ours theirs are others c.path c.number h.common)) common least.each;
+      least = All-weaker (IsLeastInBoth t x ours theirs) (IsLeastSolution t (constraints_of_both t k l)) (λ c h. record {
+        solves = from_both t cs ds ours theirs are others c.path c.number h.common;
+        least = λ n s. h.least n (to_both t cs ds ours theirs are others c.path n (constrained t cs ds ours theirs are others c.path c.number h.common) s);
+      }) common least.each;
+      all = λ path st con. (
+          let n = o.common path st con in
+          let w = to_both t cs ds ours theirs are others path n.0 con n.1 in
+          elim (one_either (λ (c : Constraint). c.path ≡ path) cs ds con) [
+            | inl h ↦ met t cs ds ours theirs are others x common ours path least.of_ours (are.all path h) st n.0 w
+            | inr h ↦ met t cs ds ours theirs are others x common theirs path least.of_theirs (others.all path h) st n.0 w
+          ]);
+      once = least.once;
+      in_order = least.in_order;
+    }

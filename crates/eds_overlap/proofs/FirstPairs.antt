@@ -1,6 +1,6 @@
 -- The first two containers that overlap are found.
 use Rattle.std.proofs.Common.{◌≡◌, ℕ, zero, suc, ◌+◌, ◌<◌, ◌≤◌, ℤ, Bool, true, false, cond, List, [], ◌∷◌, ◌++◌, length, map, Option, Some, None, refl, sym, ap, subst, ◌∙◌, append_assoc, arith, ◌⊎◌, inl, inr}
-use Rattle.std.specs.Prelude.{◌≢◌, ◌==◌, ◌&&◌, ◌↔◌, is_some, IsTrue, option_map}
+use Rattle.std.specs.Prelude.{◌≢◌, ◌==◌, ◌&&◌, ◌↔◌, is_some, IsTrue}
 use Rattle.std.specs.List.{range_with_len}
 use Rattle.std.proofs.lemmas.Bool.{and_parts, and_from, eqb-true, eq-eqb, ne_eqb, both_ways, cases_lt}
 use Rattle.eds_base.specs.Reading.{◌>>=◌}
@@ -14,11 +14,8 @@ use Rattle.eds_types.specs.Rules.{KeepsRules}
 use Rattle.eds_types.proofs.ChainLaws.{chain_end, under_is}
 use Rattle.eds_types.proofs.ReadingTests.{starts_from, starts_in}
 use Rattle.eds_types.proofs.RuleFacts.{table_of}
-use Rattle.eds_overlap.specs.Common.{constraints_of_both}
-use Rattle.eds_overlap.specs.FirstOverlap.{leave_numbers, parting_after, parting_of, is_read_through, meets_at, overlap_at, Pair, pair_at, first_there, first_with, first_pair, overlap_of, first_overlap, OverlapsAreFound}
-use Rattle.eds_overlap.specs.LeastNumbers.{least_on}
+use Rattle.eds_overlap.specs.FirstOverlap.{least_on, leave_numbers, parting_after, parting_of, is_read_through, both_constraints, meets_at, overlap_at, Pair, pair_at, first_there, first_with, first_pair, OverlapsAreFound}
 use Rattle.eds_overlap.specs.Pairs.{Steps, ArePartedAt, Named, IsReadThrough, IsFirstWith, IsFirstPair}
-use Rattle.eds_overlap.proofs.CommonLaws.{common_least}
 use Rattle.eds_overlap.proofs.LeastInAll.{on_none, on_found}
 use Rattle.eds_overlap.proofs.Meeting.{none_at_all, first_is_first, parted_of}
 use Rattle.eds_overlap.proofs.Parting.{read_through}
@@ -127,11 +124,11 @@ module _ (t : Table) (keeps : KeepsRules t) (used : List TypeId) where
 
   met_from : (k l x : ℕ) → is_concrete t k ≡ true → is_concrete t l ≡ true → ArePartedAt t x k l → meets_at t used k l x ≡ true → Overlapping t (Named used) x k l
   met_from k l x c d p e =
-      let q = and_parts (is_read_through t used x) (leave_numbers t x (constraints_of_both t k l) (constraints_of_both t k l)) e in
-      record { first = c; second = d; one = p.one; other = p.other; differ = p.differ; to_first = p.to_first; to_second = p.to_second; used = (read_is x).0 q.0; common = leave_from t x (constraints_of_both t k l) (constraints_of_both t k l) q.1 }
+      let q = and_parts (is_read_through t used x) (leave_numbers t x (both_constraints t k l) (both_constraints t k l)) e in
+      record { first = c; second = d; one = p.one; other = p.other; differ = p.differ; to_first = p.to_first; to_second = p.to_second; used = (read_is x).0 q.0; common = leave_from t x (both_constraints t k l) (both_constraints t k l) q.1 }
 
   met_in : (k l x : ℕ) → Overlapping t (Named used) x k l → meets_at t used k l x ≡ true
-  met_in k l x o = and_from (is_read_through t used x) (leave_numbers t x (constraints_of_both t k l) (constraints_of_both t k l)) ((read_is x).1 o.used) (leave_in t x (constraints_of_both t k l) (constraints_of_both t k l) o.common)
+  met_in k l x o = and_from (is_read_through t used x) (leave_numbers t x (both_constraints t k l) (both_constraints t k l)) ((read_is x).1 o.used) (leave_in t x (both_constraints t k l) (both_constraints t k l) o.common)
 
   abbrev at_parting : ℕ → ℕ → Option ℕ → Option ℕ
   at_parting k l o = o >>= λ x. cond (meets_at t used k l x) (Some x) None
@@ -220,46 +217,5 @@ module _ (t : Table) (keeps : KeepsRules t) (used : List TypeId) where
   no_pairs : first_pair t used ≡ None → (x k l : ℕ) → Overlapping t (Named used) x k l → ⊥
   no_pairs e = none_at_all t (Named used) (λ x i l order h o. none_with l (none_is (first_with t used) 0 (length t) e l (omega arith) (omega arith)) x i order o)
 
-module _ (t : Table) (keeps : KeepsRules t) (used : List TypeId) where
-  same_ancestor : (x y k l i j : ℕ) → k ≡ i → l ≡ j → ArePartedAt t x k l → ArePartedAt t y i j → x ≡ y
-  same_ancestor x y k l i j e f p q = let same : Some x ≡ Some y = sym (parting_in t keeps k l x p) ∙ ap (λ a. parting_of t a l) e ∙ ap (parting_of t i) f ∙ parting_in t keeps i j y q in cc
-
-  same_pair : (x k l : ℕ) (p : Pair) → x ≡ p.ancestor → k ≡ p.first → l ≡ p.second → p ≡ record { ancestor = x; first = k; second = l }
-  same_pair x k l p a b c = rw (a, b, c) refl
-
-  -- the first pair is the one that is worked out
-  pub pair_is_first : (x k l : ℕ) → IsFirstPair t (Named used) x k l → first_pair t used ≡ Some (record { ancestor = x; first = k; second = l })
-  pair_is_first x k l w = go (first_pair t used) refl
-    where
-      same : (p : Pair) → IsFirstPair t (Named used) p.ancestor p.first p.second → (k ≡ p.first) × (l ≡ p.second)
-      same p f =
-          let a = f.least x k l w.in_order w.overlapping in
-          let b = w.least p.ancestor p.first p.second f.in_order f.overlapping in
-          elim a [
-            | inl m ↦ elim b [ inl n ↦ absurd (omega (arith, m, n)) | inr n ↦ absurd (omega (arith, m, n.0)) ]
-            | inr m ↦ elim b [ inl n ↦ absurd (omega (arith, m.0, n)) | inr n ↦ (omega (arith, m.1, n.1), n.0) ]
-          ]
-
-      go : (o : Option Pair) → first_pair t used ≡ o → o ≡ Some (record { ancestor = x; first = k; second = l })
-      go None e = absurd (no_pairs t keeps used e x k l w.overlapping)
-      go (Some p) e =
-          let f = pair_found t keeps used p e in
-          let q = same p f in
-          ap Some (same_pair x k l p (same_ancestor x p.ancestor k l p.first p.second q.0 q.1 (parted_of t (Named used) x k l w.overlapping) (parted_of t (Named used) p.ancestor p.first p.second f.overlapping)) q.0 q.1)
-
-  -- where nothing overlaps there is none
-  pub none_is_first : ((x k l : ℕ) → Overlapping t (Named used) x k l → ⊥) → None ≡ first_overlap t used
-  none_is_first h = go (first_pair t used) refl
-    where
-      go : (o : Option Pair) → first_pair t used ≡ o → None ≡ option_map (overlap_of t) o
-      go None e = refl
-      go (Some p) e = absurd (h p.ancestor p.first p.second (pair_found t keeps used p e).overlapping)
-
 pub overlaps_are_found : OverlapsAreFound
-overlaps_are_found t used keeps = record {
-  least = on_found t;
-  unsolved = on_none t;
-  found = pair_found t keeps used;
-  common = λ p e. common_least t (Named used) p.ancestor p.first p.second (pair_found t keeps used p e).overlapping;
-  nothing = no_pairs t keeps used;
-}
+overlaps_are_found t used keeps = record { least = on_found t; unsolved = on_none t; found = pair_found t keeps used; nothing = no_pairs t keeps used }

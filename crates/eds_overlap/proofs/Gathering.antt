@@ -1,20 +1,22 @@
 -- Common numbers that are gathered in the order of their paths' texts.
-use Rattle.std.proofs.Common.{◌≡◌, ℕ, zero, suc, Bool, true, false, cond, List, [], ◌∷◌, ◌++◌, map, take, drop, refl, sym, ap, subst, ◌∙◌, inl, inr}
-use Rattle.std.specs.Prelude.{◌⊎◌, fold, insert}
+use Rattle.std.proofs.Common.{◌≡◌, ℕ, zero, suc, ◌<◌, ◌≤◌, ◌-◌, ℤ, ◌≤ℤ◌, Bool, true, false, cond, List, [], ◌∷◌, ◌++◌, length, map, get_or, take, drop, refl, sym, ap, subst, ◌∙◌, append_assoc, append-nil, arith, inl, inr}
+use Rattle.std.specs.Prelude.{◌⊎◌, IsTrue}
 use Rattle.std.proofs.Common.{Ordering, Less, Equal, Greater}
 use Rattle.std.specs.Ordering.{nat_cmp, is_le, ordering_reverse}
 use Rattle.std.specs.Cmp.Lexicographic.{slice_cmp}
-use Rattle.std.specs.List.{AllByRecursion}
+use Rattle.std.specs.List.{AllByRecursion, insert}
 use Rattle.std.proofs.lemmas.Cmp.{nat_list_cmp_total}
 use Rattle.eds_bits.specs.Lists.{Has, HasOne}
+use Rattle.eds_types.specs.declared.sets.PathSet.{PathSet}
+use Rattle.eds_types.specs.Fields.{StartsInEntries}
 use Rattle.eds_types.specs.Rows.{Table}
 use Rattle.eds_types.specs.Rules.{AreDistinct}
 use Rattle.eds_types.proofs.AllOf.{All-weaker, All-both, All-front, All-back, one_of}
 use Rattle.eds_overlap.specs.declared.common.Common.{Common}
-use Rattle.eds_overlap.specs.Common.{paths_of, texts_of, IsOn, is_on, put_in_order}
+use Rattle.eds_overlap.specs.Common.{paths_of, texts_of, IsOn, IsInBoth, IsLeastInBoth, IsMetBy, AreGathered, AreLeastInBoth, IsAddedInOrder}
 use Rattle.eds_overlap.specs.Pairs.{Steps, same_path}
 use Rattle.eds_overlap.specs.PathTexts.{path_text, count_up_to, IsUpTo, AreInOrder}
-use Rattle.eds_overlap.proofs.Solutions.{same_is, same_not}
+use Rattle.eds_overlap.proofs.Solutions.{rest_is, same_is, same_not}
 
 -- ---- the order of texts
 
@@ -84,7 +86,7 @@ order_insert (x ∷ texts) text h = go (is_le (slice_cmp nat_cmp x text)) refl (
 
 -- ---- paths
 
-pub has_on : (common : List Common) (path : Steps) → Has (paths_of common) path → IsOn common path
+has_on : (common : List Common) (path : Steps) → Has (paths_of common) path → IsOn common path
 has_on [] path h = absurd (go h.before h.is)
   where
     go : (b : List Steps) → [] ≡ b ++ path ∷ h.after → ⊥
@@ -108,79 +110,85 @@ distinct_between (y ∷ xs) ys x d new = (
   distinct_between xs ys x d.1 (λ h. new (inr h)),
 )
 
+-- ---- numbers that are gathered
+
+module _ (t : Table) (x : ℕ) (ours theirs : List PathSet) where
+  pub record GatheredSoFar (some rest : List PathSet) (old new : List Common) : Type 0 where
+    pub done : List PathSet
+    pub is : some ≡ done ++ rest
+    pub added : AreGathered t x ours theirs done old new
+
+  pub gathered_start : (some : List PathSet) (common : List Common) → GatheredSoFar some some common common
+  gathered_start some common = record { done = []; is = refl; added = record { each = λ h. h; kept = λ path h. h; added = tt; once = λ h. h; in_order = λ h. h } }
+
+  gathered_more : (some next rest : List PathSet) (old mid new : List Common) → GatheredSoFar some (next ++ rest) old mid → AreGathered t x ours theirs next mid new → GatheredSoFar some rest old new
+  gathered_more some next rest old mid new s a = record {
+    done = s.done ++ next;
+    is = s.is ∙ sym (append_assoc s.done next rest);
+    added = record {
+      each = λ h. a.each (s.added.each h);
+      kept = λ path h. a.kept path (s.added.kept path h);
+      added = All-both (IsMetBy t x ours theirs new) s.done next (All-weaker (IsMetBy t x ours theirs mid) (IsMetBy t x ours theirs new) (λ c h st n w. a.kept c.path (h st n w)) s.done s.added.added) a.added;
+      once = λ h. a.once (s.added.once h);
+      in_order = λ h. a.in_order (s.added.in_order h);
+    };
+  }
+
+  pub gathered_next : (some rest : List PathSet) (s : PathSet) (old mid new : List Common) → s ≡ get_or rest 0 s → 1 ≤ length rest → GatheredSoFar some rest old mid → AreGathered t x ours theirs (s ∷ []) mid new → GatheredSoFar some (take (length rest - 1) (drop 1 rest)) old new
+  gathered_next some rest s old mid new e l g a = gathered_more some (s ∷ []) (take (length rest - 1) (drop 1 rest)) old mid new (subst (λ r. GatheredSoFar some r old mid) (rest_is rest s e l) g) a
+
+  pub gathered_end : (some rest : List PathSet) (old new : List Common) → length rest < 1 → GatheredSoFar some rest old new → AreGathered t x ours theirs some old new
+  gathered_end some [] old new l g = subst (λ xs. AreGathered t x ours theirs xs old new) (sym (g.is ∙ append-nil g.done)) g.added
+  gathered_end some (s ∷ rest) old new l g = absurd (omega arith)
+
+  -- nothing is to be added
+  pub gathered_none : (s : PathSet) (common : List Common) → IsMetBy t x ours theirs common s → AreGathered t x ours theirs (s ∷ []) common common
+  gathered_none s common h = record { each = λ h. h; kept = λ path h. h; added = (h, tt); once = λ h. h; in_order = λ h. h }
+
+  pub gathered_one : (s : PathSet) (c : Common) (old new : List Common) → c.path ≡ s.path → StartsInEntries t x s.path → IsInBoth ours theirs s.path c.number → ((n : ℤ) → IsInBoth ours theirs s.path n → c.number ≤ℤ n) → (IsOn old s.path → ⊥)
+      → IsAddedInOrder t c old new → AreGathered t x ours theirs (s ∷ []) old new
+  gathered_one s c old new on st w least fresh is =
+      let i : ℕ = count_up_to (texts_of t old) (path_text t c.path) in
+      let front : List Common = take i old in
+      let back : List Common = drop i old in
+      let it : IsLeastInBoth t x ours theirs c = record {
+        starts = subst (StartsInEntries t x) (sym on) st;
+        common = subst (λ p. IsInBoth ours theirs p c.number) (sym on) w;
+        least = λ n h. least n (subst (λ p. IsInBoth ours theirs p n) on h);
+      } in
+      subst (AreGathered t x ours theirs (s ∷ []) old) (sym is) (record {
+        each = λ a. All-insert (IsLeastInBoth t x ours theirs) old i c a it;
+        kept = λ p h. one_between (λ (y : Common). y.path ≡ p) front back c (subst (HasOne (λ (y : Common). y.path ≡ p)) (split_list i old) h);
+        added = (λ _ _ _. one_of (λ (y : Common). y.path ≡ s.path) front c back on, tt);
+        once = λ d. distinct_between front back c (subst (λ xs. AreDistinct (paths_of xs)) (split_list i old) d) (λ h. fresh (subst (IsOn old) on (subst (λ xs. IsOn xs c.path) (sym (split_list i old)) h)));
+        in_order = λ h. subst AreInOrder (sym (map_insert (λ (y : Common). path_text t y.path) old i c)) (order_insert (texts_of t old) (path_text t c.path) h);
+      })
+
+  -- what both lists give
+  pub both_gathered : (none mid new : List Common) → none ≡ [] → AreGathered t x ours theirs ours none mid → AreGathered t x ours theirs theirs mid new → AreLeastInBoth t x ours theirs new
+  both_gathered none mid new e a b =
+      let first = subst (λ xs. AreGathered t x ours theirs ours xs mid) e a in
+      record {
+        each = b.each (first.each tt);
+        of_ours = All-weaker (IsMetBy t x ours theirs mid) (IsMetBy t x ours theirs new) (λ s h st n w. b.kept s.path (h st n w)) ours first.added;
+        of_theirs = b.added;
+        once = b.once (first.once tt);
+        in_order = b.in_order (first.in_order tt);
+      }
+
 -- ---- which paths have a number
 
-pub is_on-one : (common : List Common) (path : Steps) → is_on common path ≡ true → IsOn common path
-is_on-one [] path e = absurd cc
-is_on-one (c ∷ common) path e = go (same_path c.path path) refl e (is_on-one common path)
-  where
-    go : (b : Bool) → same_path c.path path ≡ b → cond b true (is_on common path) ≡ true → (is_on common path ≡ true → IsOn common path) → IsOn (c ∷ common) path
-    go true h e ih = inl (same_is c.path path h)
-    go false h e ih = inr (ih e)
+pub on_hit : (common rest : List Common) (c : Common) (path : Steps) (b : Bool) → c ≡ get_or rest 0 c → 1 ≤ length rest → b ≡ same_path c.path path → b ≡ true
+    → (IsOn rest path → IsOn common path) × (IsOn common path → IsOn rest path) → (IsTrue true → IsOn common path) × (IsOn common path → IsTrue true)
+on_hit common rest c path b e l is hit both = (λ _. both.0 (subst (λ r. IsOn r path) (sym (rest_is rest c e l)) (inl (same_is c.path path (sym is ∙ hit)))), λ _. refl)
 
-pub one-is_on : (common : List Common) (path : Steps) → IsOn common path → is_on common path ≡ true
-one-is_on [] path h = absurd h
-one-is_on (c ∷ common) path h = go (same_path c.path path) refl h (one-is_on common path)
-  where
-    go : (b : Bool) → same_path c.path path ≡ b → IsOn (c ∷ common) path → (IsOn common path → is_on common path ≡ true) → cond b true (is_on common path) ≡ true
-    go true e h ih = refl
-    go false e (inl h) ih = absurd (same_not c.path path e h)
-    go false e (inr h) ih = ih h
-
--- ---- numbers put in order one after another
-
-module _ (t : Table) where
-  abbrev placed : List Common → Common → ℕ
-  placed common c = count_up_to (texts_of t common) (path_text t c.path)
-
-  put_to : (common : List Common) (c : Common) (path : Steps) → IsOn (put_in_order t common c) path → IsOn common path ⊎ (c.path ≡ path)
-  put_to common c path h =
-      elim (one_among (λ (y : Common). y.path ≡ path) (take (placed common c) common) (drop (placed common c) common) c h) [
-        | inl k ↦ inl (subst (λ xs. IsOn xs path) (sym (split_list (placed common c) common)) k)
-        | inr k ↦ inr k
-      ]
-
-  put_from : (common : List Common) (c : Common) (path : Steps) → IsOn common path → IsOn (put_in_order t common c) path
-  put_from common c path h = one_between (λ (y : Common). y.path ≡ path) (take (placed common c) common) (drop (placed common c) common) c (subst (λ xs. IsOn xs path) (split_list (placed common c) common) h)
-
-  put_own : (common : List Common) (c : Common) → IsOn (put_in_order t common c) c.path
-  put_own common c = one_of (λ (y : Common). y.path ≡ c.path) (take (placed common c) common) c (drop (placed common c) common) refl
-
-  pub sorted_to : (old cs : List Common) (path : Steps) → IsOn (fold (put_in_order t) old cs) path → IsOn old path ⊎ IsOn cs path
-  sorted_to old [] path h = inl h
-  sorted_to old (c ∷ cs) path h =
-      elim (sorted_to (put_in_order t old c) cs path h) [
-        | inl k ↦ elim (put_to old c path k) [ inl m ↦ inl m | inr m ↦ inr (inl m) ]
-        | inr k ↦ inr (inr k)
-      ]
-
-  sorted_old : (old cs : List Common) (path : Steps) → IsOn old path → IsOn (fold (put_in_order t) old cs) path
-  sorted_old old [] path h = h
-  sorted_old old (c ∷ cs) path h = sorted_old (put_in_order t old c) cs path (put_from old c path h)
-
-  pub sorted_new : (old cs : List Common) (path : Steps) → IsOn cs path → IsOn (fold (put_in_order t) old cs) path
-  sorted_new old [] path h = absurd h
-  sorted_new old (c ∷ cs) path (inl h) = sorted_old (put_in_order t old c) cs path (subst (IsOn (put_in_order t old c)) h (put_own old c))
-  sorted_new old (c ∷ cs) path (inr h) = sorted_new (put_in_order t old c) cs path h
-
-  pub sorted_all : (P : Common → Type 0) (old cs : List Common) → AllByRecursion P old → AllByRecursion P cs → AllByRecursion P (fold (put_in_order t) old cs)
-  sorted_all P old [] h k = h
-  sorted_all P old (c ∷ cs) h k = sorted_all P (put_in_order t old c) cs (All-insert P old (placed old c) c h k.0) k.1
-
-  pub sorted_order : (old cs : List Common) → AreInOrder (texts_of t old) → AreInOrder (texts_of t (fold (put_in_order t) old cs))
-  sorted_order old [] h = h
-  sorted_order old (c ∷ cs) h =
-      sorted_order (put_in_order t old c) cs
-      (subst AreInOrder (sym (map_insert (λ (y : Common). path_text t y.path) old (placed old c) c)) (order_insert (texts_of t old) (path_text t c.path) h))
-
-  pub sorted_once : (old cs : List Common) → AreDistinct (paths_of old) → AreDistinct (paths_of cs) → ((path : Steps) → IsOn old path → IsOn cs path → ⊥) → AreDistinct (paths_of (fold (put_in_order t) old cs))
-  sorted_once old [] d e apart = d
-  sorted_once old (c ∷ cs) d e apart =
-      let i = placed old c in
-      sorted_once (put_in_order t old c) cs
-      (distinct_between (take i old) (drop i old) c (subst (λ xs. AreDistinct (paths_of xs)) (split_list i old) d) (λ h. apart c.path (subst (λ xs. IsOn xs c.path) (sym (split_list i old)) h) (inl refl)))
-      e.1
-      (λ path h k. elim (put_to old c path h) [ inl m ↦ apart path m (inr k) | inr m ↦ e.0 (on_has cs c.path (subst (IsOn cs) (sym m) k)) ])
+pub on_miss : (common rest : List Common) (c : Common) (path : Steps) (b : Bool) → c ≡ get_or rest 0 c → 1 ≤ length rest → b ≡ same_path c.path path → b ≡ false
+    → (IsOn rest path → IsOn common path) × (IsOn common path → IsOn rest path)
+    → (IsOn (take (length rest - 1) (drop 1 rest)) path → IsOn common path) × (IsOn common path → IsOn (take (length rest - 1) (drop 1 rest)) path)
+on_miss common rest c path b e l is miss both = (
+  λ h. both.0 (subst (λ r. IsOn r path) (sym (rest_is rest c e l)) (inr h)),
+  λ h. elim (subst (λ r. IsOn r path) (rest_is rest c e l) (both.1 h)) [ inl k ↦ absurd (same_not c.path path (sym is ∙ miss) k) | inr k ↦ k ],
+)
 
 -- ---- texts
 
@@ -188,3 +196,7 @@ pub texts_insert : (t : Table) (texts : List (List ℕ)) (common : List Common) 
     → new ≡ insert texts i text → more ≡ insert common i c → new ≡ texts_of t more
 texts_insert t texts common i text c new more are is e f =
     e ∙ ap (λ xs. insert xs i text) are ∙ ap (insert (texts_of t common) i) is ∙ sym (map_insert (λ (y : Common). path_text t y.path) common i c) ∙ ap (texts_of t) (sym f)
+
+pub placed_in_order : (t : Table) (texts : List (List ℕ)) (common : List Common) (i : ℕ) (text : List ℕ) (c : Common) (new : List Common) → texts ≡ texts_of t common → text ≡ path_text t c.path → i ≡ count_up_to texts text → new ≡ insert common i c
+    → IsAddedInOrder t c common new
+placed_in_order t texts common i text c new are is at e = e ∙ ap (λ n. insert common n c) (at ∙ ap (λ xs. count_up_to xs text) are ∙ ap (count_up_to (texts_of t common)) is)

@@ -19,7 +19,7 @@ use Rattle.eds_types.specs.Reading.{is_within}
 use Rattle.eds_types.specs.Rows.{Table, chain, derived, is_concrete, list_has, numbers}
 use Rattle.eds_types.proofs.LeastBound.{there}
 use Rattle.eds_types.proofs.ReadingTests.{within_from, within_in, has_from, has_in}
-use Rattle.eds_overlap.specs.LeastNumbers.{is_in_all, beginnings, lesser, least_of, least_in_all, single, domain_by, domain_in, domain_of_type, domain_on, sets_on_path, least_on}
+use Rattle.eds_overlap.specs.FirstOverlap.{is_in_all, beginnings, lesser, least_of, least_in_all, single, domain_by, domain_in, domain_of_type, domain_on, sets_on_path, least_on}
 use Rattle.eds_overlap.specs.Pairs.{Steps, same_path}
 use Rattle.eds_overlap.proofs.Solutions.{same_is, same_not}
 
@@ -28,16 +28,16 @@ use Rattle.eds_overlap.proofs.Solutions.{same_is, same_not}
 abbrev pub In : {A : Type 0} → List A → A → Type 0
 In xs x = HasOne (λ y. y ≡ x) xs
 
-pub in_front : {A : Type 0} (xs ys : List A) (x : A) → In xs x → In (xs ++ ys) x
+in_front : {A : Type 0} (xs ys : List A) (x : A) → In xs x → In (xs ++ ys) x
 in_front [] ys x h = absurd h
 in_front (y ∷ xs) ys x (inl h) = inl h
 in_front (y ∷ xs) ys x (inr h) = inr (in_front xs ys x h)
 
-pub in_back : {A : Type 0} (xs ys : List A) (x : A) → In ys x → In (xs ++ ys) x
+in_back : {A : Type 0} (xs ys : List A) (x : A) → In ys x → In (xs ++ ys) x
 in_back [] ys x h = h
 in_back (y ∷ xs) ys x h = inr (in_back xs ys x h)
 
-pub in_filter : {A : Type 0} (p : A → Bool) (xs : List A) (x : A) → In xs x → p x ≡ true → In (filter p xs) x
+in_filter : {A : Type 0} (p : A → Bool) (xs : List A) (x : A) → In xs x → p x ≡ true → In (filter p xs) x
 in_filter p [] x h e = absurd h
 in_filter p (y ∷ xs) x h e = go (p y) refl h (λ k. in_filter p xs x k e)
   where

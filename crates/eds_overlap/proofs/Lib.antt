@@ -26,7 +26,4 @@ pub mod Meeting
 pub mod UsedTypes
 pub mod Gathering
 pub mod CommonNumbers
-pub mod CommonFound
-pub mod CommonLaws
 pub mod ToldApart
-pub mod Listing

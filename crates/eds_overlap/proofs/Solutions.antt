@@ -45,7 +45,7 @@ same_is (p ∷ ps) (q ∷ qs) e = go ((p.0).0 == (q.0).0 && p.1 == q.1) refl e (
         cc
     go false h e ih = absurd cc
 
-pub same_self : (p : Steps) → same_path p p ≡ true
+same_self : (p : Steps) → same_path p p ≡ true
 same_self [] = refl
 same_self (p ∷ ps) = rw (eq-eqb (p.0).0 (p.0).0 refl, eq-eqb p.1 p.1 refl) (same_self ps)
 
@@ -229,7 +229,7 @@ one_constrained [] path sets a h = absurd h
 one_constrained (c ∷ cs) path sets a (inl h) = subst (λ p. HasOne (λ (x : PathSet). x.path ≡ p) sets) h a.0
 one_constrained (c ∷ cs) path sets a (inr h) = one_constrained cs path sets a.1 h
 
-pub among_chain : (t : Table) (ids : List ℕ) → constraints_among t (map id_of ids) ≡ flat_map (constraints_of t) ids
+among_chain : (t : Table) (ids : List ℕ) → constraints_among t (map id_of ids) ≡ flat_map (constraints_of t) ids
 among_chain t [] = refl
 among_chain t (x ∷ ids) = ap (λ r. constraints_of t x ++ r) (among_chain t ids)
 

@@ -1,6 +1,6 @@
--- Containers whose sets hold a path to different numbers don't overlap.
+-- Containers that are told apart by their marks don't overlap.
 use Rattle.std.proofs.Common.{◌≡◌, ℕ, ℤ, ◌≤ℤ◌, Bool, true, false, cond, List, [], ◌∷◌, ◌++◌, Option, Some, None, refl, sym, ap, subst, ◌∙◌, append_assoc, arith, inl, inr}
-use Rattle.std.specs.Prelude.{◌≢◌, ◌⊎◌, is_some}
+use Rattle.std.specs.Prelude.{◌≢◌, ◌⊎◌, slice_get, is_some}
 use Rattle.std.specs.Ordering.{int_eq}
 use Rattle.std.specs.List.{flat_map}
 use Rattle.std.proofs.lemmas.Bool.{both_ways}
@@ -19,9 +19,10 @@ use Rattle.eds_types.specs.Rules.{KeepsRules, ConstraintKeeps}
 use Rattle.eds_types.proofs.AllOf.{All-at}
 use Rattle.eds_types.proofs.ChainLaws.{chain_step, under_is}
 use Rattle.eds_types.proofs.RuleFacts.{table_of}
+use Rattle.eds_overlap.specs.declared.marks.Mark.{Mark}
 use Rattle.eds_overlap.specs.Common.{IsWithinBoth}
-use Rattle.eds_overlap.specs.Index.{lone, lone_by, lone_on, before, marks_on}
-use Rattle.eds_overlap.specs.Pairs.{Steps, AreSets, IsSolved, set_on}
+use Rattle.eds_overlap.specs.Marks.{lone, lone_by, lone_on, before, marks_on, AreMarks, AreDifferent}
+use Rattle.eds_overlap.specs.Pairs.{Steps, AllSets, AreSets, IsSolved, set_on}
 use Rattle.eds_overlap.proofs.CommonNumbers.{to_both}
 use Rattle.eds_overlap.proofs.Meeting.{has_of_one, on_found, one_either}
 use Rattle.eds_overlap.proofs.Solutions.{one_later}
@@ -44,7 +45,7 @@ lone_is (s ∷ []) n k e w = go (int_eq s.low s.high) refl e w
 lone_is (s ∷ r ∷ set) n k e w = absurd cc
 
 -- two lists of sets hold a path to different numbers
-pub record Parts (ours theirs : List PathSet) : Type 0 where
+record Parts (ours theirs : List PathSet) : Type 0 where
   path : Steps
   one : ℤ
   other : ℤ
@@ -65,7 +66,7 @@ parts_here s model ours theirs ns ms more others n m ih x y u v i j ne = go (int
     go true h = let same : n ≡ m = (Decides-int_eq n m).0 h in ih more others u v (λ q. ne (i ∙ ap (λ z. z ∷ more) same ∙ ap (λ r. m ∷ r) q ∙ sym j))
     go false h = record { path = s.path; one = n; other = m; ours_is = x; theirs_is = y; differ = λ q. both_ways (int_eq n m) h ((Decides-int_eq n m).1 q) }
 
-pub parts_of : (model ours theirs : List PathSet) (ns ms : List ℤ) → marks_on model ours ≡ Some ns → marks_on model theirs ≡ Some ms → ns ≢ ms → Parts ours theirs
+parts_of : (model ours theirs : List PathSet) (ns ms : List ℤ) → marks_on model ours ≡ Some ns → marks_on model theirs ≡ Some ms → ns ≢ ms → Parts ours theirs
 parts_of [] ours theirs ns ms e f ne = absurd (ne cc)
 parts_of (s ∷ model) ours theirs ns ms e f ne = go (is_some (lone s.set)) e f (parts_of model ours theirs)
   where
@@ -145,7 +146,7 @@ module _ (t : Table) (keeps : KeepsRules t) where
           let same : chain t z ≡ r.0.before ++ z ∷ [] = (under_is t (table_of t keeps) z l r.0.before r.0.after r.0.is).0 in
           absurd (o.differ (heads_same (chain t x) h.0 g.0 o.one o.other (sym h.1 ∙ sym own ∙ same ∙ g.1)))
 
-  pub parts_apart : (Used : ℕ → Type 0) (k l : ℕ) (ours theirs : List PathSet) → AreSets t (constraints_along t k) ours → AreSets t (constraints_along t l) theirs → Parts ours theirs → (x : ℕ) → Overlapping t Used x k l → ⊥
+  parts_apart : (Used : ℕ → Type 0) (k l : ℕ) (ours theirs : List PathSet) → AreSets t (constraints_along t k) ours → AreSets t (constraints_along t l) theirs → Parts ours theirs → (x : ℕ) → Overlapping t Used x k l → ⊥
   parts_apart Used k l ours theirs are others p x o =
       let a = some_set (set_on ours p.path) p.one p.ours_is in
       let b = some_set (set_on theirs p.path) p.other p.theirs_is in
@@ -159,3 +160,16 @@ module _ (t : Table) (keeps : KeepsRules t) where
     where
       on_constraint : (cs : List Constraint) (sets : List PathSet) → AreSets t cs sets → (set : List Span) → set_on sets p.path ≡ Some set → IsConstrained cs p.path
       on_constraint cs sets own set e = let s = on_found sets p.path set e in subst (IsConstrained cs) s.2 (All-at (IsSolved t cs) sets s.0 s.1 own.each).constrained
+
+  pub marked_apart : (Used : ℕ → Type 0) (sets : List (List PathSet)) (marks : List (Option Mark)) (k l : ℕ) (a b : Option Mark) → AllSets t sets → AreMarks sets marks → slice_get marks k ≡ Some a → slice_get marks l ≡ Some b → AreDifferent a b → (x : ℕ) → Overlapping t Used x k l → ⊥
+  marked_apart Used sets marks k l None b all are at to d = absurd d
+  marked_apart Used sets marks k l (Some m) None all are at to d = absurd d
+  marked_apart Used sets marks k l (Some m) (Some n) all are at to d =
+      let one = are.each k m at in
+      let other = are.each l n to in
+      let models : one.model ≡ other.model = same_some one.model other.model (sym one.model_is ∙ ap (slice_get sets) d.0 ∙ other.model_is) in
+      parts_apart Used k l one.own other.own (all.each k one.own one.own_is) (all.each l other.own other.own_is)
+      (parts_of one.model one.own other.own m.numbers n.numbers one.numbers_are (ap (λ (s : List PathSet). marks_on s other.own) models ∙ other.numbers_are) d.1)
+    where
+      same_some : (xs ys : List PathSet) → Some xs ≡ Some ys → xs ≡ ys
+      same_some xs ys e = cc

@@ -1,6 +1,6 @@
 -- The least numbers that the entries of two containers that overlap can have in both.
-use Rattle.std.specs.Prelude.{◌≡◌, ℕ, ℤ, ◌≤ℤ◌, List, [], ◌∷◌, ◌++◌, map, filter, fold, insert, flat_map, Bool, false, not, if◌then◌else◌, true, Option, Some, None}
-use Rattle.std.specs.List.{AllByRecursion}
+use Rattle.std.specs.Prelude.{◌≡◌, ℕ, ℤ, ◌≤ℤ◌, List, ◌++◌, map, Option, Some, None}
+use Rattle.std.specs.List.{AllByRecursion, insert}
 use Rattle.eds_base.specs.declared.spans.Span.{Span}
 use Rattle.eds_base.specs.Spans.{IsWithin}
 use Rattle.eds_bits.specs.Lists.{HasOne}
@@ -11,9 +11,7 @@ use Rattle.eds_types.specs.Overlap.{IsSolution, IsConstrained}
 use Rattle.eds_types.specs.Rows.{Table}
 use Rattle.eds_types.specs.Rules.{AreDistinct}
 use Rattle.eds_overlap.specs.declared.common.Common.{Common}
-use Rattle.eds_types.specs.Reading.{starts_above}
-use Rattle.eds_overlap.specs.LeastNumbers.{least_in_all, least_on}
-use Rattle.eds_overlap.specs.Pairs.{Steps, same_path, set_on}
+use Rattle.eds_overlap.specs.Pairs.{Steps, set_on}
 use Rattle.eds_overlap.specs.PathTexts.{path_text, count_up_to, AreInOrder}
 
 -- the paths that the numbers are on
@@ -27,16 +25,6 @@ texts_of t common = map (λ (c : Common). path_text t c.path) common
 -- a number is on this path
 abbrev pub IsOn : List Common → Steps → Type 0
 IsOn common path = HasOne (λ (c : Common). c.path ≡ path) common
-
--- a number is on this path, as a test
-abbrev pub is_on : List Common → Steps → Bool
-is_on [] path = false
-is_on (c ∷ common) path = if same_path c.path path then true else is_on common path
-
--- some paths, each where it comes first
-abbrev pub each_once : List Steps → List Steps
-each_once [] = []
-each_once (p ∷ paths) = p ∷ filter (λ q. not (same_path p q)) (each_once paths)
 
 -- ---- of two containers
 
@@ -58,38 +46,7 @@ pub record AreLeastCommon (t : Table) (x k l : ℕ) (common : List Common) : Typ
   pub once : AreDistinct (paths_of common)
   pub in_order : AreInOrder (texts_of t common)
 
--- ---- worked out
-
--- the paths that some constraints are on, each where the first of them is
-abbrev pub constrained_paths : List Constraint → List Steps
-constrained_paths cs = each_once (map (λ (c : Constraint). c.path) cs)
-
--- those that start above the choice at x
-abbrev pub judged_paths : Table → (x : ℕ) → List Constraint → List Steps
-judged_paths t x cs = filter (starts_above t x) (constrained_paths cs)
-
--- a number that may be there on a path, as a list
-abbrev pub numbered : Steps → Option ℤ → List Common
-numbered path None = []
-numbered path (Some n) = record { path = path; number = n } ∷ []
-
--- the least number that constraints and the domain leave on a path, if there is one
-abbrev pub common_on : Table → List Constraint → Steps → List Common
-common_on t cs path = numbered path (least_on t cs path)
-
--- a number put among others that stand in the order of their paths' texts: behind those whose texts come no later
-abbrev pub put_in_order : Table → List Common → Common → List Common
-put_in_order t common c = insert common (count_up_to (texts_of t common) (path_text t c.path)) c
-
--- some numbers in the order of their paths' texts
-abbrev pub sorted_by_text : Table → List Common → List Common
-sorted_by_text t cs = fold (put_in_order t) [] cs
-
--- the least common numbers of two containers that part at x
-abbrev pub common_of : Table → (x k l : ℕ) → List Common
-common_of t x k l = sorted_by_text t (flat_map (common_on t (constraints_of_both t k l)) (judged_paths t x (constraints_of_both t k l)))
-
--- ---- by the sets of two containers
+-- ---- of two lists of sets
 
 -- the number is in each of the two sets that is there, and one is there
 abbrev pub IsWithinBoth : Option (List Span) → Option (List Span) → ℤ → Type 0
@@ -102,28 +59,32 @@ IsWithinBoth (Some ours) (Some theirs) n = IsWithin ours n × IsWithin theirs n
 abbrev pub IsInBoth : List PathSet → List PathSet → Steps → ℤ → Type 0
 IsInBoth ours theirs path n = IsWithinBoth (set_on ours path) (set_on theirs path) n
 
--- the least number of two sets that may be there
-abbrev pub least_of_sets : Option (List Span) → Option (List Span) → Option ℤ
-least_of_sets None None = None
-least_of_sets None (Some theirs) = least_in_all (theirs ∷ [])
-least_of_sets (Some ours) None = least_in_all (ours ∷ [])
-least_of_sets (Some ours) (Some theirs) = least_in_all (ours ∷ theirs ∷ [])
+-- its path starts above the choice at x, and it is the least number of both sets on this path
+pub record IsLeastInBoth (t : Table) (x : ℕ) (ours theirs : List PathSet) (c : Common) : Type 0 where
+  pub starts : StartsInEntries t x c.path
+  pub common : IsInBoth ours theirs c.path c.number
+  pub least : (n : ℤ) → IsInBoth ours theirs c.path n → c.number ≤ℤ n
 
--- the least number of the sets on a path in both lists
-abbrev pub least_of_both : List PathSet → List PathSet → Steps → Option ℤ
-least_of_both ours theirs path = least_of_sets (set_on ours path) (set_on theirs path)
+-- the set's path is met: where it starts above the choice at x and both have a number on it, one is on it
+abbrev pub IsMetBy : Table → ℕ → List PathSet → List PathSet → List Common → PathSet → Type 0
+IsMetBy t x ours theirs common s = StartsInEntries t x s.path → (n : ℤ) → IsInBoth ours theirs s.path n → IsOn common s.path
 
--- ---- one path after another
+-- the least numbers on the paths of some sets were added, in order
+pub record AreGathered (t : Table) (x : ℕ) (ours theirs some : List PathSet) (old new : List Common) : Type 0 where
+  pub each : AllByRecursion (IsLeastInBoth t x ours theirs) old → AllByRecursion (IsLeastInBoth t x ours theirs) new
+  pub kept : (path : Steps) → IsOn old path → IsOn new path
+  pub added : AllByRecursion (IsMetBy t x ours theirs new) some
+  pub once : AreDistinct (paths_of old) → AreDistinct (paths_of new)
+  pub in_order : AreInOrder (texts_of t old) → AreInOrder (texts_of t new)
 
--- the number on a path put among others, where there is one
-abbrev pub put_found : Table → List Common → Steps → Option ℤ → List Common
-put_found t common path None = common
-put_found t common path (Some n) = put_in_order t common (record { path = path; number = n })
+-- the least numbers of both lists, in order
+pub record AreLeastInBoth (t : Table) (x : ℕ) (ours theirs : List PathSet) (common : List Common) : Type 0 where
+  pub each : AllByRecursion (IsLeastInBoth t x ours theirs) common
+  pub of_ours : AllByRecursion (IsMetBy t x ours theirs common) ours
+  pub of_theirs : AllByRecursion (IsMetBy t x ours theirs common) theirs
+  pub once : AreDistinct (paths_of common)
+  pub in_order : AreInOrder (texts_of t common)
 
--- the least number on a path put among others, where the path starts above the choice at x and no number is on it
-abbrev pub with_path : Table → (x : ℕ) → (Steps → Option ℤ) → List Common → Steps → List Common
-with_path t x least common path = if starts_above t x path then (if is_on common path then common else put_found t common path (least path)) else common
-
--- the same with the paths of some constraints, one after another
-abbrev pub with_paths : Table → (x : ℕ) → (Steps → Option ℤ) → List Common → List Constraint → List Common
-with_paths t x least common some = fold (λ old (c : Constraint). with_path t x least old c.path) common some
+-- a number was added, before the first one whose path has a later text
+abbrev pub IsAddedInOrder : Table → Common → List Common → List Common → Type 0
+IsAddedInOrder t c old new = new ≡ insert old (count_up_to (texts_of t old) (path_text t c.path)) c

@@ -1,11 +1,10 @@
 pub mod Laws
 pub mod Example
 pub mod Pairs
-pub mod LeastNumbers
 pub mod FirstOverlap
 pub mod Underived
 pub mod Used
 pub mod PathTexts
 pub mod Common
-pub mod Index
+pub mod Marks
 pub mod Notes

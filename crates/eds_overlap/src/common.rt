@@ -1,17 +1,15 @@
 //! The numbers that the entries of two containers can have in both.
 
-ghost use Rattle.std.specs.Prelude.{◌≡◌, ◌≤◌, IfOk, OnOk, length};
-ghost use Rattle.eds_types.specs.Fields.{constraints_along};
-ghost use Rattle.eds_overlap.specs.Common.{common_of, is_on as is_among, least_of_both, texts_of, with_path, with_paths};
-ghost use Rattle.eds_overlap.specs.Pairs.{AreSets, constraints_among};
+ghost use Rattle.std.specs.Prelude.{◌≡◌, ◌∷◌, [], ℤ, ◌≤ℤ◌, ◌≤◌, ◌↔◌, IsTrue, IfOk, OnOk, IfSome, IfNone, length};
+ghost use Rattle.eds_overlap.specs.Common.{AreGathered, AreLeastInBoth, IsInBoth, IsOn, texts_of};
 ghost use Rattle.eds_overlap.specs.PathTexts.{count_up_to};
 
-use crate::find::{Pair, starts_in};
+use crate::find::starts_in;
 use crate::paths::{find_set, is_same};
 use crate::sets::copied_path;
 use crate::texts::path_text;
 use eds_base::{Items, Memory, Text, TypeId};
-use eds_types::{Constraint, EntryPath, PathSet, TypeTable};
+use eds_types::{EntryPath, PathSet, TypeTable};
 use std::alloc::Global;
 
 /// The least number that the entry on a path can have in both of two containers.
@@ -28,94 +26,64 @@ struct Gathered {
     common: Vec<Common>,
 }
 
-/// The least common number of each path that starts above the choice at which two containers part and that a constraint of
-/// one of them is on, in the order of the paths' texts. The sets are those of the first and of the second.
+/// The least common number of each path that starts above a choice and that has a set in one of the lists, in the order
+/// of the paths' texts.
 pub(crate) fn common_numbers(
     alloc: Global,
     table: &TypeTable,
-    pair: Pair,
+    id: TypeId,
     ours: &[PathSet],
     theirs: &[PathSet],
 ) -> Result<Items<Common>, Memory>
-    requires ours { AreSets table.now (constraints_along table.now pair.first.0) ours.now }
-    requires theirs { AreSets table.now (constraints_along table.now pair.second.0) theirs.now }
-    ensures { IfOk result (λ common. common ≡ common_of table.now pair.ancestor.0 pair.first.0 pair.second.0) }
+    ensures { IfOk result (λ common. AreLeastInBoth table.now id.0 ours.now theirs.now common) }
 {
-    let ancestor = pair.ancestor;
     let mut gathered = Gathered {
         texts: Vec::new(alloc),
         common: Vec::new(alloc),
     };
-    let first = table.chain_of(pair.first);
-    let first = first.as_slice();
-    add_among(alloc, table, ancestor, first, ours, theirs, &mut gathered)?;
-    let second = table.chain_of(pair.second);
-    let second = second.as_slice();
-    add_among(alloc, table, ancestor, second, ours, theirs, &mut gathered)?;
+    add_sets(alloc, table, id, ours, ours, theirs, &mut gathered)?;
+    add_sets(alloc, table, id, theirs, ours, theirs, &mut gathered)?;
     Ok(Items::from_vec(gathered.common))
 }
 
-// Adds the least numbers on the paths of the constraints of some types.
-fn add_among(
+// Adds the least numbers on the paths of some sets.
+fn add_sets(
     alloc: Global,
     table: &TypeTable,
-    ancestor: TypeId,
-    ids: &[TypeId],
+    id: TypeId,
+    some: &[PathSet],
     ours: &[PathSet],
     theirs: &[PathSet],
     gathered: &mut Gathered,
 ) -> Result<(), Memory>
     requires { gathered.old.texts.items ≡ texts_of table.now gathered.old.common.items }
     ensures texts { OnOk result (gathered.new.texts.items ≡ texts_of table.now gathered.new.common.items) }
-    ensures added { OnOk result (gathered.new.common.items ≡ with_paths table.now ancestor.0 (least_of_both ours.now theirs.now) gathered.old.common.items (constraints_among table.now ids.now)) }
+    ensures added { OnOk result (AreGathered table.now id.0 ours.now theirs.now some.now gathered.old.common.items gathered.new.common.items) }
 {
-    let mut rest = ids;
-    while let [id, after @ ..] = rest {
-        let constraints = table.constraints_of(*id);
-        add_paths(alloc, table, ancestor, constraints, ours, theirs, gathered)?;
+    let mut rest = some;
+    while let [one, after @ ..] = rest {
+        add_set(alloc, table, id, one, ours, theirs, gathered)?;
         rest = after;
     }
     Ok(())
 }
 
-// Adds the least numbers on the paths of some constraints.
-fn add_paths(
+// Adds the least number on the path of a set, at its place in the order, if the path starts above the choice and isn't there.
+fn add_set(
     alloc: Global,
     table: &TypeTable,
-    ancestor: TypeId,
-    constraints: &[Constraint],
+    id: TypeId,
+    one: &PathSet,
     ours: &[PathSet],
     theirs: &[PathSet],
     gathered: &mut Gathered,
 ) -> Result<(), Memory>
     requires { gathered.old.texts.items ≡ texts_of table.now gathered.old.common.items }
     ensures texts { OnOk result (gathered.new.texts.items ≡ texts_of table.now gathered.new.common.items) }
-    ensures added { OnOk result (gathered.new.common.items ≡ with_paths table.now ancestor.0 (least_of_both ours.now theirs.now) gathered.old.common.items constraints.now) }
+    ensures added { OnOk result (AreGathered table.now id.0 ours.now theirs.now (one.now ∷ []) gathered.old.common.items gathered.new.common.items) }
 {
-    let mut rest = constraints;
-    while let [constraint, after @ ..] = rest {
-        let path = constraint.path.as_slice();
-        add_path(alloc, table, ancestor, path, ours, theirs, gathered)?;
-        rest = after;
-    }
-    Ok(())
-}
-
-// Adds the least number on a path, at its place in the order, if the path starts above the choice and isn't there.
-fn add_path(
-    alloc: Global,
-    table: &TypeTable,
-    ancestor: TypeId,
-    path: &[(TypeId, u16)],
-    ours: &[PathSet],
-    theirs: &[PathSet],
-    gathered: &mut Gathered,
-) -> Result<(), Memory>
-    requires { gathered.old.texts.items ≡ texts_of table.now gathered.old.common.items }
-    ensures texts { OnOk result (gathered.new.texts.items ≡ texts_of table.now gathered.new.common.items) }
-    ensures added { OnOk result (gathered.new.common.items ≡ with_path table.now ancestor.0 (least_of_both ours.now theirs.now) gathered.old.common.items path.now) }
-{
-    if !starts_in(table, ancestor, path) || is_on(gathered.common.as_slice(), path) {
+    let path = one.path.as_slice();
+    if !starts_in(table, id, path) || is_on(gathered.common.as_slice(), path) {
         return Ok(());
     }
     let Some(number) = least_in_both(ours, theirs, path) else {
@@ -148,7 +116,7 @@ fn place_of(texts: &[Text], text: &str) -> usize
 
 // Whether one of the numbers is on a path.
 fn is_on(common: &[Common], path: &[(TypeId, u16)]) -> bool
-    ensures { result ≡ is_among common.now path.now }
+    ensures { IsTrue result ↔ IsOn common.now path.now }
 {
     let mut rest = common;
     while let [one, after @ ..] = rest {
@@ -162,7 +130,9 @@ fn is_on(common: &[Common], path: &[(TypeId, u16)]) -> bool
 
 // The least number on a path that the sets of both lists have, or that of the one that has a set there.
 fn least_in_both(ours: &[PathSet], theirs: &[PathSet], path: &[(TypeId, u16)]) -> Option<i128>
-    ensures { result ≡ least_of_both ours.now theirs.now path.now }
+    ensures some { IfSome result (λ n. IsInBoth ours.now theirs.now path.now n) }
+    ensures least { IfSome result (λ n. (m : ℤ) → IsInBoth ours.now theirs.now path.now m → n ≤ℤ m) }
+    ensures none { IfNone result ((m : ℤ) → IsInBoth ours.now theirs.now path.now m → ⊥) }
 {
     match (find_set(ours, path), find_set(theirs, path)) {
         (Some(set), Some(other)) => set.first_common(other),

@@ -1,19 +1,17 @@
 //! The first two containers whose values can't be told apart.
 
-ghost use Rattle.std.specs.Prelude.{◌≡◌, ◌≤◌, ◌∷◌, [], ℕ, false, ℤ, ◌≤ℤ◌, ◌<◌, ◌↔◌, length, map, slice_get, Some, IsTrue, IfOk, IfSome, IfNone};
+ghost use Rattle.std.specs.Prelude.{◌≡◌, ℕ, ℤ, ◌≤ℤ◌, ◌<◌, ◌↔◌, length, map, slice_get, Some, IsTrue, IfOk, IfSome, IfNone};
 ghost use Rattle.std.specs.List.{AllByRecursion};
 ghost use Rattle.eds_base.specs.Spans.{IsWithin};
 ghost use Rattle.eds_types.specs.Rows.{list_has};
 ghost use Rattle.eds_types.specs.Reading.{starts_above};
 ghost use Rattle.eds_types.specs.Overlap.{Overlapping};
-ghost use Rattle.eds_overlap.specs.FirstOverlap.{first_overlap};
-ghost use Rattle.eds_overlap.specs.Index.{AreListed, AreMetWith, IsReached, MayMeet};
+ghost use Rattle.eds_overlap.specs.Common.{AreLeastCommon};
+ghost use Rattle.eds_overlap.specs.Marks.{AreMarks};
 ghost use Rattle.eds_overlap.specs.Pairs.{AllSets, Meets, Agrees, ArePartedAt, IsReadThrough, Named, IsWithinOn, IsFirstPair, IsFirstWith, set_on, shared, numbers_of, has_used};
 
 use crate::common::{Common, common_numbers};
-use crate::index::{
-    Places, all_key, family_of, free_key, held_key, listed, mark_of, models_of, place_all,
-};
+use crate::marks::{Mark, all_marks, are_told_apart};
 use crate::paths::find_set;
 use crate::sets::solution_sets;
 use eds_base::{Items, Memory, TypeId};
@@ -32,10 +30,10 @@ pub struct Overlap {
 
 // Two containers that overlap, and the nearest base that both have.
 #[derive(Clone, Copy)]
-pub(crate) struct Pair {
-    pub first: TypeId,
-    pub second: TypeId,
-    pub ancestor: TypeId,
+struct Pair {
+    first: TypeId,
+    second: TypeId,
+    ancestor: TypeId,
 }
 
 /// The first two containers that overlap where these types are used: of all such pairs the one with the least second, and
@@ -45,26 +43,26 @@ pub fn find_overlap(
     table: &TypeTable,
     used: &Used,
 ) -> Result<Option<Overlap>, Memory>
-    ensures { IfOk result (λ found. found ≡ first_overlap table.now used.now) }
+    ensures found { IfOk result (λ found. IfSome found (λ o. IsFirstPair table.now (Named used.now) o.ancestor.0 o.first.0 o.second.0)) }
+    ensures common { IfOk result (λ found. IfSome found (λ o. AreLeastCommon table.now o.ancestor.0 o.first.0 o.second.0 o.common)) }
+    ensures none { IfOk result (λ found. IfNone found ((x k l : ℕ) → Overlapping table.now (Named used.now) x k l → ⊥)) }
 {
-    table.keeps_rules();
     let sets = all_sets(alloc, table)?;
     let sets = sets.as_slice();
-    let found = first_pair(alloc, table, used.as_slice(), sets)?;
-    match found {
-        None => Ok(None),
-        Some(pair) => {
-            let ours = sets[pair.first.0 as usize].as_slice();
-            let theirs = sets[pair.second.0 as usize].as_slice();
-            let common = common_numbers(alloc, table, pair, ours, theirs)?;
-            Ok(Some(Overlap {
-                first: pair.first,
-                second: pair.second,
-                ancestor: pair.ancestor,
-                common,
-            }))
-        }
-    }
+    let marks = all_marks(alloc, table, sets)?;
+    let marks = marks.as_slice();
+    let Some(pair) = first_pair(table, used.as_slice(), sets, marks) else {
+        return Ok(None);
+    };
+    let ours = sets[pair.first.0 as usize].as_slice();
+    let theirs = sets[pair.second.0 as usize].as_slice();
+    let common = common_numbers(alloc, table, pair.ancestor, ours, theirs)?;
+    Ok(Some(Overlap {
+        first: pair.first,
+        second: pair.second,
+        ancestor: pair.ancestor,
+        common,
+    }))
 }
 
 // How many types two chains have in common at their front.
@@ -197,16 +195,21 @@ fn overlap_of(
     table: &TypeTable,
     used: &[TypeId],
     sets: &[Sets],
+    marks: &[Option<Mark>],
     first: TypeId,
     second: TypeId,
 ) -> Option<TypeId>
     requires sets { AllSets table.now sets.now }
+    requires marks { AreMarks sets.now marks.now }
     requires first { first.0 < length table.now }
     requires second { second.0 < length table.now }
     ensures some { IfSome result (λ x. Overlapping table.now (Named used.now) x.0 first.0 second.0) }
     ensures none { IfNone result ((x : ℕ) → Overlapping table.now (Named used.now) x first.0 second.0 → ⊥) }
 {
     table.keeps_rules();
+    if are_told_apart(&marks[first.0 as usize], &marks[second.0 as usize]) {
+        return None;
+    }
     if !table.is_concrete(first) || !table.is_concrete(second) {
         return None;
     }
@@ -239,138 +242,55 @@ fn met_at(
     }
 }
 
-// Whether what was found is a type or comes before it.
-fn is_reached(best: Option<Pair>, first: TypeId) -> bool
-    ensures yes { IsTrue result → IsReached best first.0 }
-    ensures no { result ≡ false → (k : ℕ) → IsReached best k → first.0 ≤ k }
-{
-    match best {
-        Some(pair) => pair.first.0 <= first.0,
-        None => false,
-    }
-}
-
-// What was found, or a type before another one with which it overlaps, if it comes earlier.
-fn better(
-    table: &TypeTable,
-    used: &[TypeId],
-    sets: &[Sets],
-    first: TypeId,
-    second: TypeId,
-    best: Option<Pair>,
-) -> Option<Pair>
-    requires sets { AllSets table.now sets.now }
-    requires second { second.0 < length table.now }
-    ensures { AreMetWith table.now (Named used.now) second.0 (first ∷ []) best result }
-{
-    if second.0 <= first.0 || is_reached(best, first) {
-        return best;
-    }
-    match overlap_of(table, used, sets, first, second) {
-        Some(ancestor) => Some(Pair {
-            first,
-            second,
-            ancestor,
-        }),
-        None => best,
-    }
-}
-
-// What was found, or the first of some types before another one with which it overlaps, if it comes earlier.
-fn first_among(
-    table: &TypeTable,
-    used: &[TypeId],
-    sets: &[Sets],
-    ids: &[TypeId],
-    second: TypeId,
-    best: Option<Pair>,
-) -> Option<Pair>
-    requires sets { AllSets table.now sets.now }
-    requires second { second.0 < length table.now }
-    ensures { AreMetWith table.now (Named used.now) second.0 ids.now best result }
-{
-    let mut found = best;
-    let mut rest = ids;
-    while let [first, after @ ..] = rest {
-        found = better(table, used, sets, *first, second, found);
-        rest = after;
-    }
-    found
-}
-
-// The lists of the containers that may overlap with one: those of its family with its numbers and those without a mark; or, where
-// it has no mark, its whole family.
-fn may_meet<'a>(
-    alloc: Global,
-    table: &TypeTable,
-    sets: &[Sets],
-    models: &[TypeId],
-    places: &'a Places,
-    id: TypeId,
-) -> Result<(&'a [TypeId], &'a [TypeId]), Memory>
-    ensures { IfOk result (λ lists. MayMeet table.now sets.now models.now places.now id.0 lists.0.now lists.1.now) }
-{
-    let family = family_of(table, id);
-    match mark_of(alloc, table, sets, models, id)? {
-        Some(numbers) => {
-            let held = held_key(alloc, family, numbers.as_slice())?;
-            let free = free_key(alloc, family)?;
-            Ok((listed(places, held.as_str()), listed(places, free.as_str())))
-        }
-        None => {
-            let all = all_key(alloc, family)?;
-            Ok((listed(places, all.as_str()), &[]))
-        }
-    }
-}
-
 // The first of the types before another one with which it overlaps.
 fn first_with(
-    alloc: Global,
     table: &TypeTable,
     used: &[TypeId],
     sets: &[Sets],
-    models: &[TypeId],
-    places: &Places,
+    marks: &[Option<Mark>],
     second: TypeId,
-) -> Result<Option<Pair>, Memory>
+) -> Option<Pair>
     requires sets { AllSets table.now sets.now }
-    requires places { AreListed table.now sets.now models.now (length table.now) places.now }
+    requires marks { AreMarks sets.now marks.now }
     requires second { second.0 < length table.now }
-    ensures some { IfOk result (λ r. IfSome r (λ p. (p.second ≡ second) × IsFirstWith table.now (Named used.now) p.ancestor.0 p.first.0 second.0)) }
-    ensures none { IfOk result (λ r. IfNone r ((x k : ℕ) → k < second.0 → Overlapping table.now (Named used.now) x k second.0 → ⊥)) }
+    ensures some { IfSome result (λ p. (p.second ≡ second) × IsFirstWith table.now (Named used.now) p.ancestor.0 p.first.0 second.0) }
+    ensures none { IfNone result ((x k : ℕ) → k < second.0 → Overlapping table.now (Named used.now) x k second.0 → ⊥) }
 {
-    table.keeps_rules();
-    if !table.is_concrete(second) {
-        return Ok(None);
+    for first in 0..second.0 {
+        let first = TypeId(first);
+        match overlap_of(table, used, sets, marks, first, second) {
+            Some(ancestor) => {
+                return Some(Pair {
+                    first,
+                    second,
+                    ancestor,
+                });
+            }
+            None => {}
+        }
     }
-    let (near, others) = may_meet(alloc, table, sets, models, places, second)?;
-    let found = first_among(table, used, sets, near, second, None);
-    Ok(first_among(table, used, sets, others, second, found))
+    None
 }
 
 // The first pair of types that overlap.
 fn first_pair(
-    alloc: Global,
     table: &TypeTable,
     used: &[TypeId],
     sets: &[Sets],
-) -> Result<Option<Pair>, Memory>
-    requires { AllSets table.now sets.now }
-    ensures some { IfOk result (λ r. IfSome r (λ p. IsFirstPair table.now (Named used.now) p.ancestor.0 p.first.0 p.second.0)) }
-    ensures none { IfOk result (λ r. IfNone r ((x k l : ℕ) → Overlapping table.now (Named used.now) x k l → ⊥)) }
+    marks: &[Option<Mark>],
+) -> Option<Pair>
+    requires sets { AllSets table.now sets.now }
+    requires marks { AreMarks sets.now marks.now }
+    ensures some { IfSome result (λ p. IsFirstPair table.now (Named used.now) p.ancestor.0 p.first.0 p.second.0) }
+    ensures none { IfNone result ((x k l : ℕ) → Overlapping table.now (Named used.now) x k l → ⊥) }
 {
-    let models = models_of(alloc, table, sets)?;
-    let models = models.as_slice();
-    let places = place_all(alloc, table, sets, models)?;
     for second in 0..table.len() {
-        let second = TypeId(second);
-        let found = first_with(alloc, table, used, sets, models, &places, second)?;
-        if found.is_some() {
-            return Ok(found);
+        match first_with(table, used, sets, marks, TypeId(second)) {
+            Some(pair) => return Some(pair),
+            None => {}
         }
     }
-    Ok(None)
+    None
 }
 
 // The solution sets of all types.

@@ -3,8 +3,8 @@
 
 mod common;
 mod find;
-mod index;
 pub mod law;
+mod marks;
 mod note;
 mod paths;
 mod sets;

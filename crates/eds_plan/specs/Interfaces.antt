@@ -9,7 +9,6 @@ abbrev pub type_named : List (List ℕ × TypeId) → List ℕ → Option ℕ
 type_named [] name = None
 type_named (p ∷ ps) name = if same p.0 name then Some (p.1).0 else type_named ps name
 
--- two types that may be there are one, or neither is there
 abbrev pub same_type : Option ℕ → Option ℕ → Bool
 same_type None None = true
 same_type None (Some b) = false

@@ -10,8 +10,7 @@ ghost use Rattle.eds_read_comp.specs.ParameterMaps.{broken as broken_at, map_nod
 
 use crate::variable::{VariableHead, implemented};
 use eds_base::{Kept, Memory, Place, Refusal, Rule, Text};
-use eds_generic::{place, text_of};
-use eds_names::NameList;
+use eds_generic::{GenericNames, place, text_of};
 use eds_plan::{EndPlan, MapPlan, Member};
 use eds_tree::Tree;
 use indexmap::IndexSet;
@@ -31,8 +30,8 @@ pub(crate) struct Mapping {
 pub(crate) struct Held<'a> {
     pub(crate) ends: &'a [EndPlan],
     pub(crate) variables: &'a [VariableHead],
-    end_names: NameList,
-    variable_names: NameList,
+    end_names: GenericNames,
+    variable_names: GenericNames,
     ghost named: { end_names ≡ map (λ (e : end_type). e.name) ends.now },
     ghost headed: { variable_names ≡ map (λ (v : head_type). v.name) variables.now },
 }
@@ -67,8 +66,8 @@ impl<'a> Held<'a> {
         ensures ends { IfOk result (λ h. h.ends.now ≡ ends.now) }
         ensures variables { IfOk result (λ h. h.variables.now ≡ variables.now) }
     {
-        let end_names = NameList::of(alloc, end_names(alloc, ends)?)?;
-        let variable_names = NameList::of(alloc, variable_names(alloc, variables)?)?;
+        let end_names = GenericNames::of(alloc, end_names(alloc, ends)?)?;
+        let variable_names = GenericNames::of(alloc, variable_names(alloc, variables)?)?;
         Ok(Held {
             ends,
             variables,

@@ -1,6 +1,7 @@
 -- The bases of a type, step by step.
-use Rattle.std.proofs.Common.{◌≡◌, ℕ, zero, suc, ◌+◌, ◌-◌, ◌<◌, ◌≤◌, ◌==◌, ◌||◌, ◌++◌, length, map, drop, get_or, slice_get, add-one, drop-cons, Bool, true, false, List, [], ◌∷◌, Option, Some, None, refl, sym, ap, ◌∙◌, arith, inl, inr}
+use Rattle.std.proofs.Common.{◌≡◌, ℕ, zero, suc, ◌+◌, ◌-◌, ◌<◌, ◌≤◌, ◌==◌, ◌||◌, ◌++◌, length, map, drop, get_or, slice_get, add-one, drop-cons, nat_le, Bool, true, false, List, [], ◌∷◌, Option, Some, None, refl, sym, ap, ◌∙◌, arith, inl, inr}
 use Rattle.std.specs.List.{list_any, range_with_len}
+use Rattle.std.proofs.Math.Dec.{leb-zero, leb-suc-zero, leb-suc-suc}
 use Rattle.std.proofs.lemmas.List.FromFn.{map-range_with_len_more, get_or-map-range_with_len, length-map-range_with_len}
 use Rattle.std.proofs.lemmas.Option.{slice_get_within, slice_get-get_or, slice_get_past, slice_get_cases}
 use Rattle.eds_base.specs.declared.ids.Place.{Place}
@@ -50,6 +51,22 @@ other-is a b h = go (a == b) refl
     go : (c : Bool) → (a == b) ≡ c → c ≡ false
     go true e = absurd (h (eqb-true a b e))
     go false e = refl
+
+-- ---- the number of bases
+
+pub long-zero : (most n : ℕ) → most ≡ 0 → true ≡ nat_le most n
+long-zero most n e = sym (ap (λ m. nat_le m n) e ∙ leb-zero n)
+
+pub long-end : (most : ℕ) (bases : List (Option TypeId)) (id : ℕ) → 0 < most → base_at bases id ≡ None → false ≡ nat_le most (length (bases_within most bases id))
+long-end zero bases id lt e = absurd (omega arith)
+long-end (suc n) bases id lt e = sym (ap (λ ids. nat_le (suc n) (length ids)) (bases-end (suc n) bases id e) ∙ leb-suc-zero n)
+
+pub long-next : (most : ℕ) (bases : List (Option TypeId)) (id : ℕ) (base : TypeId) → 0 < most → base_at bases id ≡ Some base
+    → nat_le (most - 1) (length (bases_within (most - 1) bases base.0)) ≡ nat_le most (length (bases_within most bases id))
+long-next zero bases id base lt e = absurd (omega arith)
+long-next (suc n) bases id base lt e =
+    let back : suc n - 1 ≡ n = omega arith in
+    rw back (sym (ap (λ ids. nat_le (suc n) (length ids)) (bases-next (suc n) bases id base lt e ∙ ap (λ m. base.0 ∷ bases_within m bases base.0) back) ∙ leb-suc-suc n (length (bases_within n bases base.0))))
 
 -- ---- what is noted of each type
 

@@ -1,16 +1,14 @@
--- Chains of bases in a sheet whose types are not their own bases, and whose chains are short.
-use Rattle.std.proofs.Common.{◌≡◌, ℕ, zero, suc, ◌+◌, ◌<◌, Bool, true, false, ◌==◌, List, [], ◌∷◌, length, slice_get, Option, Some, None, refl, sym, ap, subst, ◌∙◌, arith}
-use Rattle.std.specs.Prelude.{nat_le, if◌then◌else◌}
+-- Chains of bases in a sheet whose types are not their own bases and whose chains are short.
+use Rattle.std.proofs.Common.{◌≡◌, ℕ, zero, suc, ◌+◌, ◌<◌, Bool, true, false, ◌==◌, ◌&&◌, List, [], ◌∷◌, length, slice_get, Option, Some, None, refl, sym, ap, subst, ◌∙◌, arith}
+use Rattle.std.specs.Prelude.{nat_le, not, if◌then◌else◌}
 use Rattle.std.specs.List.{flat_map, list_any}
 use Rattle.std.proofs.lemmas.Bool.Decides.{nat_tests}
 use Rattle.eds_base.specs.declared.ids.Place.{Place}
 use Rattle.eds_base.specs.declared.ids.TypeId.{TypeId}
 use Rattle.eds_base.specs.declared.refusal.Refusal.{Refusal}
-use Rattle.eds_read_types.specs.Bases.{base_at, bases_above, bases_within, is_in_cycle, breaks_over}
-use Rattle.eds_types.specs.Rows.{Table, number_of_id, base_of, chain_within}
-use Rattle.eds_read_types.specs.LimitChain.{is_long}
+use Rattle.eds_read_types.specs.Bases.{base_at, bases_above, bases_within, all_bases, is_in_cycle, breaks_over}
+use Rattle.eds_read_types.specs.LimitChain.{meets_cycle, is_long, chain_at}
 use Rattle.eds_read_types.specs.BaseCycle.{cycle_at}
-use Rattle.eds_read_types.proofs.ChainSteps.{chain_alone, chain_more, chain_none}
 use Rattle.eds_read_types.proofs.NoBreaks.{append-none}
 
 -- ---- rules that are broken nowhere
@@ -30,6 +28,10 @@ each-none f (y ∷ ys) h (suc k) x e = let p = append-none (f y) (flat_map f ys)
 pub unmet : (b : Bool) (r : Refusal) → (if b then r ∷ [] else []) ≡ [] → b ≡ false
 unmet true r h = absurd cc
 unmet false r h = refl
+
+none-any : (p : ℕ → Bool) → ((x : ℕ) → p x ≡ false) → (xs : List ℕ) → list_any p xs ≡ false
+none-any p h [] = refl
+none-any p h (x ∷ xs) = rw (h x) (none-any p h xs)
 
 -- ---- bases
 
@@ -65,51 +67,38 @@ bases_stay bases (suc n) id h = go (bases_stay bases n) (base_at bases id) refl
 unfoldable pub level : List (Option TypeId) → ℕ → ℕ
 level bases id = length (bases_within 16 bases id)
 
--- a type without a base has none
-pub level_none : (bases : List (Option TypeId)) (id : ℕ) → base_at bases id ≡ None → level bases id ≡ 0
-unfolding level
-level_none bases id e = ap length (no_bases bases 16 id e)
-
--- the rule on circles of bases is broken nowhere
-pub in_no_cycle : (bases : List (Option TypeId)) (places : List Place) → ((id : ℕ) → slice_get places id ≡ None → base_at bases id ≡ None) → breaks_over (cycle_at bases) 0 places ≡ [] → (id : ℕ) → is_in_cycle bases id ≡ false
-in_no_cycle bases places known no_cycles id = go (slice_get places id) refl
-  where
-    go : (o : Option Place) → slice_get places id ≡ o → is_in_cycle bases id ≡ false
-    go None e = ap (list_any (λ base. base == id)) (no_bases bases (length bases) id (known id e))
-    go (Some at) e = unmet (is_in_cycle bases id) _ (over-none (cycle_at bases) 0 places no_cycles id at e id (omega arith))
-
--- where chains are short the base has one base less
-pub less_bases : (bases : List (Option TypeId)) → ((id : ℕ) → level bases id < 16) → (id : ℕ) (base : TypeId) → base_at bases id ≡ Some base → level bases id ≡ suc (level bases base.0)
-unfolding level
-less_bases bases low id base e =
-    let few = low id in
-    let whole = ap length (bases_step bases 15 id base e) in
-    let stays = ap length (bases_stay bases 15 base.0 (omega (arith, few, whole))) in
-    whole ∙ ap suc (sym stays)
-
--- ---- chains in a table
-
-module _ (t : Table) (bases : List (Option TypeId)) (alike : (id : ℕ) → base_of t id ≡ number_of_id (base_at bases id)) where
-  -- a chain has one type more than the type has bases
-  chain_length : (n id : ℕ) → length (chain_within (suc n) t id) ≡ suc (length (bases_within n bases id))
-  chain_length zero id = go (base_of t id) refl
+module _ (bases : List (Option TypeId)) (places : List Place) (known : (id : ℕ) → slice_get places id ≡ None → base_at bases id ≡ None)
+    (no_cycles : breaks_over (cycle_at bases) 0 places ≡ []) (no_long : breaks_over (chain_at bases) 0 places ≡ []) where
+  in_no_cycle : (id : ℕ) → is_in_cycle bases id ≡ false
+  in_no_cycle id = go (slice_get places id) refl
     where
-      go : (o : Option ℕ) → base_of t id ≡ o → length (chain_within 1 t id) ≡ suc (length (bases_within 0 bases id))
-      go None e = chain_alone 0 t id e ∙ ap (λ ids. suc (length ids)) (sym (bases_none bases id))
-      go (Some base) e = chain_more 0 t id base e ∙ (ap suc (chain_none t base) ∙ ap (λ ids. suc (length ids)) (sym (bases_none bases id)))
-  chain_length (suc n) id = go (base_at bases id) refl (chain_length n)
-    where
-      go : (o : Option TypeId) → base_at bases id ≡ o → ((id : ℕ) → length (chain_within (suc n) t id) ≡ suc (length (bases_within n bases id))) → length (chain_within (suc (suc n)) t id) ≡ suc (length (bases_within (suc n) bases id))
-      go None e up = chain_alone (suc n) t id (alike id ∙ ap number_of_id e) ∙ ap (λ ids. suc (length ids)) (sym (no_bases bases (suc n) id e))
-      go (Some base) e up = chain_more (suc n) t id base.0 (alike id ∙ ap number_of_id e) ∙ (ap suc (up base.0) ∙ ap (λ ids. suc (length ids)) (sym (bases_step bases n id base e)))
+      go : (o : Option Place) → slice_get places id ≡ o → is_in_cycle bases id ≡ false
+      go None e = ap (list_any (λ base. base == id)) (no_bases bases (length bases) id (known id e))
+      go (Some at) e = unmet (is_in_cycle bases id) _ (over-none (cycle_at bases) 0 places no_cycles id at e id (omega arith))
 
-  -- a type whose chain isn't long has fewer than 16 bases
-  pub low_by_chain : (id : ℕ) → is_long t id ≡ false → level bases id < 16
+  meets_none : (id : ℕ) → meets_cycle bases id ≡ false
+  meets_none id = none-any (is_in_cycle bases) in_no_cycle (id ∷ all_bases bases id)
+
+  pub few_bases : (id : ℕ) → level bases id < 16
   unfolding level
-  low_by_chain id h =
-      let long = chain_length 16 id in
-      let few = below (length (chain_within 17 t id)) h in
-      omega (arith, long, few)
+  few_bases id = go (slice_get places id) refl
     where
-      below : (n : ℕ) → nat_le 17 n ≡ false → n < 17
-      below n e = grind (arith, nat_tests)
+      short : (a b : Bool) → b ≡ false → (a && not b) ≡ false → a ≡ false
+      short true b e h = let no : (true && not false) ≡ false = subst (λ x. (true && not x) ≡ false) e h in cc
+      short false b e h = refl
+
+      below : (n : ℕ) → nat_le 16 n ≡ false → n < 16
+      below n h = grind (arith, nat_tests)
+
+      go : (o : Option Place) → slice_get places id ≡ o → length (bases_within 16 bases id) < 16
+      go None e = let len = ap length (no_bases bases 16 id (known id e)) in omega (arith, len)
+      go (Some at) e = below (length (bases_within 16 bases id)) (short (is_long bases id) (meets_cycle bases id) (meets_none id) (unmet (is_long bases id && not (meets_cycle bases id)) _ (over-none (chain_at bases) 0 places no_long id at e id (omega arith))))
+
+  -- the base has one base less
+  pub less_bases : (id : ℕ) (base : TypeId) → base_at bases id ≡ Some base → level bases id ≡ suc (level bases base.0)
+  unfolding level
+  less_bases id base e =
+      let few = few_bases id in
+      let whole = ap length (bases_step bases 15 id base e) in
+      let stays = ap length (bases_stay bases 15 base.0 (omega (arith, few, whole))) in
+      whole ∙ ap suc (sym stays)

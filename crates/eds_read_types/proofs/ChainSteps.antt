@@ -1,11 +1,9 @@
--- Whether a type is in the chain of another, and how long a chain is, base by base.
-use Rattle.std.proofs.Common.{◌≡◌, ℕ, zero, suc, ◌-◌, ◌<◌, ◌==◌, ◌||◌, ◌++◌, nat_le, length, Bool, true, false, cond, List, [], ◌∷◌, Some, None, refl, sym, ap, ◌∙◌, arith}
-use Rattle.std.proofs.Math.Dec.{leb-suc-zero, leb-suc-suc}
-use Rattle.std.proofs.lemmas.Bool.{eq-eqb, eqb-true}
-use Rattle.std.proofs.lemmas.List.{length-append}
+-- Whether a type is in the chain of another, base by base.
+use Rattle.std.proofs.Common.{◌≡◌, ℕ, zero, suc, ◌-◌, ◌<◌, ◌==◌, ◌||◌, ◌++◌, Bool, true, false, cond, List, [], ◌∷◌, Option, Some, None, refl, sym, ap, ◌∙◌, arith}
+use Rattle.std.proofs.lemmas.Bool.{eq-eqb}
 use Rattle.eds_types.specs.Rows.{Table, base_of, chain_before, chain_within, list_has}
 
-pub has-last : (xs : List ℕ) (id y : ℕ) → list_has (xs ++ id ∷ []) y ≡ (list_has xs y || (id == y))
+has-last : (xs : List ℕ) (id y : ℕ) → list_has (xs ++ id ∷ []) y ≡ (list_has xs y || (id == y))
 has-last [] id y = go (id == y)
   where
     go : (b : Bool) → cond b true false ≡ (false || b)
@@ -46,41 +44,3 @@ above_on zero t id y base some other e = absurd (omega arith)
 above_on (suc n) t id y base some other e =
     let back : suc n - 1 ≡ n = omega arith in
     rw back (sym (has-last (chain_before (chain_within n t) (base_of t id)) id y ∙ ap (λ b. list_has (chain_before (chain_within n t) (base_of t id)) y || b) other ∙ or_false (list_has (chain_before (chain_within n t) (base_of t id)) y) ∙ ap (λ o. list_has (chain_before (chain_within n t) o) y) e))
-
--- ---- lengths
-
-one_more : (xs : List ℕ) (id : ℕ) → length (xs ++ id ∷ []) ≡ suc (length xs)
-one_more xs id = let long = length-append xs (id ∷ []) in omega (arith, long)
-
--- the chain of a type without a base is itself
-pub chain_alone : (n : ℕ) (t : Table) (id : ℕ) → base_of t id ≡ None → length (chain_within (suc n) t id) ≡ 1
-unfolding chain_within
-chain_alone n t id e = one_more (chain_before (chain_within n t) (base_of t id)) id ∙ ap (λ o. suc (length (chain_before (chain_within n t) o))) e
-
--- any other has one type more than its base's
-pub chain_more : (n : ℕ) (t : Table) (id base : ℕ) → base_of t id ≡ Some base → length (chain_within (suc n) t id) ≡ suc (length (chain_within n t base))
-unfolding chain_within
-chain_more n t id base e = one_more (chain_before (chain_within n t) (base_of t id)) id ∙ ap (λ o. suc (length (chain_before (chain_within n t) o))) e
-
--- no type of a chain is counted
-pub chain_none : (t : Table) (id : ℕ) → length (chain_within 0 t id) ≡ 0
-unfolding chain_within
-chain_none t id = refl
-
-more : (n : ℕ) → (suc (suc n) == 1) ≡ false
-more n = go (suc (suc n) == 1) refl
-  where
-    go : (b : Bool) → (suc (suc n) == 1) ≡ b → (suc (suc n) == 1) ≡ false
-    go true e = let both : suc (suc n) ≡ 1 = eqb-true (suc (suc n)) 1 e in absurd (omega (arith, both))
-    go false e = e
-
-pub many-end : (many : ℕ) (t : Table) (id : ℕ) → 0 < many → base_of t id ≡ None → (many == 1) ≡ nat_le many (length (chain_within many t id))
-many-end zero t id some e = absurd (omega arith)
-many-end (suc zero) t id some e = sym (ap (nat_le 1) (chain_alone 0 t id e))
-many-end (suc (suc n)) t id some e = more n ∙ sym (ap (nat_le (suc (suc n))) (chain_alone (suc n) t id e) ∙ (leb-suc-suc (suc n) 0 ∙ leb-suc-zero n))
-
-pub many-on : (many : ℕ) (t : Table) (id base : ℕ) → 0 < many → base_of t id ≡ Some base → nat_le (many - 1) (length (chain_within (many - 1) t base)) ≡ nat_le many (length (chain_within many t id))
-many-on zero t id base some e = absurd (omega arith)
-many-on (suc n) t id base some e =
-    let back : suc n - 1 ≡ n = omega arith in
-    rw back (sym (ap (nat_le (suc n)) (chain_more n t id base e) ∙ leb-suc-suc n (length (chain_within n t base))))

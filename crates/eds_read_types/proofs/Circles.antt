@@ -1,5 +1,4 @@
--- All bases of a type are among as many as there are types, a type that is its own base is refused as such, and where none is
--- each chain has an end.
+-- All bases of a type are among as many as there are types, and a type that is its own base is refused as such.
 use Rattle.std.proofs.Common.{◌≡◌, ℕ, zero, suc, ◌<◌, ◌≤◌, Bool, true, false, ◌==◌, ◌||◌, List, [], ◌∷◌, length, slice_get, Option, Some, None, refl, sym, ap, subst, ◌∙◌, arith}
 use Rattle.std.specs.Prelude.{eqb}
 use Rattle.std.specs.List.{AllByRecursion, IsDistinct, list_any}
@@ -11,14 +10,10 @@ use Rattle.eds_base.specs.declared.ids.Place.{Place}
 use Rattle.eds_base.specs.declared.ids.TypeId.{TypeId}
 use Rattle.eds_base.specs.declared.rule.Rule.TheVariants.{BaseCycle}
 use Rattle.eds_read_types.specs.References.{broken}
-use Rattle.eds_tree.specs.declared.tree.Node.{Node}
-use Rattle.eds_types.specs.Rows.{Table}
-use Rattle.eds_graph.specs.Ways.{is_endless}
 use Rattle.eds_read_types.specs.Bases.{base_at, bases_within, all_bases, is_in_cycle}
-use Rattle.eds_read_types.specs.Nesting.{course_of}
 use Rattle.eds_read_types.specs.BaseCycle.{cycle_at}
-use Rattle.eds_read_types.specs.LimitChain.{is_long, chain_at}
-use Rattle.eds_read_types.proofs.ChainFacts.{bases_none, bases_step, bases_stay, no_bases}
+use Rattle.eds_read_types.specs.LimitChain.{is_long, meets_cycle, chain_at}
+use Rattle.eds_read_types.proofs.ChainFacts.{bases_none, bases_step, no_bases}
 
 or_true : (b : Bool) → (b || true) ≡ true
 or_true true = refl
@@ -116,72 +111,15 @@ module _ (bases : List (Option TypeId)) where
       let w = way id l.first l.rest other l.leads in
       among (length bases) id w.first w.rest other w.leads (short id other w)
 
--- ---- chains that end
-
--- how many bases a type has, where its chain has an end
-abbrev pub depth : List (Option TypeId) → ℕ → ℕ
-depth bases id = length (bases_within (suc (length bases)) bases id)
-
-turned : (x : ℕ) (ys : List ℕ) → list_any (eqb x) ys ≡ true → list_any (λ y. y == x) ys ≡ true
-turned x [] h = absurd cc
-turned x (y ∷ ys) h = go (turned x ys) (eqb x y) refl h
-  where
-    go : (list_any (eqb x) ys ≡ true → list_any (λ y. y == x) ys ≡ true) → (b : Bool) → eqb x y ≡ b → (b || list_any (eqb x) ys) ≡ true → list_any (λ y. y == x) (y ∷ ys) ≡ true
-    go rest true e k = rw (eq-eqb y x (sym (eqb-true x y e))) refl
-    go rest false e k = rw (rest k) (or_true (y == x))
-
-module _ (bases : List (Option TypeId)) (apart : (id : ℕ) → is_in_cycle bases id ≡ false) (within : (id : ℕ) (base : TypeId) → base_at bases id ≡ Some base → base.0 < length bases) where
-  -- no type is found among its bases
-  never : (x n : ℕ) → list_any (eqb x) (bases_within n bases x) ≡ false
-  never x n = go (list_any (eqb x) (bases_within n bases x)) refl
-    where
-      go : (b : Bool) → list_any (eqb x) (bases_within n bases x) ≡ b → list_any (eqb x) (bases_within n bases x) ≡ false
-      go true e = let both : true ≡ false = sym (all_found bases x x n (turned x (bases_within n bases x) e)) ∙ apart x in absurd cc
-      go false e = e
-
-  -- no base stands twice among those of a type
-  differing : (n id : ℕ) → IsDistinct eqb (bases_within n bases id)
-  unfolding IsDistinct
-  differing zero id = subst (IsDistinct eqb) (sym (bases_none bases id)) tt
-  differing (suc n) id = go (base_at bases id) refl (differing n)
-    where
-      go : (o : Option TypeId) → base_at bases id ≡ o → ((id : ℕ) → IsDistinct eqb (bases_within n bases id)) → IsDistinct eqb (bases_within (suc n) bases id)
-      go None e up = subst (IsDistinct eqb) (sym (no_bases bases (suc n) id e)) tt
-      go (Some base) e up = subst (IsDistinct eqb) (sym (bases_step bases n id base e)) (apart_from base.0 (bases_within n bases base.0) (never base.0 n), up base.0)
-
-  all_there : (n id q : ℕ) → list_any (eqb q) (bases_within n bases id) ≡ true → q < length bases
-  all_there zero id q h = let no : false ≡ true = sym (ap (list_any (eqb q)) (bases_none bases id)) ∙ h in absurd cc
-  all_there (suc n) id q h = go (base_at bases id) refl (all_there n)
-    where
-      at : (base : TypeId) → base_at bases id ≡ Some base → ((id q : ℕ) → list_any (eqb q) (bases_within n bases id) ≡ true → q < length bases) → (b : Bool) → eqb q base.0 ≡ b → (b || list_any (eqb q) (bases_within n bases base.0)) ≡ true → q < length bases
-      at base e up true f k = subst (λ m. m < length bases) (sym (eqb-true q base.0 f)) (within id base e)
-      at base e up false f k = up base.0 q k
-
-      go : (o : Option TypeId) → base_at bases id ≡ o → ((id q : ℕ) → list_any (eqb q) (bases_within n bases id) ≡ true → q < length bases) → q < length bases
-      go None e up = let no : false ≡ true = sym (ap (list_any (eqb q)) (no_bases bases (suc n) id e)) ∙ h in absurd cc
-      go (Some base) e up = at base e up (eqb q base.0) refl (sym (ap (list_any (eqb q)) (bases_step bases n id base e)) ∙ h)
-
-  -- a type has no more bases than there are types
-  few_found : (n id : ℕ) → length (bases_within n bases id) ≤ length bases
-  few_found n id = length-le_from_distinct_below (bases_within n bases id) (length bases) (differing n id) (all_there n id)
-
-  -- the base has one base less
-  pub less_deep : (id : ℕ) (base : TypeId) → base_at bases id ≡ Some base → depth bases id ≡ suc (depth bases base.0)
-  less_deep id base e =
-      let most = few_found (suc (length bases)) id in
-      let whole = ap length (bases_step bases (length bases) id base e) in
-      let stays = ap length (bases_stay bases (length bases) base.0 (omega (arith, most, whole))) in
-      whole ∙ ap suc (sym stays)
-
 -- ---- the rules
 
 pub circle_refused : (bases : List (Option TypeId)) (id : ℕ) (at : Place) → is_in_cycle bases id ≡ true → cycle_at bases id at ≡ broken BaseCycle at ∷ []
 circle_refused bases id at h = rw h refl
 
-pub no_long_chain : (trees : List (List Node)) (t : Table) (id : ℕ) (at : Place) → is_endless (course_of t id) ≡ true → chain_at trees t id at ≡ []
-no_long_chain trees t id at h = go (is_long t id) (is_endless (course_of t id)) refl refl h
+pub no_long_chain : (bases : List (Option TypeId)) (id : ℕ) (at : Place) → meets_cycle bases id ≡ true → chain_at bases id at ≡ []
+no_long_chain bases id at h = go (is_long bases id) (meets_cycle bases id) refl refl h
   where
-    go : (long met : Bool) → is_long t id ≡ long → is_endless (course_of t id) ≡ met → met ≡ true → chain_at trees t id at ≡ []
+    go : (long met : Bool) → is_long bases id ≡ long → meets_cycle bases id ≡ met → met ≡ true → chain_at bases id at ≡ []
     go true true e f k = rw (e, f) refl
     go false true e f k = rw e refl
     go long false e f k = absurd cc

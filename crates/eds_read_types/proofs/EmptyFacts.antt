@@ -1,10 +1,11 @@
 -- Types that may be spelled by no bits.
-use Rattle.std.proofs.Common.{◌≡◌, ℕ, zero, suc, ◌-◌, ◌<◌, ◌||◌, Bool, true, false, Option, Some, None, refl, sym, ap, ◌∙◌, arith}
+use Rattle.std.proofs.Common.{◌≡◌, ℕ, zero, suc, ◌-◌, ◌<◌, ◌||◌, Bool, true, false, List, [], ◌∷◌, Option, Some, None, refl, sym, ap, subst, ◌∙◌, arith}
 use Rattle.std.specs.Prelude.{is_some}
-use Rattle.eds_types.specs.Rows.{Table}
+use Rattle.eds_types.specs.declared.row.Container.{Container}
+use Rattle.eds_types.specs.Rows.{Table, container_of}
 use Rattle.eds_types.specs.Sizes.{open_of}
-use Rattle.eds_read_types.specs.Hollow.{is_hollow}
-use Rattle.eds_read_types.specs.Emptiness.{has_empty_items, item_of, is_empty_within, may_be_empty}
+use Rattle.eds_read_types.specs.EmptyType.{is_empty, is_empty_container, is_hollow, has_empty_items, item_of, is_empty_within, may_be_empty}
+use Rattle.eds_read_types.proofs.PlainRules.{HasEntries}
 
 neither : (a b : Bool) → (a || b) ≡ false → (a ≡ false) × (b ≡ false)
 neither true b h = cc
@@ -12,7 +13,7 @@ neither false b h = (refl, h)
 
 -- ---- step by step
 
--- a container that may be spelled by no bits, or an open binary
+-- a container without entries, or an open binary
 abbrev pub is_bare : Table → ℕ → Bool
 is_bare t id = is_hollow t id || is_some (open_of t id)
 
@@ -51,9 +52,15 @@ bits-within n t id h =
     let first = neither (is_hollow t id) (is_some (open_of t id) || has_empty_items (is_empty_within n t) (item_of t id)) h in
     (first.0, (neither (is_some (open_of t id)) (has_empty_items (is_empty_within n t) (item_of t id)) first.1).0)
 
--- a type with bits is neither
+-- a type with bits is no container without entries, and no open binary
 pub has_bits : (t : Table) (id : ℕ) → may_be_empty t id ≡ false → (is_hollow t id ≡ false) × (is_some (open_of t id) ≡ false)
 has_bits t id h = bits-within 31 t id h
+
+pub solid : (t : Table) (id : ℕ) → is_hollow t id ≡ false → HasEntries t id
+solid t id h c e none =
+    let full : is_empty c.entries ≡ false = ap is_empty_container (sym e) ∙ h in
+    let both : true ≡ false = ap is_empty (sym none) ∙ full in
+    cc
 
 pub closed : (o : Option ℕ) → is_some o ≡ false → o ≡ None
 closed None h = refl

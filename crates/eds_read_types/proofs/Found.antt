@@ -1,5 +1,5 @@
 -- The types that references find are there.
-use Rattle.std.proofs.Common.{◌≡◌, ℕ, ◌<◌, List, [], ◌∷◌, length, slice_get, Option, Some, None, Ok, refl, subst, ◌∙◌, arith}
+use Rattle.std.proofs.Common.{◌≡◌, ℕ, ◌<◌, List, [], ◌∷◌, length, slice_get, Option, Some, None, Ok, refl, sym, ap, subst, ◌∙◌, arith}
 use Rattle.std.specs.Prelude.{IsSomeAnd}
 use Rattle.std.proofs.lemmas.Option.{slice_get_within}
 use Rattle.eds_base.specs.Reading.{◌>>=◌}
@@ -9,8 +9,8 @@ use Rattle.eds_tree.specs.declared.tree.Node.{Node}
 use Rattle.eds_names.specs.declared.declared.Declared.{Declared}
 use Rattle.eds_names.specs.declared.declared.Item.{Item}
 use Rattle.eds_names.specs.declared.declared.Item.TheVariants as item
-use Rattle.eds_names.specs.Declarations.{types_in}
-use Rattle.eds_names.specs.LookUp.{Names, names_in, item_named, or_else, first_found, candidates, around_at, look_up}
+use Rattle.eds_names.specs.Declarations.{type_at, types_in}
+use Rattle.eds_names.specs.LookUp.{Names, LeadsToRow, names_in, item_named, or_else, first_found, candidates, around_at, look_up}
 use Rattle.eds_names.proofs.Numbering.{type-rows}
 use Rattle.eds_read_types.specs.Places.{types}
 use Rattle.eds_read_types.specs.ReadTypes.{id_of, id_found}

@@ -1,4 +1,6 @@
 pub mod FormFacts
+pub mod DomainFacts
+pub mod EndFacts
 pub mod ListingFacts
 pub mod LawFacts
 mod EntriesLemmas
@@ -10,16 +12,11 @@ mod RowSteps
 mod ItemFacts
 mod SeatFacts
 mod ChainSteps
-pub mod KinFacts
-pub mod HollowFacts
 pub mod SheetPlaces
 pub mod LevelFacts
 pub mod NestingFacts
 mod Unbroken
 pub mod EmptyFacts
-pub mod FaultFacts
-pub mod BrokenFacts
-pub mod JudgedFacts
 pub mod ListPlaces
 mod LengthSteps
 pub mod ListFieldFacts
@@ -37,10 +34,7 @@ pub mod ChainFacts
 pub mod Circles
 pub mod NumberFacts
 pub mod CheckFacts
-pub mod FixedFacts
 pub mod TableRules
-pub mod ReadRows
-pub mod SheetTableFacts
 pub mod Limits
 pub mod SequenceFacts
 pub mod FamilyFacts

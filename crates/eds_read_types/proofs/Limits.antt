@@ -44,8 +44,7 @@ use Rattle.eds_read_types.specs.PartSorts.{part_sort_of}
 use Rattle.eds_read_types.specs.Entries.{trailers_at, is_part, parts_held, entries_at}
 use Rattle.eds_read_types.specs.Bases.{bases_of}
 use Rattle.eds_read_types.specs.Numbers.{numbers_of}
-use Rattle.eds_read_types.specs.Kinds.{scalar_kind_by, scalar_kind_in}
-use Rattle.eds_read_types.specs.TableRows.{part_in, array_kind, kind_of as kind_at, table_row, rows_from, table_rows, has_few_entries, are_few}
+use Rattle.eds_read_types.specs.TableRows.{part_in, scalar_kind_by, scalar_kind_in, array_kind, kind_of as kind_at, table_row, rows_from, table_rows, has_few_entries, are_few}
 use Rattle.eds_read_types.specs.declared.sort.Sort.{Sort}
 use Rattle.eds_read_types.specs.declared.sort.Sort.TheVariants as sort
 use Rattle.eds_read_types.specs.Sorts.{sort_of}

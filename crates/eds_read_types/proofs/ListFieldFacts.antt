@@ -1,5 +1,5 @@
 -- Lists whose numbers are told by entries before them.
-use Rattle.std.proofs.Common.{◌≡◌, ℕ, zero, suc, ◌+◌, ◌<◌, ◌||◌, ◌==◌, cond, not, Bool, true, false, List, [], ◌∷◌, ◌++◌, append_assoc, reverse, slice_get, Option, Some, None, refl, sym, ap, subst, ◌∙◌, arith, inl, inr, leb-true}
+use Rattle.std.proofs.Common.{◌≡◌, ℕ, zero, suc, ◌+◌, ◌<◌, ◌&&◌, ◌||◌, ◌==◌, cond, not, Bool, true, false, List, [], ◌∷◌, ◌++◌, append_assoc, reverse, length, map, slice_get, Option, Some, None, refl, sym, ap, subst, ◌∙◌, arith, inl, inr, leb-true}
 use Rattle.std.specs.Prelude.{ℤ, pos, int_lt, ◌≤ℤ◌, nat_lt, if◌then◌else◌}
 use Rattle.std.specs.List.{flat_map}
 use Rattle.std.proofs.lemmas.Grind.{flat_map-append}
@@ -13,14 +13,19 @@ use Rattle.eds_types.specs.declared.row.Kind.{Kind}
 use Rattle.eds_types.specs.declared.row.Kind.TheVariants as kind
 use Rattle.eds_types.specs.declared.row.Part.{Part}
 use Rattle.eds_types.specs.declared.row.Part.TheVariants as part
-use Rattle.eds_types.specs.Rows.{Table, base_of, container_of, entries_in, own_parts, Placed, placed_from, placed_entries, placed_trailers, sequence, chain, list_has, chain_before, chain_within}
-use Rattle.eds_types.specs.Rules.{IsIntBy, IsInt, IsBefore, IsCounted}
-use Rattle.eds_read_types.specs.ListField.{has_negative, counts_by, counts_in, is_count, stands_before, may_tell, is_told}
+use Rattle.eds_types.specs.Rows.{Table, base_of, container_of, entries_in, trailers_in, own_parts, Placed, placed_from, placed_entries, placed_trailers, sequence, chain, list_has, chain_before, chain_within}
+use Rattle.eds_types.specs.Rules.{IsIntBy, IsInt, HasKind, IsBefore, IsCounted}
+use Rattle.eds_read_types.specs.ListField.{has_negative, counts_by, counts_in, is_count, stands_before, is_told}
 use Rattle.eds_read_types.specs.Parts.{parts_in}
 use Rattle.eds_read_types.proofs.PlainRules.{own_placed}
 use Rattle.eds_read_types.proofs.SequenceFacts.{has-first, has-later, has-front, has-back, sequence_step}
 
 -- ---- sequences
+
+there-left : {A : Type 0} (xs ys : List A) (k : ℕ) (x : A) → slice_get xs k ≡ Some x → slice_get (xs ++ ys) k ≡ Some x
+there-left [] ys k x e = absurd cc
+there-left (y ∷ xs) ys zero x e = e
+there-left (y ∷ xs) ys (suc k) x e = there-left xs ys k x e
 
 before-within : {A : Type 0} (front xs back : List A) (a b : A) → IsBefore xs a b → IsBefore (front ++ (xs ++ back)) a b
 before-within front xs back a b h = record {
@@ -151,27 +156,32 @@ count_part t (Some (part.Check name id check)) h = absurd cc
 -- a list whose field is told has its number from an entry before it
 pub counted : (t : Table) (id y i k : ℕ) (p : Part) → slice_get (parts_in (container_of t id)) k ≡ Some p → is_told t y i id k ≡ true → IsCounted t (record { container = id; place = k; part = p }) y i
 counted t id y i k p there told =
-    let both = and_parts (stands_before t y i id k) (is_count t (slice_get (may_tell t y id) i)) told in
-    let field = count_part t (slice_get (may_tell t y id) i) both.1 in
-    record { name = field.name; id = field.id; before = go (y == id) refl (part.Plain field.name field.id) both.0 field.is; counts = field.counts }
+    let both = and_parts (stands_before t y i id k) (is_count t (slice_get (entries_in (container_of t y)) i)) told in
+    let field = count_part t (slice_get (entries_in (container_of t y)) i) both.1 in
+    record { name = field.name; id = field.id; before = place_of field both.0; counts = field.counts }
   where
     list : Placed
     list = record { container = id; place = k; part = p }
 
-    -- of the container itself
-    own : (q : Part) → y ≡ id → nat_lt i k ≡ true → slice_get (parts_in (container_of t y)) i ≡ Some q → IsBefore (sequence t id) (record { container = y; place = i; part = q }) list
-    own q same less first =
-        let first_here : slice_get (parts_in (container_of t id)) i ≡ Some q = subst (λ z. slice_get (parts_in (container_of t z)) i ≡ Some q) same first in
-        let here = placed-before id 0 (parts_in (container_of t id)) i k q p first_here there (leb-true (suc i) k less) i k (omega arith) (omega arith) in
-        own_before t id (record { container = y; place = i; part = q }) list (subst (λ qs. IsBefore qs (record { container = y; place = i; part = q }) list) (sym (own_placed t id)) (subst (λ z. IsBefore (placed_from id 0 (parts_in (container_of t id))) (record { container = z; place = i; part = q }) list) (sym same) here))
+    entry : IsCount t (slice_get (entries_in (container_of t y)) i) → Placed
+    entry field = record { container = y; place = i; part = part.Plain field.name field.id }
 
-    -- of a base
-    above : (q : Part) → (y == id) ≡ false → list_has (chain t id) y ≡ true → slice_get (entries_in (container_of t y)) i ≡ Some q → IsBefore (sequence t id) (record { container = y; place = i; part = q }) list
-    above q other h first_there =
-        let first = placed-there y 0 (entries_in (container_of t y)) i q first_there i (omega arith) in
-        let last = placed-there id 0 (parts_in (container_of t id)) k p there k (omega arith) in
-        base_before t id y (record { container = y; place = i; part = q }) list other h (record { before = first.0; after = first.1; is = first.2 }) (record { before = last.0; after = last.1; is = own_placed t id ∙ last.2 })
+    place_of : (field : IsCount t (slice_get (entries_in (container_of t y)) i)) → stands_before t y i id k ≡ true → IsBefore (sequence t id) (entry field) list
+    place_of field before = go (y == id) refl before
+      where
+        own : y ≡ id → nat_lt i k ≡ true → IsBefore (sequence t id) (entry field) list
+        own same less =
+            let first = there-left (entries_in (container_of t y)) (trailers_in (container_of t y)) i (part.Plain field.name field.id) field.is in
+            let first_here : slice_get (parts_in (container_of t id)) i ≡ Some (part.Plain field.name field.id) = subst (λ z. slice_get (parts_in (container_of t z)) i ≡ Some (part.Plain field.name field.id)) same first in
+            let here = placed-before id 0 (parts_in (container_of t id)) i k (part.Plain field.name field.id) p first_here there (leb-true (suc i) k less) i k (omega arith) (omega arith) in
+            own_before t id (entry field) list (subst (λ qs. IsBefore qs (entry field) list) (sym (own_placed t id)) (subst (λ z. IsBefore (placed_from id 0 (parts_in (container_of t id))) (record { container = z; place = i; part = part.Plain field.name field.id }) list) (sym same) here))
 
-    go : (b : Bool) → (y == id) ≡ b → (q : Part) → (if b then nat_lt i k else list_has (chain t id) y) ≡ true → slice_get (if b then parts_in (container_of t y) else entries_in (container_of t y)) i ≡ Some q → IsBefore (sequence t id) (record { container = y; place = i; part = q }) list
-    go true e q h first = own q (eqb-true y id e) h first
-    go false e q h first = above q e h first
+        above : (y == id) ≡ false → list_has (chain t id) y ≡ true → IsBefore (sequence t id) (entry field) list
+        above other h =
+            let first = placed-there y 0 (entries_in (container_of t y)) i (part.Plain field.name field.id) field.is i (omega arith) in
+            let last = placed-there id 0 (parts_in (container_of t id)) k p there k (omega arith) in
+            base_before t id y (entry field) list other h (record { before = first.0; after = first.1; is = first.2 }) (record { before = last.0; after = last.1; is = own_placed t id ∙ last.2 })
+
+        go : (b : Bool) → (y == id) ≡ b → (if b then nat_lt i k else list_has (chain t id) y) ≡ true → IsBefore (sequence t id) (entry field) list
+        go true e h = own (eqb-true y id e) h
+        go false e h = above e h

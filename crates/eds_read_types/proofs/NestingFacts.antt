@@ -1,8 +1,8 @@
 -- Types that reach no circle are nested less deep than those that hold them.
-use Rattle.std.proofs.Common.{◌≡◌, ℕ, zero, suc, ◌+◌, ◌-◌, ◌<◌, ◌≤◌, ◌==◌, Bool, true, false, List, [], ◌∷◌, length, map, slice_get, option_map, Some, None, refl, sym, ap, subst, ◌∙◌, arith, inl, inr, ◌⊎◌}
-use Rattle.std.specs.Prelude.{unwrap_or, is_some, nat_lt, option_to_list, if◌then◌else◌}
-use Rattle.std.specs.List.{list_any, range_with_len}
-use Rattle.std.proofs.lemmas.Bool.{eq-eqb}
+use Rattle.std.proofs.Common.{◌≡◌, ℕ, zero, suc, ◌+◌, ◌-◌, ◌<◌, ◌≤◌, ◌==◌, ◌||◌, ◌&&◌, not, Bool, true, false, List, [], ◌∷◌, ◌++◌, length, map, slice_get, option_map, Option, Some, None, refl, sym, ap, subst, ◌∙◌, arith, inl, inr, ◌⊎◌, leb-true, lit<}
+use Rattle.std.specs.Prelude.{unwrap_or, is_some, nat_lt, nat_le, option_to_list, if◌then◌else◌}
+use Rattle.std.specs.List.{list_any, flat_map, range_with_len}
+use Rattle.std.proofs.lemmas.Bool.{eqb-true, eq-eqb}
 use Rattle.std.proofs.lemmas.Bool.Decides.{nat_tests}
 use Rattle.std.proofs.lemmas.List.FromFn.{get_or-map-range_with_len, length-map-range_with_len}
 use Rattle.std.proofs.lemmas.Option.{slice_get-get_or, slice_get_past, slice_get_within, slice_get-map}
@@ -20,7 +20,7 @@ use Rattle.eds_graph.proofs.Tests.{split, and-left, and-right, has-any, has-left
 use Rattle.eds_graph.proofs.Leading.{leads-all, leads-within, leads-step as leads-one, met-or}
 use Rattle.eds_graph.proofs.Circles.{clear-own}
 use Rattle.eds_graph.proofs.Heights.{height-is, larger-less, larger-not}
-use Rattle.eds_nesting.specs.Families.{topmost, families, family, types_of, types_in, held_from, held_over, itself, held_in, holding, course_at}
+use Rattle.eds_nesting.specs.Families.{topmost, families, family, types_of, types_in, held_from, held_over, itself, held_in, holding, nesting, course_at, meets_endless, endless, endless_met}
 use Rattle.eds_read_types.specs.Nesting.{course_of, meets_base_cycle}
 use Rattle.eds_read_types.specs.LimitNesting.{is_too_deep}
 use Rattle.eds_read_types.proofs.LevelFacts.{family-in, family-past, HasLevels, same_family, topmost_within, no_endless}

@@ -14,16 +14,17 @@ use Rattle.eds_types.specs.Rules.{IsDomain, IsSubRange}
 use Rattle.eds_read_types.specs.declared.numbers.FormAndDomain.{FormAndDomain}
 use Rattle.eds_read_types.specs.Places.{type_places, is_sub_range, is_container}
 use Rattle.eds_read_types.specs.Forms.{int_form_of}
-use Rattle.eds_constraints.specs.Ranges.{no_range}
-use Rattle.eds_read_types.specs.Ranges.{range_of}
-use Rattle.eds_constraints.specs.Domains.{has_none}
+use Rattle.eds_read_types.specs.Ranges.{no_range, range_of}
+use Rattle.eds_read_types.specs.Domains.{has_none}
 use Rattle.eds_read_types.specs.Bases.{base_found, bases_of, base_at, bases_within}
 use Rattle.eds_read_types.specs.Numbers.{wide_form, form_or_wide, numbers_with, all_numbers, own_numbers_in, own_numbers_at, range_at, narrowed_numbers, numbers_by, numbers_within, numbers_of}
 use Rattle.eds_read_types.specs.ScalarKinds.{is_integer, breaks_in, breaks_at, breaks_each}
 use Rattle.eds_read_types.specs.BadEncoding.{lacks_form, encoding_breaks}
 use Rattle.eds_read_types.specs.EmptyRange.{range_breaks, lacks_form_in, lacks_form_at, is_empty_type, is_faulty, is_empty_by_itself, sub_range_at, breaks_sub_range}
+use Rattle.eds_read_types.specs.BaseCycle.{breaks_cycle}
+use Rattle.eds_read_types.specs.LimitChain.{breaks_chain}
 use Rattle.eds_read_types.proofs.LawFacts.{none_broken, domain_kept, narrowed_kept, narrowed_derives, integer_unbroken}
-use Rattle.eds_read_types.proofs.ChainFacts.{over-none, each-none, unmet, no_bases, bases_none, bases_step, level, less_bases}
+use Rattle.eds_read_types.proofs.ChainFacts.{over-none, each-none, unmet, no_bases, bases_none, bases_step, level, few_bases, less_bases}
 
 -- the type of a number has a domain
 abbrev pub HasNumbers : FormAndDomain → Type 0
@@ -89,9 +90,12 @@ module _ (trees : List (List Node)) (names : Names) where
   abbrev pub IsNoContainer : ℕ → Type 0
   IsNoContainer id = (at : Place) → slice_get (type_places names) id ≡ Some at → is_container trees at ≡ false
 
-  module _ (low : (id : ℕ) → level (bases_of trees names) id < 16) (encodings : breaks_each encoding_breaks trees names ≡ []) (ranges : breaks_each range_breaks trees names ≡ []) (subs : breaks_sub_range trees names ≡ []) (on_numbers : (id : ℕ) (base : TypeId) → base_at (bases_of trees names) id ≡ Some base → IsNoContainer id → IsNoContainer base.0) where
-    less_levels : (id : ℕ) (base : TypeId) → base_at (bases_of trees names) id ≡ Some base → level (bases_of trees names) id ≡ suc (level (bases_of trees names) base.0)
-    less_levels id base e = less_bases (bases_of trees names) low id base e
+  module _ (cycles : breaks_cycle trees names ≡ []) (chains : breaks_chain trees names ≡ []) (encodings : breaks_each encoding_breaks trees names ≡ []) (ranges : breaks_each range_breaks trees names ≡ []) (subs : breaks_sub_range trees names ≡ []) (on_numbers : (id : ℕ) (base : TypeId) → base_at (bases_of trees names) id ≡ Some base → IsNoContainer id → IsNoContainer base.0) where
+    pub few_levels : (id : ℕ) → level (bases_of trees names) id < 16
+    few_levels id = few_bases (bases_of trees names) (type_places names) known_bases cycles chains id
+
+    pub less_levels : (id : ℕ) (base : TypeId) → base_at (bases_of trees names) id ≡ Some base → level (bases_of trees names) id ≡ suc (level (bases_of trees names) base.0)
+    less_levels id base e = less_bases (bases_of trees names) (type_places names) known_bases cycles chains id base e
 
     has_form : (id : ℕ) → lacks_form_at trees (slice_get (type_places names) id) ≡ false
     has_form id = go (slice_get (type_places names) id) refl
@@ -148,7 +152,7 @@ module _ (trees : List (List Node)) (names : Names) where
         let numbers = have base.0 (on_numbers id base e c) (omega (arith, less, h)) in
         let sub = base_is_sub at base (sym (base_there id at there) ∙ e) (c at there) in
         let kept : is_empty_type trees (type_places names) (bases_of trees names) id ≡ false = own_fault (is_sub_range trees at) (is_empty_type trees (type_places names) (bases_of trees names) id) _ sub (sound_bases n have 16 id c h) (unmet (is_sub_range trees at && is_empty_by_itself trees (type_places names) (bases_of trees names) id) _ (over-none (sub_range_at trees (type_places names) (bases_of trees names)) 0 (type_places names) subs id at there id (omega arith))) in
-        let step = numbers_step trees (type_places names) (bases_of trees names) id base e (low id) in
+        let step = numbers_step trees (type_places names) (bases_of trees names) id base e (few_levels id) in
         subst HasNumbers (sym step) (narrowed_kept (numbers_at base.0).form (numbers_at base.0).spans (range_at trees (slice_get (type_places names) id)) numbers (ap (λ (m : FormAndDomain). has_none m.spans) (sym step) ∙ kept))
       where
         own_fault : (sub empty any : Bool) → sub ≡ true → any ≡ false → (sub && (empty && not any)) ≡ false → empty ≡ false
@@ -170,10 +174,10 @@ module _ (trees : List (List Node)) (names : Names) where
         go have (Some base) e = there base have e (slice_get (type_places names) id) refl
 
     pub domains : (id : ℕ) → IsNoContainer id → HasNumbers (numbers_of trees (type_places names) (bases_of trees names) id)
-    domains id c = domains_to 16 id c (low id)
+    domains id c = domains_to 16 id c (few_levels id)
 
     -- a sub-range derives from its base
     pub derives_from : (id : ℕ) (base : TypeId) → base_at (bases_of trees names) id ≡ Some base → IsSubRange (numbers_at id).form (numbers_at id).spans (numbers_at base.0).form (numbers_at base.0).spans
     derives_from id base e =
-        subst (λ (m : FormAndDomain). IsSubRange m.form m.spans (numbers_at base.0).form (numbers_at base.0).spans) (sym (numbers_step trees (type_places names) (bases_of trees names) id base e (low id)))
+        subst (λ (m : FormAndDomain). IsSubRange m.form m.spans (numbers_at base.0).form (numbers_at base.0).spans) (sym (numbers_step trees (type_places names) (bases_of trees names) id base e (few_levels id)))
         (narrowed_derives (numbers_at base.0).form (numbers_at base.0).spans (range_at trees (slice_get (type_places names) id)))

@@ -1,5 +1,5 @@
 -- The parts of containers one by one: their names, and the sizes of padding.
-use Rattle.std.proofs.Common.{◌≡◌, ℕ, ◌≤◌, ◌==◌, ◌%◌, Bool, true, false, ◌&&◌, ◌||◌, not, List, [], ◌∷◌, ◌++◌, map, Option, Some, None, refl, sym, ap, subst, ◌∙◌, leb-true, lit≤}
+use Rattle.std.proofs.Common.{◌≡◌, ℕ, ◌≤◌, ◌==◌, ◌%◌, Bool, true, false, ◌&&◌, ◌||◌, not, List, [], ◌∷◌, ◌++◌, map, filter, Option, Some, None, refl, sym, ap, subst, ◌∙◌, arith, leb-true, lit≤}
 use Rattle.std.specs.Prelude.{codes, nat_le, ℤ, IfSome, is_some}
 use Rattle.std.specs.Option.{unwrap_or}
 use Rattle.std.specs.List.{filter_map}
@@ -45,15 +45,10 @@ module _ (trees : List (List Node)) (names : Names) (container : ℕ) (seats : L
   name_is : (at : Place) → IsNamed at (name_of (part_at trees names container seats at))
   name_is at = go (sort_at trees at) refl
     where
-      -- a fixed value that has no name gives its row none
-      fixed : sort_at trees at ≡ Some sort.FixedValue → (o : Option (List ℕ)) → attribute trees (codes "name") at ≡ o → IsNamed at o
-      fixed e None q = tt
-      fixed e (Some n) q = (sym (ap (λ name. unwrap_or name []) q), ap (has_name_by (is_some (attribute trees (codes "name") at))) e ∙ ap is_some q)
-
       go : (s : Option PartSort) → sort_at trees at ≡ s → IsNamed at (name_of (part_by s trees names container seats at))
       go None e = tt
       go (Some sort.Entry) e = (refl, ap (has_name_by (is_some (attribute trees (codes "name") at))) e)
-      go (Some sort.FixedValue) e = fixed e (attribute trees (codes "name") at) refl
+      go (Some sort.FixedValue) e = tt
       go (Some sort.Padding) e = tt
       go (Some sort.List) e = (refl, ap (has_name_by (is_some (attribute trees (codes "name") at))) e)
       go (Some sort.Length) e = (refl, ap (has_name_by (is_some (attribute trees (codes "name") at))) e)

@@ -1,7 +1,7 @@
 -- Types whose rows keep the rules one by one make a table that keeps them all.
-use Rattle.std.proofs.Common.{◌≡◌, ℕ, zero, suc, ◌+◌, ◌<◌, ◌≤◌, false, List, [], ◌∷◌, ◌++◌, map, length, slice_get, Option, Some, None, refl, sym, ap, subst, ◌∙◌, inl, inr, arith}
-use Rattle.std.specs.Prelude.{is_some, IfSome, IsTrue}
-use Rattle.std.specs.List.{AllByRecursion}
+use Rattle.std.proofs.Common.{◌≡◌, ℕ, zero, suc, ◌+◌, ◌<◌, ◌≤◌, false, List, [], ◌∷◌, ◌++◌, map, length, reverse, slice_get, Option, Some, None, refl, sym, ap, subst, ◌∙◌, ◌⊎◌, inl, inr, arith, lit≤}
+use Rattle.std.specs.Prelude.{is_some, IsSome, IfSome, IsTrue}
+use Rattle.std.specs.List.{AllByRecursion, filter_map, flat_map}
 use Rattle.eds_bits.specs.Lists.{Has}
 use Rattle.eds_types.specs.declared.row.TypeRow.{TypeRow}
 use Rattle.eds_types.specs.declared.row.Container.{Container}
@@ -9,18 +9,22 @@ use Rattle.eds_types.specs.declared.row.Part.{Part}
 use Rattle.eds_types.specs.declared.row.Part.TheVariants as part
 use Rattle.eds_types.specs.declared.row.Kind.{Kind}
 use Rattle.eds_types.specs.declared.row.Kind.TheVariants as kind
-use Rattle.eds_types.specs.Fields.{type_by}
+use Rattle.eds_types.specs.Fields.{type_by, IsAtOrUnder}
 use Rattle.eds_types.specs.Plain.{plain}
 use Rattle.eds_types.specs.Sizes.{open_of}
-use Rattle.eds_types.specs.Rows.{Table, base_in, base_of, container_by, container_in, container_of, concrete_in, entries_in, trailers_in, constraints_in, constraints_of, own_parts, Placed, placed_from, chain_before, chain_within}
-use Rattle.eds_types.specs.Rules.{AreDistinct, KindKeeps, HasKind, IsContainer, IsHollow, IsValueOf, IsInt, IsScale, HoldsCheck, IsCounted, DerivesFrom, IsNested, ItemsNest, TailKeeps, PartKeeps, ConstraintKeeps, KeepsRules}
+use Rattle.eds_types.specs.Rows.{Table, base_in, base_of, container_by, container_in, container_of, concrete_in, entries_in, trailers_in, constraints_in, constraints_of, own_parts, Placed, placed_from, placed_entries, placed_trailers, chain, chain_before, chain_within}
+use Rattle.eds_types.specs.Rules.{AreDistinct, KindKeeps, HasKind, IsContainer, IsHollow, IsValueOf, IsInt, IsScale, HoldsCheck, IsCounted, DerivesFrom, IsNested, ItemsNest, TailKeeps, PartKeeps, name_of, is_length, ConstraintKeeps, KeepsRules}
 use Rattle.eds_nesting.specs.Families.{families, family, containers}
-use Rattle.eds_read_types.proofs.SequenceFacts.{OwnDiffer, name_mark, length_mark, has-parts}
+use Rattle.eds_read_types.proofs.SequenceFacts.{OwnDiffer, AreDisjoint, name_mark, length_mark, parts_above, has-cases, has-parts}
 use Rattle.eds_read_types.proofs.RowRules.{AreLeveled, AreRows, keeps_all}
 
 -- the type is spelled by some bits where it is a container
 abbrev pub IsSolid : Table → ℕ → Type 0
 IsSolid t id = IsHollow t id → ⊥
+
+-- the type, if it is a container, has entries of its own
+abbrev pub HasEntries : Table → ℕ → Type 0
+HasEntries t id = (c : Container) → container_of t id ≡ Some c → c.entries ≡ [] → ⊥
 
 -- what a part of a container keeps
 abbrev pub PartFits : Table → Placed → Part → Type 0
@@ -119,6 +123,41 @@ solid_other t alike id none h = clash (container_of t h.hollow) h.concrete (same
         only [] after e = cc
         only (b ∷ []) after e = absurd cc
         only (b ∷ c ∷ before) after e = absurd cc
+
+none_of : (f : ℕ → List Placed) (ys : List ℕ) (y : ℕ) → flat_map f ys ≡ [] → Has ys y → f y ≡ []
+none_of f [] y e h = absurd (go h.before h.is)
+  where
+    go : (before : List ℕ) → [] ≡ before ++ y ∷ h.after → ⊥
+    go [] e = cc
+    go (b ∷ before) e = cc
+none_of f (z ∷ ys) y e h = elim (has-cases z y ys h) [
+  | inl s ↦ subst (λ m. f m ≡ []) s (first_nil (f z) (flat_map f ys) e)
+  | inr l ↦ none_of f ys y (last_nil (f z) (flat_map f ys) e) l
+]
+  where
+    first_nil : (xs zs : List Placed) → xs ++ zs ≡ [] → xs ≡ []
+    first_nil [] zs e = refl
+    first_nil (x ∷ xs) zs e = absurd cc
+
+    last_nil : (xs zs : List Placed) → xs ++ zs ≡ [] → zs ≡ []
+    last_nil [] zs e = e
+    last_nil (x ∷ xs) zs e = absurd cc
+
+-- a container that has entries of its own is not hollow, whatever derives from it
+pub solid_own : (t : Table) → ((id base : ℕ) → base_of t id ≡ Some base → is_some (container_of t base) ≡ is_some (container_of t id)) → (id : ℕ) → HasEntries t id → IsSolid t id
+solid_own t alike id some = go (container_of t id) refl
+  where
+    unplaced : (y i : ℕ) (ps : List Part) → placed_from y i ps ≡ [] → ps ≡ []
+    unplaced y i [] e = refl
+    unplaced y i (p ∷ ps) e = absurd cc
+
+    first_nil : (xs zs : List Placed) → xs ++ zs ≡ [] → xs ≡ []
+    first_nil [] zs e = refl
+    first_nil (x ∷ xs) zs e = absurd cc
+
+    go : (o : Option Container) → container_of t id ≡ o → IsHollow t id → ⊥
+    go None e h = solid_other t alike id e h
+    go (Some c) e h = some c e (sym (ap entries_in e) ∙ unplaced id 0 (entries_in (container_of t id)) (none_of (placed_entries t) (chain t h.hollow) id (first_nil (flat_map (placed_entries t) (chain t h.hollow)) (flat_map (placed_trailers t) (reverse (chain t h.hollow))) h.no_parts) h.under))
 
 container_by_kind : (t : Table) (rank : ℕ → ℕ) (id : ℕ) (k : Kind) → IsPlainKind t rank id k → (c : Container) → container_by k ≡ Some c → IsPlainContainer t rank id c
 container_by_kind t rank id (kind.Int form spans) plain c e = absurd cc

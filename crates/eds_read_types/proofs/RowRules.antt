@@ -1,5 +1,5 @@
 -- Rows that keep what each rule says of them make a table that keeps all rules.
-use Rattle.std.proofs.Common.{◌≡◌, ℕ, suc, ◌<◌, ◌≤◌, [], map, length, slice_get, Option, Some, None, refl, arith}
+use Rattle.std.proofs.Common.{◌≡◌, ℕ, suc, ◌<◌, ◌≤◌, List, [], map, length, slice_get, Option, Some, None, refl, sym, ap, subst, ◌∙◌, arith}
 use Rattle.std.specs.Prelude.{is_some}
 use Rattle.std.specs.List.{AllByRecursion}
 use Rattle.std.proofs.lemmas.Option.{slice_get_within}
@@ -7,7 +7,7 @@ use Rattle.eds_types.specs.declared.row.TypeRow.{TypeRow}
 use Rattle.eds_types.specs.declared.row.Kind.{Kind}
 use Rattle.eds_types.specs.declared.row.Kind.TheVariants as kind
 use Rattle.eds_types.specs.Fields.{type_by}
-use Rattle.eds_types.specs.Rows.{Table, base_in, base_of, container_by, container_of, constraints_of, own_parts, Placed, sequence}
+use Rattle.eds_types.specs.Rows.{Table, base_in, base_of, container_by, container_in, container_of, constraints_of, own_parts, Placed, sequence}
 use Rattle.eds_types.specs.Rules.{AreDistinct, KindKeeps, HasKind, IsContainer, DerivesFrom, IsNested, ItemsNest, PartKeeps, ConstraintKeeps, KeepsRules}
 use Rattle.eds_nesting.specs.Families.{families, family, containers}
 use Rattle.eds_read_types.proofs.SequenceFacts.{OwnDiffer, name_mark, length_mark, sequence_differs, sequence_keeps}

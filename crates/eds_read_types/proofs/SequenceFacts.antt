@@ -1,5 +1,5 @@
 -- What the parts of each container keep beside those of its bases, the parts of a whole sequence keep.
-use Rattle.std.proofs.Common.{◌≡◌, ℕ, zero, suc, ◌<◌, ◌≤◌, List, [], ◌∷◌, ◌++◌, length, filter, reverse, Bool, true, false, Option, Some, None, refl, sym, ap, subst, ◌∙◌, append_assoc, ◌⊎◌, inl, inr, arith, lit≤}
+use Rattle.std.proofs.Common.{◌≡◌, ℕ, zero, suc, ◌+◌, ◌<◌, ◌≤◌, List, [], ◌∷◌, ◌++◌, length, filter, reverse, Bool, true, false, Option, Some, None, refl, sym, ap, subst, ◌∙◌, append_assoc, ◌⊎◌, inl, inr, arith, lit≤}
 use Rattle.std.specs.Prelude.{if◌then◌else◌}
 use Rattle.std.specs.List.{AllByRecursion, filter_map, flat_map}
 use Rattle.std.proofs.lemmas.Grind.{flat_map-append}
@@ -7,6 +7,7 @@ use Rattle.std.proofs.lemmas.List.{append-nil, reverse-append}
 use Rattle.eds_bits.specs.Lists.{Has}
 use Rattle.eds_types.specs.Rows.{Table, base_of, chain, chain_before, chain_within, Placed, placed_entries, placed_trailers, own_parts, sequence}
 use Rattle.eds_types.specs.Rules.{AreDistinct, name_of, is_length, SequenceKeeps}
+use Rattle.eds_types.proofs.AllOf.{All-weaker, All-both, All-front, All-back}
 
 -- ---- lists without repetition
 

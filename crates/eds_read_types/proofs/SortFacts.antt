@@ -1,5 +1,5 @@
 -- The sorts of types, and what binaries keep.
-use Rattle.std.proofs.Common.{◌≡◌, ℕ, ◌*◌, ◌≤◌, ◌/◌, ◌%◌, ◌==◌, ◌&&◌, ◌||◌, Bool, true, false, not, List, Option, Some, None, refl, sym, ap, ◌∙◌, arith, leb-true, lit≤}
+use Rattle.std.proofs.Common.{◌≡◌, ℕ, ◌*◌, ◌+◌, ◌≤◌, ◌/◌, ◌%◌, ◌==◌, ◌&&◌, ◌||◌, Bool, true, false, not, List, [], ◌∷◌, Option, Some, None, refl, sym, ap, ◌∙◌, arith, leb-true, lit≤}
 use Rattle.std.specs.Prelude.{codes, nat_le, ℤ, IsTrue, if◌then◌else◌}
 use Rattle.std.specs.Option.{unwrap_or}
 use Rattle.std.proofs.lemmas.Bool.{and_parts, eqb-true}
@@ -11,7 +11,7 @@ use Rattle.eds_read_types.specs.declared.sort.Sort.TheVariants as sort
 use Rattle.eds_read_types.specs.Sorts.{sort_of}
 use Rattle.eds_read_types.specs.Held.{number_at}
 use Rattle.eds_read_types.specs.TextForms.{natural, is_open, is_binary_size, binary_bits_of}
-use Rattle.eds_read_types.specs.Kinds.{binary_kind}
+use Rattle.eds_read_types.specs.TableRows.{binary_kind}
 
 -- the name of the elements that declare a sort of types
 abbrev pub element_of : Sort → List ℕ

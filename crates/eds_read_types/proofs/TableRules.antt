@@ -1,9 +1,9 @@
 -- The rows of a sheet that breaks no rule on types keep the rules of a table.
 use Rattle.std.proofs.Common.{◌≡◌, ℕ, zero, suc, ◌+◌, ◌<◌, ◌≤◌, Bool, true, false, ◌||◌, ◌&&◌, List, [], ◌∷◌, ◌++◌, length, map, filter, slice_get, option_map, Option, Some, None, refl, sym, ap, subst, ◌∙◌, ◌⊎◌, inl, inr, arith, lit≤}
-use Rattle.std.specs.Prelude.{nat_le, nat_lt, is_some, IsSome, IfSome, option_to_list, codes, not, Ok, if◌then◌else◌}
-use Rattle.std.specs.List.{AllByRecursion, filter_map, flat_map, list_all, list_any}
+use Rattle.std.specs.Prelude.{nat_le, nat_lt, is_some, IsSome, IfSome, unwrap_or, option_to_list, codes, not, Ok, if◌then◌else◌}
+use Rattle.std.specs.List.{AllByRecursion, filter_map, flat_map, list_all}
 use Rattle.std.proofs.Common.{leb-true}
-use Rattle.std.proofs.lemmas.Bool.{and_parts, leb-false, ltb-false, ltb-true}
+use Rattle.std.proofs.lemmas.Bool.{and_parts, leb-false, ltb-false}
 use Rattle.std.proofs.lemmas.Grind.{flat_map-append}
 use Rattle.std.proofs.lemmas.List.Elements.{filter_map-append}
 use Rattle.std.proofs.lemmas.List.Folds.{list_any-append}
@@ -28,31 +28,31 @@ use Rattle.eds_names.proofs.Differing.{differ}
 use Rattle.eds_types.specs.declared.row.TypeRow.{TypeRow}
 use Rattle.eds_types.specs.declared.row.Kind.{Kind}
 use Rattle.eds_types.specs.declared.row.Kind.TheVariants as kind
+use Rattle.eds_types.specs.declared.row.Container.{Container}
 use Rattle.eds_types.specs.declared.row.Part.{Part}
 use Rattle.eds_types.specs.declared.row.Part.TheVariants as part
-use Rattle.eds_types.specs.Rows.{base_in, base_of, own_parts, placed_from, chain_before, chain_within, container_by, container_in, container_of, number_of_id, Placed}
+use Rattle.eds_types.specs.Rows.{Table, base_in, base_of, own_parts, placed_from, chain_before, chain_within, container_by, container_in, container_of, number_of_id, entries_in, Placed}
 use Rattle.eds_types.specs.Sizes.{open_by, open_in, open_of}
 use Rattle.eds_types.specs.Fields.{type_by}
-use Rattle.eds_types.specs.Plain.{plain}
 use Rattle.eds_graph.specs.Ways.{is_circular, is_endless}
 use Rattle.eds_graph.specs.Search.{Has as is_one_of}
-use Rattle.eds_types.specs.Rules.{AreDistinct, IsContainer, IsListing, IsValueOf, KindKeeps, HasKind, IsInt, IsIntBy, HoldsCheck, DerivesFrom, IsNested, IsCounted, TailKeeps, name_of, is_length, KeepsRules}
+use Rattle.eds_types.specs.Rules.{AreDistinct, IsContainer, IsListing, KindKeeps, HasKind, IsInt, IsIntBy, HoldsCheck, DerivesFrom, IsNested, IsCounted, TailKeeps, name_of, is_length, KeepsRules}
 use Rattle.eds_read_types.specs.declared.numbers.FormAndDomain.{FormAndDomain}
-use Rattle.eds_read_types.specs.Places.{element, is_element, is_container, is_array, is_sub_range, is_number, attribute, elements, types, type_places}
-use Rattle.eds_read_types.specs.References.{references, row_for, judged_text, judged_by, judged_at}
+use Rattle.eds_read_types.specs.Places.{element, is_element, is_container, is_array, is_sub_range, is_number, attribute, own_name, elements, types, type_places}
+use Rattle.eds_read_types.specs.References.{references, row_for, judged_text, judged_by, judged_at, broken_with}
 use Rattle.eds_read_types.specs.ReadTypes.{id_of, id_found}
 use Rattle.eds_read_types.specs.declared.part_sort.PartSort.{PartSort}
 use Rattle.eds_read_types.specs.declared.part_sort.PartSort.TheVariants as sorts
 use Rattle.eds_read_types.specs.Entries.{sort_at, entries_at, trailers_at, own_parts_at, parts_at, named_among}
-use Rattle.eds_read_types.specs.Parts.{PartJudgement, at_parts, at_rows, parts_in, judged_parts}
+use Rattle.eds_read_types.specs.Parts.{PartJudgement, at_parts, parts_in}
 use Rattle.eds_read_types.specs.Seats.{seats_of}
 use Rattle.eds_read_types.specs.ListFields.{field_seat, field_container, field_place}
-use Rattle.eds_read_types.specs.PartRows.{entry_id, id_or_first, padding_bits, unread, plain_part, fixed_part, list_part, length_part, check_part, part_by}
+use Rattle.eds_read_types.specs.PartRows.{entry_id, id_or_first, padding_bits, unread, plain_part, list_part, length_part, check_part, part_by}
+use Rattle.eds_read_types.specs.Forms.{int_form_of, bool_form_of}
 use Rattle.eds_read_types.specs.Listings.{listing_of}
-use Rattle.eds_read_types.specs.Bases.{may_derive, base_named, base_found, bases_of, base_at, is_in_cycle}
+use Rattle.eds_read_types.specs.Bases.{may_derive, base_named, base_found, bases_of, base_at}
 use Rattle.eds_read_types.specs.Numbers.{form_or_wide, numbers_of}
-use Rattle.eds_read_types.specs.Kinds.{scalar_kind_by, scalar_kind_in, scalar_at, scalar_if, scalar_of}
-use Rattle.eds_read_types.specs.TableRows.{part_in, container_at, array_kind, kind_of, table_row, rows_from, table_rows, has_few_entries, are_few}
+use Rattle.eds_read_types.specs.TableRows.{part_in, is_abstract, container_at, scalar_kind_by, scalar_kind_in, array_kind, kind_of, table_row, rows_from, table_rows, has_few_entries, are_few}
 use Rattle.eds_read_types.specs.TableBreaks.{table_breaks}
 use Rattle.eds_read_types.specs.DuplicateEntry.{repeats, names_above, duplicates_at}
 use Rattle.eds_read_types.specs.declared.sort.Sort.{Sort}
@@ -64,32 +64,23 @@ use Rattle.eds_read_types.specs.BadEnumeration.{enumeration_breaks}
 use Rattle.eds_read_types.specs.WrongKind.{kind_by, wrong_kind_by, wrong_kind_at}
 use Rattle.eds_read_types.specs.Nesting.{course_of, meets_base_cycle}
 use Rattle.eds_read_types.specs.TypeCycle.{type_cycle_at}
-use Rattle.eds_read_types.specs.LimitChain.{is_long, chain_at}
 use Rattle.eds_read_types.specs.LimitNesting.{is_too_deep, nesting_at}
-use Rattle.eds_read_types.specs.Emptiness.{may_be_empty, is_empty_entry, is_empty_part, item_in}
-use Rattle.eds_read_types.specs.Faults.{part_breaks, is_constraint_broken, has_empty_part, is_faulty_at, is_faulty_if, is_faulty, reaches_fault, is_judged, passes_type}
-use Rattle.eds_read_types.specs.EmptyType.{empty_part_at, empty_item_by, empty_item_at}
-use Rattle.eds_read_types.specs.ConstraintElements.{asked_lists}
-use Rattle.eds_read_types.proofs.BrokenFacts.{none-broken}
-use Rattle.eds_read_types.proofs.FaultFacts.{parts-same, items-same}
-use Rattle.eds_read_types.proofs.JudgedFacts.{NamesFault, reaches_none}
+use Rattle.eds_read_types.specs.EmptyType.{may_be_empty, is_empty_entry, empty_part_at, item_in, empty_item_by, empty_item_at}
 use Rattle.eds_read_types.specs.Items.{items_at, row_items}
 use Rattle.eds_read_types.specs.LimitItems.{is_too_large, items_limit_at}
 use Rattle.eds_read_types.proofs.ItemFacts.{row_some}
 use Rattle.eds_read_types.specs.ListField.{is_told, list_field_at}
-use Rattle.eds_read_types.specs.LengthField.{is_int, is_tail, lengths_at, has_length_above, length_field_at, scale_at, second_length_at}
+use Rattle.eds_read_types.specs.LengthField.{is_int, is_tail, lengths_at, has_length_above, length_field_at, second_length_at}
 use Rattle.eds_read_types.specs.Checks.{check_at}
 use Rattle.eds_read_types.specs.PartElements.{judged_elements}
-use Rattle.eds_read_types.specs.FixedValues.{fixed_value, row_value}
-use Rattle.eds_read_types.specs.FixedValue.{fixed_value_at}
 use Rattle.eds_read_types.specs.ErrorControl.{is_held, error_control_at}
 use Rattle.eds_read_types.specs.declared.reference_row.Wanted.TheVariants.{NumberType, ContainerType}
-use Rattle.eds_read_types.proofs.NoBreaks.{none_at, least-none, types-apart, no_repeats}
+use Rattle.eds_read_types.proofs.NoBreaks.{none_at, least-none, append-none, types-apart, no_repeats}
 use Rattle.eds_read_types.proofs.Unbroken.{IsUnbroken, unbroken}
 use Rattle.eds_read_types.proofs.SheetPlaces.{at_one, each-none as nowhere, of_types}
 use Rattle.eds_read_types.proofs.Limits.{few_types, length-rows, no_container}
 use Rattle.eds_read_types.proofs.LawFacts.{name_apart, enumerated_unbroken}
-use Rattle.eds_read_types.proofs.PlainRules.{IsSolid, EntryKeeps, IsPlainArray, IsPlainKind, KeepsRow, ArePlainRows, solid_other, own_placed, keeps_by_rows}
+use Rattle.eds_read_types.proofs.PlainRules.{IsSolid, EntryKeeps, IsPlainArray, IsPlainKind, KeepsRow, ArePlainRows, solid_own, solid_other, own_placed, keeps_by_rows}
 use Rattle.eds_read_types.proofs.PartOrder.{by_lists}
 use Rattle.eds_read_types.proofs.RowRules.{AreLeveled, alike_kinds}
 use Rattle.eds_read_types.proofs.SequenceFacts.{OwnDiffer, AreDisjoint, name_mark, length_mark, parts_above, has-parts, disjoint-by}
@@ -98,23 +89,20 @@ use Rattle.eds_nesting.specs.Families.{families, family, containers, types_of, t
 use Rattle.eds_read_types.specs.LimitFamily.{family_size, family_at}
 use Rattle.eds_read_types.proofs.LevelFacts.{HasLevels}
 use Rattle.eds_read_types.proofs.NestingFacts.{no_base_cycle, course-ends, rank as rank_in, few_ranks, nested, base_ranks, part_named}
-use Rattle.eds_read_types.proofs.EmptyFacts.{has_bits, closed}
-use Rattle.eds_read_types.proofs.HollowFacts.{solid}
+use Rattle.eds_read_types.proofs.EmptyFacts.{has_bits, solid, closed}
 use Rattle.eds_read_types.proofs.ListFieldFacts.{counted}
 use Rattle.eds_read_types.proofs.TailFacts.{tail_kept}
 use Rattle.eds_read_types.proofs.LengthFacts.{part_sort_named, scaled, int_is, own_fewer, own_none}
 use Rattle.eds_read_types.proofs.MeasureFacts.{own_measured, further_none}
 use Rattle.eds_read_types.proofs.CheckFacts.{held}
-use Rattle.eds_read_types.proofs.FixedFacts.{value-read}
 use Rattle.eds_read_types.proofs.PartFacts.{mapped_there, placed_all, no_item, part_none}
 use Rattle.eds_read_types.proofs.PartNames.{among_has, among_parts, element_names, row_names as parts_named, names_distinct, padding_keeps}
 use Rattle.eds_read_types.proofs.Found.{id_there, found_there, number_there}
 use Rattle.eds_read_types.proofs.SortFacts.{sort_named, binary_keeps}
-use Rattle.eds_read_types.proofs.ChainFacts.{each-none, over-none, unmet, level, level_none, in_no_cycle, less_bases, low_by_chain}
-use Rattle.eds_read_types.proofs.Circles.{depth, less_deep}
-use Rattle.eds_read_types.proofs.NumberFacts.{HasNumbers, IsNoContainer, known_bases, base_there, base_is_sub, domains, derives_from}
+use Rattle.eds_read_types.proofs.ChainFacts.{each-none, over-none, unmet, level}
+use Rattle.eds_read_types.proofs.NumberFacts.{HasNumbers, IsNoContainer, known_bases, base_there, base_is_sub, few_levels, less_levels, domains, derives_from}
 
-pub all_there : (p : TypeRow → Bool) (rows : List TypeRow) → list_all p rows ≡ true → (k : ℕ) (row : TypeRow) → slice_get rows k ≡ Some row → p row ≡ true
+all_there : (p : TypeRow → Bool) (rows : List TypeRow) → list_all p rows ≡ true → (k : ℕ) (row : TypeRow) → slice_get rows k ≡ Some row → p row ≡ true
 all_there p [] h k row e = absurd cc
 all_there p (r ∷ rows) h zero row e = let is : r ≡ row = cc in subst (λ x. p x ≡ true) is (and_parts (p r) (list_all p rows) h).0
 all_there p (r ∷ rows) h (suc k) row e = all_there p rows (and_parts (p r) (list_all p rows) h).1 k row e
@@ -125,18 +113,6 @@ clash b e f = cc
 true_or : (b : Bool) → (b || true) ≡ true
 true_or true = refl
 true_or false = refl
-
--- a test that fails nowhere where another holds
-held_where : (a b : Bool) → a ≡ true → (a && not b) ≡ false → b ≡ true
-held_where true true e h = refl
-held_where true false e h = absurd cc
-held_where false b e h = absurd cc
-
--- what holds only where another test does, which fails
-first_fails : (a b : Bool) → b ≡ false → (a && not b) ≡ false → a ≡ false
-first_fails true true e h = cc
-first_fails true false e h = cc
-first_fails false b e h = refl
 
 -- ---- names
 
@@ -276,23 +252,6 @@ base_of_container trees names at base is h e = text_of (attribute trees (codes "
 
 -- ---- the rows of a sheet
 
--- ---- a part that passes a test
-
--- one of some parts that passes a test
-record IsFound (f : Part → Bool) (ps : List Part) : Type 0 where
-  index : ℕ
-  part_found : Part
-  there : slice_get ps index ≡ Some part_found
-  passed : f part_found ≡ true
-
-found : (f : Part → Bool) (ps : List Part) → list_any f ps ≡ true → IsFound f ps
-found f [] h = absurd cc
-found f (p ∷ ps) h = go (found f ps) (f p) refl h
-  where
-    go : (list_any f ps ≡ true → IsFound f ps) → (b : Bool) → f p ≡ b → (b || list_any f ps) ≡ true → IsFound f (p ∷ ps)
-    go later true e k = record { index = 0; part_found = p; there = refl; passed = e }
-    go later false e k = let r = later k in record { index = suc r.index; part_found = r.part_found; there = r.there; passed = r.passed }
-
 module _ (trees : List (List Node)) (names : Names) (word : Option (List ℕ)) (named : names_in trees ≡ Ok names) (u : IsUnbroken trees names word) where
   -- what the reference of a type finds is of the wanted kind
   fitting : AllByRecursion (λ at. judged_at (wrong_kind_at trees names) trees at ≡ []) (type_places names)
@@ -315,10 +274,45 @@ module _ (trees : List (List Node)) (names : Names) (word : Option (List ℕ)) (
           let same : b.place ≡ at = (let both : Some b.place ≡ Some at = sym b.there ∙ there in cc) in
           number_apart (node_name (element trees at)) (codes "ContainerDataType") refl refl (subst (λ p. is_number trees p ≡ true) same b.number)
 
-  -- ---- rows
+  -- ---- containers
 
   row_of : (id : ℕ) (d : Declared) → slice_get (types names) id ≡ Some d → slice_get (table_rows trees names) id ≡ Some (table_row trees names id d)
   row_of id d there = row_there trees names 0 (types names) id d there id (omega arith)
+
+  -- a type that has a base derives from it
+  derives : (id : ℕ) (d : Declared) → slice_get (types names) id ≡ Some d → (base : TypeId) → base_found trees names d.place ≡ Some base → HasKind (table_rows trees names) base.0 (DerivesFrom (kind_of trees names id d.place))
+  derives id d there base e = go (is_container trees d.place) refl
+    where
+      place : slice_get (type_places names) id ≡ Some d.place
+      place = place_there (types names) id d there
+
+      from_number : is_container trees d.place ≡ false → HasKind (table_rows trees names) base.0 (DerivesFrom (kind_of trees names id d.place))
+      from_number is =
+          let sub = base_is_sub trees names d.place base e is in
+          let b = base_of_sub trees names d.place base sub (fits_at id d.place place) e in
+          let other = declared_there (types names) base.0 b.place b.there in
+          let base_number : is_number trees (other.0).place ≡ true = ap (is_number trees) other.2 ∙ b.number in
+          let number = sub_is_number trees d.place sub in (
+            table_row trees names base.0 other.0,
+            row_there trees names 0 (types names) base.0 other.0 other.1 base.0 (omega arith),
+            subst (λ k. DerivesFrom k (kind_of trees names base.0 (other.0).place)) (sym (number_kind trees names id d.place number))
+                (subst (DerivesFrom (kind.Int (numbers_of trees (type_places names) (bases_of trees names) id).form (numbers_of trees (type_places names) (bases_of trees names) id).spans)) (sym (number_kind trees names base.0 (other.0).place base_number))
+                (derives_from trees names u.cycles u.chains u.encodings u.ranges u.subs on_numbers id base (base_there trees names id d.place place ∙ e))),
+          )
+
+      from_container : is_container trees d.place ≡ true → HasKind (table_rows trees names) base.0 (DerivesFrom (kind_of trees names id d.place))
+      from_container is =
+          let b = base_of_container trees names d.place base is (fits_at id d.place place) e in
+          let other = declared_there (types names) base.0 b.place b.there in
+          let base_is : is_container trees (other.0).place ≡ true = ap (is_container trees) other.2 ∙ b.container in (
+            table_row trees names base.0 other.0,
+            row_there trees names 0 (types names) base.0 other.0 other.1 base.0 (omega arith),
+            rw (is, base_is) tt,
+          )
+
+      go : (b : Bool) → is_container trees d.place ≡ b → HasKind (table_rows trees names) base.0 (DerivesFrom (kind_of trees names id d.place))
+      go true is = from_container is
+      go false is = from_number is
 
   number_some : (o : Option TypeId) (n : ℕ) → number_of_id o ≡ Some n → (id : TypeId) × (o ≡ Some id) × (id.0 ≡ n)
   number_some None n e = absurd cc
@@ -342,118 +336,6 @@ module _ (trees : List (List Node)) (names : Names) (word : Option (List ℕ)) (
           let some = number_some (base_found trees names r.declared.place) base (sym (ap (λ (w : TypeRow). number_of_id w.base) r.is) ∙ h) in
           record { declared = r.declared; there = r.there; found = some.0; by_name = some.1; number = some.2 }
 
-  -- ---- chains have an end
-
-  row_none : (n : ℕ) (ds : List Declared) (k : ℕ) → slice_get ds k ≡ None → slice_get (rows_from trees names n ds) k ≡ None
-  row_none n [] k e = refl
-  row_none n (d ∷ ds) zero e = absurd cc
-  row_none n (d ∷ ds) (suc k) e = row_none (n + 1) ds k e
-
-  -- the base of a row is that of its type
-  bases_alike : (id : ℕ) → base_of (table_rows trees names) id ≡ number_of_id (base_at (bases_of trees names) id)
-  bases_alike id = go (slice_get (types names) id) refl
-    where
-      go : (o : Option Declared) → slice_get (types names) id ≡ o → base_of (table_rows trees names) id ≡ number_of_id (base_at (bases_of trees names) id)
-      go None e =
-          let no_place : slice_get (type_places names) id ≡ None = slice_get-map (λ d. d.place) (types names) id ∙ ap (option_map (λ d. d.place)) e in
-          ap base_in (row_none 0 (types names) id e) ∙ sym (ap number_of_id (known_bases trees names id no_place))
-      go (Some d) e = ap base_in (row_of id d e) ∙ sym (ap number_of_id (base_there trees names id d.place (place_there (types names) id d e)))
-
-  no_cycle : (id : ℕ) → is_in_cycle (bases_of trees names) id ≡ false
-  no_cycle = in_no_cycle (bases_of trees names) (type_places names) (known_bases trees names) u.cycles
-
-  -- each base is there
-  bases_there : (id : ℕ) (base : TypeId) → base_at (bases_of trees names) id ≡ Some base → base.0 < length (bases_of trees names)
-  bases_there id base e = go (slice_get (type_places names) id) refl
-    where
-      many : length (bases_of trees names) ≡ length (types names)
-      many = length-map (type_places names) (base_found trees names) ∙ length-map (types names) (λ d. d.place)
-
-      go : (o : Option Place) → slice_get (type_places names) id ≡ o → base.0 < length (bases_of trees names)
-      go None q = let no : None ≡ Some base = sym (known_bases trees names id q) ∙ e in absurd cc
-      go (Some at) q = let within = number_there trees names named at (base_named trees at) base (sym (base_there trees names id at q) ∙ e) in subst (λ n. base.0 < n) (sym many) within
-
-  base_depth : (id base : ℕ) → base_of (table_rows trees names) id ≡ Some base → depth (bases_of trees names) id ≡ suc (depth (bases_of trees names) base)
-  base_depth id base e =
-      let h = has_base id base e in
-      subst (λ n. depth (bases_of trees names) id ≡ suc (depth (bases_of trees names) n)) h.number
-      (less_deep (bases_of trees names) no_cycle bases_there id h.found (base_there trees names id h.declared.place (place_there (types names) id h.declared h.there) ∙ h.by_name))
-
-  base_within : (id base : ℕ) → base_of (table_rows trees names) id ≡ Some base → base < length (table_rows trees names)
-  base_within id base e =
-      let h = has_base id base e in
-      let within = number_there trees names named h.declared.place (base_named trees h.declared.place) h.found h.by_name in
-      subst (λ n. n < length (table_rows trees names)) h.number (subst (λ n. (h.found).0 < n) (sym (length-rows trees names 0 (types names))) within)
-
-  levels : HasLevels (table_rows trees names)
-  levels = record { level = depth (bases_of trees names); base_level = base_depth; base_within = base_within }
-
-  -- the element of a type that is there
-  place_of : (id : ℕ) → id < length (table_rows trees names) → (at : Place) × (slice_get (type_places names) id ≡ Some at)
-  place_of id lt = go (slice_get (types names) id) refl
-    where
-      go : (o : Option Declared) → slice_get (types names) id ≡ o → (at : Place) × (slice_get (type_places names) id ≡ Some at)
-      go None e = absurd (no_item (types names) id (subst (λ n. id < n) (length-rows trees names 0 (types names)) lt) e)
-      go (Some d) e = (d.place, place_there (types names) id d e)
-
-  -- no type reaches itself
-  circleless : (id : ℕ) → id < length (table_rows trees names) → is_circular (course_of (table_rows trees names) id) ≡ false
-  circleless id lt =
-      let at = place_of id lt in
-      let here = unmet (is_circular (course_of (table_rows trees names) id) && not (meets_base_cycle (table_rows trees names) id)) _ (over-none (type_cycle_at trees (table_rows trees names)) 0 (type_places names) u.type_cycles id at.0 at.1 id (omega arith)) in
-      first_fails (is_circular (course_of (table_rows trees names) id)) (meets_base_cycle (table_rows trees names) id) (no_base_cycle (table_rows trees names) levels id) here
-
-  -- no chain is longer than 16 types
-  low_levels : (id : ℕ) → level (bases_of trees names) id < 16
-  low_levels id = go (slice_get (types names) id) refl
-    where
-      go : (o : Option Declared) → slice_get (types names) id ≡ o → level (bases_of trees names) id < 16
-      go None e =
-          let no_place : slice_get (type_places names) id ≡ None = slice_get-map (λ d. d.place) (types names) id ∙ ap (option_map (λ d. d.place)) e in
-          let none = level_none (bases_of trees names) id (known_bases trees names id no_place) in omega (arith, none)
-      go (Some d) e =
-          let within = slice_get_within (table_rows trees names) id (table_row trees names id d) (row_of id d e) in
-          let ends : is_endless (course_of (table_rows trees names) id) ≡ false = ap is_endless (course-ends (table_rows trees names) levels circleless id within) in
-          let judged = unmet (is_long (table_rows trees names) id && not (is_endless (course_of (table_rows trees names) id))) _ (over-none (chain_at trees (table_rows trees names)) 0 (type_places names) u.chains id d.place (place_there (types names) id d e) id (omega arith)) in
-          low_by_chain (table_rows trees names) (bases_of trees names) bases_alike id (first_fails (is_long (table_rows trees names) id) (is_endless (course_of (table_rows trees names) id)) ends judged)
-
-  -- ---- bases derive
-
-  -- a type that has a base derives from it
-  derives : (id : ℕ) (d : Declared) → slice_get (types names) id ≡ Some d → (base : TypeId) → base_found trees names d.place ≡ Some base → HasKind (table_rows trees names) base.0 (DerivesFrom (kind_of trees names id d.place))
-  derives id d there base e = go (is_container trees d.place) refl
-    where
-      place : slice_get (type_places names) id ≡ Some d.place
-      place = place_there (types names) id d there
-
-      from_number : is_container trees d.place ≡ false → HasKind (table_rows trees names) base.0 (DerivesFrom (kind_of trees names id d.place))
-      from_number is =
-          let sub = base_is_sub trees names d.place base e is in
-          let b = base_of_sub trees names d.place base sub (fits_at id d.place place) e in
-          let other = declared_there (types names) base.0 b.place b.there in
-          let base_number : is_number trees (other.0).place ≡ true = ap (is_number trees) other.2 ∙ b.number in
-          let number = sub_is_number trees d.place sub in (
-            table_row trees names base.0 other.0,
-            row_there trees names 0 (types names) base.0 other.0 other.1 base.0 (omega arith),
-            subst (λ k. DerivesFrom k (kind_of trees names base.0 (other.0).place)) (sym (number_kind trees names id d.place number))
-                (subst (DerivesFrom (kind.Int (numbers_of trees (type_places names) (bases_of trees names) id).form (numbers_of trees (type_places names) (bases_of trees names) id).spans)) (sym (number_kind trees names base.0 (other.0).place base_number))
-                (derives_from trees names low_levels u.encodings u.ranges u.subs on_numbers id base (base_there trees names id d.place place ∙ e))),
-          )
-
-      from_container : is_container trees d.place ≡ true → HasKind (table_rows trees names) base.0 (DerivesFrom (kind_of trees names id d.place))
-      from_container is =
-          let b = base_of_container trees names d.place base is (fits_at id d.place place) e in
-          let other = declared_there (types names) base.0 b.place b.there in
-          let base_is : is_container trees (other.0).place ≡ true = ap (is_container trees) other.2 ∙ b.container in (
-            table_row trees names base.0 other.0,
-            row_there trees names 0 (types names) base.0 other.0 other.1 base.0 (omega arith),
-            rw (is, base_is) tt,
-          )
-
-      go : (b : Bool) → is_container trees d.place ≡ b → HasKind (table_rows trees names) base.0 (DerivesFrom (kind_of trees names id d.place))
-      go true is = from_container is
-      go false is = from_number is
-
   -- a container derives from a container, and nothing else does
   base_alike : (id base : ℕ) → base_of (table_rows trees names) id ≡ Some base → is_some (container_of (table_rows trees names) base) ≡ is_some (container_of (table_rows trees names) id)
   base_alike id base e =
@@ -471,10 +353,39 @@ module _ (trees : List (List Node)) (names : Names) (word : Option (List ℕ)) (
   base_row id base e =
       let h = has_base id base e in
       subst (λ n. level (bases_of trees names) id ≡ suc (level (bases_of trees names) n)) h.number
-      (less_bases (bases_of trees names) low_levels id h.found (base_there trees names id h.declared.place (place_there (types names) id h.declared h.there) ∙ h.by_name))
+      (less_levels trees names u.cycles u.chains u.encodings u.ranges u.subs on_numbers id h.found (base_there trees names id h.declared.place (place_there (types names) id h.declared h.there) ∙ h.by_name))
+
+  base_within : (id base : ℕ) → base_of (table_rows trees names) id ≡ Some base → base < length (table_rows trees names)
+  base_within id base e =
+      let h = has_base id base e in
+      let within = number_there trees names named h.declared.place (base_named trees h.declared.place) h.found h.by_name in
+      subst (λ n. n < length (table_rows trees names)) h.number (subst (λ n. (h.found).0 < n) (sym (length-rows trees names 0 (types names))) within)
+
+  levels : HasLevels (table_rows trees names)
+  levels = record { level = level (bases_of trees names); base_level = base_row; base_within = base_within }
 
   leveled : AreLeveled (table_rows trees names)
-  leveled = record { level = level (bases_of trees names); low = low_levels; base_level = base_row }
+  leveled = record { level = level (bases_of trees names); low = few_levels trees names u.cycles u.chains u.encodings u.ranges u.subs on_numbers; base_level = base_row }
+
+  -- the element of a type that is there
+  place_of : (id : ℕ) → id < length (table_rows trees names) → (at : Place) × (slice_get (type_places names) id ≡ Some at)
+  place_of id lt = go (slice_get (types names) id) refl
+    where
+      go : (o : Option Declared) → slice_get (types names) id ≡ o → (at : Place) × (slice_get (type_places names) id ≡ Some at)
+      go None e = absurd (no_item (types names) id (subst (λ n. id < n) (length-rows trees names 0 (types names)) lt) e)
+      go (Some d) e = (d.place, place_there (types names) id d e)
+
+  -- no type reaches itself
+  circleless : (id : ℕ) → id < length (table_rows trees names) → is_circular (course_of (table_rows trees names) id) ≡ false
+  circleless id lt =
+      let at = place_of id lt in
+      let here = unmet (is_circular (course_of (table_rows trees names) id) && not (meets_base_cycle (table_rows trees names) id)) _ (over-none (type_cycle_at trees (table_rows trees names)) 0 (type_places names) u.type_cycles id at.0 at.1 id (omega arith)) in
+      alone (is_circular (course_of (table_rows trees names) id)) (meets_base_cycle (table_rows trees names) id) (no_base_cycle (table_rows trees names) levels id) here
+    where
+      alone : (a b : Bool) → b ≡ false → (a && not b) ≡ false → a ≡ false
+      alone true true e h = cc
+      alone true false e h = cc
+      alone false b e h = refl
 
   -- none is nested too deep
   few_nested : (id : ℕ) → id < length (table_rows trees names) → is_too_deep (course_of (table_rows trees names) id) ≡ false
@@ -501,97 +412,9 @@ module _ (trees : List (List Node)) (names : Names) (word : Option (List ℕ)) (
   container_is : (id : ℕ) (d : Declared) → slice_get (types names) id ≡ Some d → is_container trees d.place ≡ true → container_of (table_rows trees names) id ≡ Some (container_at trees names id d.place)
   container_is id d there con = ap container_in (row_of id d there) ∙ rw con refl
 
-  -- what a part names, its container names
-  holds_part : (id : ℕ) (d : Declared) → is_container trees d.place ≡ true → (k : ℕ) (q : Place) → slice_get (own_parts_at trees d.place) k ≡ Some q → (x : ℕ) → type_by (Some (part_in trees names id q)) ≡ Some x → is_one_of (types_in (table_row trees names id d).kind) x
-  holds_part id d con k q e x h =
-      let there = slice_get-map (part_in trees names id) (own_parts_at trees d.place) k ∙ ap (option_map (part_in trees names id)) e in
-      let all : types_of (map (part_in trees names id) (own_parts_at trees d.place)) ≡ types_of (map (part_in trees names id) (entries_at trees d.place)) ++ types_of (map (part_in trees names id) (trailers_at trees d.place)) = ap types_of (map-append (part_in trees names id) (entries_at trees d.place) (trailers_at trees d.place)) ∙ flat_map-append (λ (p : Part). option_to_list (type_by (Some p))) (map (part_in trees names id) (entries_at trees d.place)) (map (part_in trees names id) (trailers_at trees d.place)) in
-      rw con (subst (λ xs. is_one_of xs x) all (part_named (map (part_in trees names id) (own_parts_at trees d.place)) k (part_in trees names id q) there x h))
-
-  -- ---- EmptyType is judged for every type
-
-  -- no part of a type breaks another rule on parts
-  no_part_breaks : (id : ℕ) (at : Place) → slice_get (type_places names) id ≡ Some at → part_breaks trees names id at ≡ []
-  no_part_breaks id at there =
-      let rows = table_rows trees names in
-      let double : duplicates_at trees rows id at ≡ [] = over-none (duplicates_at trees rows) 0 (type_places names) u.duplicates id at there id (omega arith) in
-      let fields : judged_parts list_field_at trees rows id at ≡ [] = over-none (judged_parts list_field_at trees rows) 0 (type_places names) u.list_fields id at there id (omega arith) in
-      let lengths : judged_parts length_field_at trees rows id at ≡ [] = over-none (judged_parts length_field_at trees rows) 0 (type_places names) u.lengths id at there id (omega arith) in
-      let scales : judged_elements scale_at trees names at ≡ [] = each-none (judged_elements scale_at trees names) (type_places names) u.scales id at there in
-      let seconds : second_length_at trees rows id at ≡ [] = over-none (second_length_at trees rows) 0 (type_places names) u.one_lengths id at there id (omega arith) in
-      let texts : judged_elements fixed_value_at trees names at ≡ [] = each-none (judged_elements fixed_value_at trees names) (type_places names) u.fixed id at there in
-      let checks : judged_elements error_control_at trees names at ≡ [] = each-none (judged_elements error_control_at trees names) (type_places names) u.checks id at there in
-      rw (double, fields, lengths, scales, seconds, texts, checks) refl
-
-  -- so a faulty type names a type for which the rule is not judged
-  names_fault : (id : ℕ) → id < length (table_rows trees names) → is_faulty trees names id ≡ true → NamesFault (table_rows trees names) (is_faulty trees names) id
-  names_fault id lt faulty =
-      let at = place_of id lt in
-      let other = declared_there (types names) id at.0 at.1 in
-      let here : is_faulty_at trees names id at.0 ≡ true = sym (ap (is_faulty_if trees names id) at.1) ∙ faulty in
-      let posed : is_constraint_broken trees names id ≡ false = none-broken (table_rows trees names) (asked_lists trees names) u.constraint_targets u.constraint_values u.constraint_empties id lt in
-      let empty : has_empty_part (table_rows trees names) id ≡ true =
-      sym (ap (λ rs. is_some (least rs) || (is_constraint_broken trees names id || has_empty_part (table_rows trees names) id)) (no_part_breaks id at.0 at.1) ∙ ap (λ b. b || has_empty_part (table_rows trees names) id) posed) ∙ here in
-      let one = found (is_empty_part (table_rows trees names)) (parts_in (container_of (table_rows trees names) id)) empty in
-      by_container other.0 other.1 (place_there (types names) id other.0 other.1) one (is_container trees (other.0).place) refl
-    where
-      -- the type of such a part
-      typed : (p : Part) → is_empty_part (table_rows trees names) p ≡ true → (x : ℕ) × (type_by (Some p) ≡ Some x)
-      typed (part.Plain name x) h = (x.0, refl)
-      typed (part.Fixed name x v) h = absurd cc
-      typed (part.Pad n) h = absurd cc
-      typed (part.List name x y i) h = (x.0, refl)
-      typed (part.Length name x c0 c1) h = absurd cc
-      typed (part.Check name x check) h = absurd cc
-
-      unjudged : (a b : Bool) → (a && b) ≡ false → b ≡ true → a ≡ false
-      unjudged true b h e = absurd cc
-      unjudged false b h e = refl
-
-      reached : (x : ℕ) → is_judged trees names x ≡ false → (x < length (table_rows trees names)) × (reaches_fault 32 (table_rows trees names) (is_faulty trees names) x ≡ true)
-      reached x h = go (nat_lt x (length (table_rows trees names))) refl h
-        where
-          was : (b : Bool) → not b ≡ false → b ≡ true
-          was true e = refl
-          was false e = absurd cc
-
-          go : (b : Bool) → nat_lt x (length (table_rows trees names)) ≡ b → not (b && reaches_fault 32 (table_rows trees names) (is_faulty trees names) x) ≡ false → (x < length (table_rows trees names)) × (reaches_fault 32 (table_rows trees names) (is_faulty trees names) x ≡ true)
-          go false e k = absurd cc
-          go true e k = (ltb-true x (length (table_rows trees names)) e, was (reaches_fault 32 (table_rows trees names) (is_faulty trees names) x) k)
-
-      by_container : (d : Declared) → slice_get (types names) id ≡ Some d → slice_get (type_places names) id ≡ Some d.place → IsFound (is_empty_part (table_rows trees names)) (parts_in (container_of (table_rows trees names) id)) → (b : Bool) → is_container trees d.place ≡ b → NamesFault (table_rows trees names) (is_faulty trees names) id
-      by_container d there place one false con =
-          let none : container_of (table_rows trees names) id ≡ None = ap container_in (row_of id d there) ∙ no_container trees names id d.place con in
-          let nothing : None ≡ Some one.part_found = sym (ap (λ o. slice_get (parts_in o) one.index) none) ∙ one.there in absurd cc
-      by_container d there place one true con =
-          let con_is = container_is id d there con in
-          let q = mapped_there (part_in trees names id) (own_parts_at trees d.place) one.index one.part_found (sym (ap (λ ps. slice_get ps one.index) (parts_from id d con_is)) ∙ one.there) in
-          let type_is = typed one.part_found one.passed in
-          let none = unmet (passes_type (is_judged trees names) (type_by (Some one.part_found)) && is_empty_part (table_rows trees names) one.part_found) _ (part_none (empty_part_at (is_judged trees names)) trees names u.empty_parts id d.place place one.index one.part_found one.there q.0 q.1) in
-          let at_type : is_judged trees names type_is.0 ≡ false = sym (ap (passes_type (is_judged trees names)) type_is.1) ∙ unjudged (passes_type (is_judged trees names) (type_by (Some one.part_found))) (is_empty_part (table_rows trees names) one.part_found) none one.passed in
-          let r = reached type_is.0 at_type in
-          record {
-            row = table_row trees names id d;
-            row_is = row_of id d there;
-            inner = type_is.0;
-            held = holds_part id d con one.index q.0 q.1 type_is.0 (ap (λ p. type_by (Some p)) q.2 ∙ type_is.1);
-            within = r.0;
-            reached = r.1;
-          }
-
-  pub all_judged : (id : ℕ) → is_judged trees names id ≡ true
-  all_judged id = ap not (reaches_none (table_rows trees names) levels circleless (is_faulty trees names) names_fault 32 id)
-
-  -- so it is broken nowhere, whatever it is judged for
-  no_empty_parts : at_parts (empty_part_at (λ id. true)) trees names ≡ []
-  no_empty_parts = sym (parts-same (is_judged trees names) (λ id. true) all_judged trees names) ∙ u.empty_parts
-
-  no_empty_items : at_rows (empty_item_at (λ id. true)) trees names ≡ []
-  no_empty_items = sym (items-same (is_judged trees names) (λ id. true) all_judged trees names) ∙ u.empty_items
-
   -- where a part's type is no open binary and has bits
-  solid_type : (id : ℕ) → id < length (table_rows trees names) → open_of (table_rows trees names) id ≡ None → may_be_empty (table_rows trees names) id ≡ false → IsSolid (table_rows trees names) id × (open_of (table_rows trees names) id ≡ None)
-  solid_type id lt closed_type bits = (solid (table_rows trees names) id lt (has_bits (table_rows trees names) id bits).0, closed_type)
+  solid_type : (id : ℕ) → open_of (table_rows trees names) id ≡ None → may_be_empty (table_rows trees names) id ≡ false → IsSolid (table_rows trees names) id × (open_of (table_rows trees names) id ≡ None)
+  solid_type id closed_type bits = (solid_own (table_rows trees names) base_alike id (solid (table_rows trees names) id (has_bits (table_rows trees names) id bits).0), closed_type)
 
   none_open : (o : Option ℕ) → is_some o ≡ false → o ≡ None
   none_open None h = refl
@@ -611,7 +434,7 @@ module _ (trees : List (List Node)) (names : Names) (word : Option (List ℕ)) (
       let p : Placed = record { container = id; place = k; part = plain_part trees names q } in
       let part = part_there id d (container_is id d there con) k q e ∙ ap (λ s. Some (part_by s trees names id (seats_of trees names id) q)) s in
       let lengths = unmet (is_some (open_of (table_rows trees names) (entry_id trees names q).0) && not (is_tail (table_rows trees names) p)) _ (unbroken_part length_field_at u.lengths id d there con k q e sorts.Entry s) in
-      let bits = unmet (is_empty_entry (table_rows trees names) (entry_id trees names q).0) _ (unbroken_part (empty_part_at (λ id. true)) no_empty_parts id d there con k q e sorts.Entry s) in
+      let bits = unmet (is_empty_entry (table_rows trees names) (entry_id trees names q).0) _ (unbroken_part empty_part_at u.empty_parts id d there con k q e sorts.Entry s) in
       full (open_of (table_rows trees names) (entry_id trees names q).0) refl bits (λ h. tail_kept (table_rows trees names) id k (plain_part trees names q) part h) lengths
     where
       of_kind : (k : Kind) (n : ℕ) → open_by k ≡ Some n → container_by k ≡ None
@@ -635,7 +458,7 @@ module _ (trees : List (List Node)) (names : Names) (word : Option (List ℕ)) (
           → (is_tail (table_rows trees names) (record { container = id; place = k; part = plain_part trees names q }) ≡ true → TailKeeps (table_rows trees names) (record { container = id; place = k; part = plain_part trees names q }))
           → (is_some o && not (is_tail (table_rows trees names) (record { container = id; place = k; part = plain_part trees names q }))) ≡ false
           → IsSolid (table_rows trees names) (entry_id trees names q).0 × IfSome o (λ n. TailKeeps (table_rows trees names) (record { container = id; place = k; part = plain_part trees names q }))
-      full None none empty keep lengths = ((solid_type (entry_id trees names q).0 (entry_there q id d there) none empty).0, tt)
+      full None none empty keep lengths = ((solid_type (entry_id trees names q).0 none empty).0, tt)
       full (Some n) is empty keep lengths = (
         solid_other (table_rows trees names) base_alike (entry_id trees names q).0 (no_entries (slice_get (table_rows trees names) (entry_id trees names q).0) n is),
         keep (tail_of (is_tail (table_rows trees names) (record { container = id; place = k; part = plain_part trees names q })) lengths),
@@ -646,8 +469,8 @@ module _ (trees : List (List Node)) (names : Names) (word : Option (List ℕ)) (
       → IsSolid (table_rows trees names) (entry_id trees names q).0 × (open_of (table_rows trees names) (entry_id trees names q).0 ≡ None)
   list_solid id d there con k q e s =
       let open_none = none_open (open_of (table_rows trees names) (entry_id trees names q).0) (unmet (is_some (open_of (table_rows trees names) (entry_id trees names q).0)) _ (unbroken_part length_field_at u.lengths id d there con k q e sorts.List s)) in
-      let bits = unmet (may_be_empty (table_rows trees names) (entry_id trees names q).0) _ (unbroken_part (empty_part_at (λ id. true)) no_empty_parts id d there con k q e sorts.List s) in
-      solid_type (entry_id trees names q).0 (entry_there q id d there) open_none bits
+      let bits = unmet (may_be_empty (table_rows trees names) (entry_id trees names q).0) _ (unbroken_part empty_part_at u.empty_parts id d there con k q e sorts.List s) in
+      solid_type (entry_id trees names q).0 open_none bits
 
   -- padding keeps its size, and has no type
   pad_keeps : (id k n : ℕ) → 1 ≤ n → n ≤ 524288 → EntryKeeps (table_rows trees names) rank (record { container = id; place = k; part = part.Pad n })
@@ -655,6 +478,13 @@ module _ (trees : List (List Node)) (names : Names) (word : Option (List ℕ)) (
 
   unread_keeps : (id k : ℕ) → EntryKeeps (table_rows trees names) rank (record { container = id; place = k; part = unread })
   unread_keeps id k = pad_keeps id k 8 (lit≤ tt) (lit≤ tt)
+
+  -- what a part names, its container names
+  holds_part : (id : ℕ) (d : Declared) → is_container trees d.place ≡ true → (k : ℕ) (q : Place) → slice_get (own_parts_at trees d.place) k ≡ Some q → (x : ℕ) → type_by (Some (part_in trees names id q)) ≡ Some x → is_one_of (types_in (table_row trees names id d).kind) x
+  holds_part id d con k q e x h =
+      let there = slice_get-map (part_in trees names id) (own_parts_at trees d.place) k ∙ ap (option_map (part_in trees names id)) e in
+      let all : types_of (map (part_in trees names id) (own_parts_at trees d.place)) ≡ types_of (map (part_in trees names id) (entries_at trees d.place)) ++ types_of (map (part_in trees names id) (trailers_at trees d.place)) = ap types_of (map-append (part_in trees names id) (entries_at trees d.place) (trailers_at trees d.place)) ∙ flat_map-append (λ (p : Part). option_to_list (type_by (Some p))) (map (part_in trees names id) (entries_at trees d.place)) (map (part_in trees names id) (trailers_at trees d.place)) in
+      rw con (subst (λ xs. is_one_of xs x) all (part_named (map (part_in trees names id) (own_parts_at trees d.place)) k (part_in trees names id q) there x h))
 
   -- the type of a part is nested less deep
   part_nests : (id : ℕ) (d : Declared) → slice_get (types names) id ≡ Some d → is_container trees d.place ≡ true → (k : ℕ) (q : Place) → slice_get (own_parts_at trees d.place) k ≡ Some q → (s : PartSort) → sort_at trees q ≡ Some s
@@ -717,49 +547,14 @@ module _ (trees : List (List Node)) (names : Names) (word : Option (List ℕ)) (
       let own = own_none trees (error_control_at trees names) d.place here in
       let one = unmet (is_element trees (codes "ErrorControlEntry") q && not (is_held trees names q)) _ (each-none (error_control_at trees names) (own_parts_at trees d.place) own k q e) in
       record {
-        fits = check_type q (held_where (is_element trees (codes "ErrorControlEntry") q) (is_held trees names q) (part_sort_named (node_name (element trees q)) sorts.ErrorControl s) one);
+        fits = check_type q (was (is_element trees (codes "ErrorControlEntry") q) (is_held trees names q) (part_sort_named (node_name (element trees q)) sorts.ErrorControl s) one);
         nests = λ inner same_type. (let is : (entry_id trees names q).0 ≡ inner = cc in part_nests id d there con k q e sorts.ErrorControl s inner same_type is);
       }
-
-  -- ---- fixed values
-
-  -- the row of a type whose kind texts stand for values of has this kind
-  scalar_there : (id : ℕ) (k : Kind) → scalar_of trees names id ≡ Some k → HasKind (table_rows trees names) id (λ other. other ≡ k)
-  scalar_there id k e = go (slice_get (type_places names) id) refl e
     where
-      of_place : (at : Place) → slice_get (type_places names) id ≡ Some at → (con : Bool) → is_container trees at ≡ con → (arr : Bool) → is_array trees at ≡ arr → (if con || arr then None else Some (scalar_at trees names id at)) ≡ Some k → HasKind (table_rows trees names) id (λ other. other ≡ k)
-      of_place at there true c arr a f = absurd cc
-      of_place at there false c true a f = absurd cc
-      of_place at there false c false a f =
-          let other = declared_there (types names) id at there in
-          let is : scalar_at trees names id at ≡ k = cc in
-          (table_row trees names id other.0, row_of id other.0 other.1, ap (kind_of trees names id) other.2 ∙ rw (c, a) is)
-
-      go : (o : Option Place) → slice_get (type_places names) id ≡ o → (o >>= scalar_if trees names id) ≡ Some k → HasKind (table_rows trees names) id (λ other. other ≡ k)
-      go None q f = absurd cc
-      go (Some at) q f = of_place at q (is_container trees at) refl (is_array trees at) refl f
-
-  -- where the text of a fixed value stands for a value of its type, its row has one
-  fixed_type : (q : Place) → is_some (fixed_value trees names (entry_id trees names q).0 q) ≡ true
-      → HasKind (table_rows trees names) (entry_id trees names q).0 (λ k. IsValueOf k (plain (row_value (fixed_value trees names (entry_id trees names q).0 q))))
-  fixed_type q h =
-      let id = (entry_id trees names q).0 in
-      let read = value-read trees names id (attribute trees (codes "fixedValue") q) h in
-      let row = scalar_there id read.type_kind read.known in
-      (row.0, row.1, subst (λ k. IsValueOf k (plain (row_value (fixed_value trees names id q)))) (sym row.2) read.is_value)
-
-  fixed_keeps : (id : ℕ) (d : Declared) → slice_get (types names) id ≡ Some d → is_container trees d.place ≡ true → (k : ℕ) (q : Place) → slice_get (own_parts_at trees d.place) k ≡ Some q → sort_at trees q ≡ Some sorts.FixedValue
-      → EntryKeeps (table_rows trees names) rank (record { container = id; place = k; part = fixed_part trees names q })
-  fixed_keeps id d there con k q e s =
-      let here = each-none (judged_elements fixed_value_at trees names) (type_places names) u.fixed id d.place (place_there (types names) id d there) in
-      let own = own_none trees (fixed_value_at trees names) d.place here in
-      let one = unmet (is_element trees (codes "FixedValueEntry") q && not (is_some (fixed_value trees names (entry_id trees names q).0 q))) _ (each-none (fixed_value_at trees names) (own_parts_at trees d.place) own k q e) in
-      let value = held_where (is_element trees (codes "FixedValueEntry") q) (is_some (fixed_value trees names (entry_id trees names q).0 q)) (part_sort_named (node_name (element trees q)) sorts.FixedValue s) one in
-      let shut = none_open (open_of (table_rows trees names) (entry_id trees names q).0) (unmet (is_some (open_of (table_rows trees names) (entry_id trees names q).0)) _ (unbroken_part length_field_at u.lengths id d there con k q e sorts.FixedValue s)) in
-      record {
-        fits = (fixed_type q value, shut);
-        nests = λ inner same_type. (let is : (entry_id trees names q).0 ≡ inner = cc in part_nests id d there con k q e sorts.FixedValue s inner same_type is);
-      }
+      was : (a b : Bool) → a ≡ true → (a && not b) ≡ false → b ≡ true
+      was true true e h = refl
+      was true false e h = absurd cc
+      was false b e h = absurd cc
 
   -- ---- lists
 
@@ -793,7 +588,7 @@ module _ (trees : List (List Node)) (names : Names) (word : Option (List ℕ)) (
       go : (s : Option PartSort) → sort_at trees q ≡ s → EntryKeeps (table_rows trees names) rank (record { container = id; place = k; part = part_by s trees names id (seats_of trees names id) q })
       go None s = unread_keeps id k
       go (Some sorts.Entry) s = plain_keeps id d there con k q e s
-      go (Some sorts.FixedValue) s = fixed_keeps id d there con k q e s
+      go (Some sorts.FixedValue) s = unread_keeps id k
       go (Some sorts.Padding) s = let size = padding_keeps trees q in pad_keeps id k (padding_bits trees q) size.0 size.1
       go (Some sorts.List) s = list_keeps id d there con k q e s
       go (Some sorts.Length) s = length_keeps id d there con k q e s
@@ -829,7 +624,7 @@ module _ (trees : List (List Node)) (names : Names) (word : Option (List ℕ)) (
       place = place_there (types names) id d there
 
       numbers : HasNumbers (numbers_of trees (type_places names) (bases_of trees names) id)
-      numbers = domains trees names low_levels u.encodings u.ranges u.subs on_numbers id (λ at q. (let both : Some d.place ≡ Some at = sym place ∙ q in let same : d.place ≡ at = cc in subst (λ p. is_container trees p ≡ false) same other))
+      numbers = domains trees names u.cycles u.chains u.encodings u.ranges u.subs on_numbers id (λ at q. (let both : Some d.place ≡ Some at = sym place ∙ q in let same : d.place ≡ at = cc in subst (λ p. is_container trees p ≡ false) same other))
 
       of_type : (t : List Node) (s : Option Sort) → sort_of (name_at t d.place.node) ≡ s → encoding_breaks t d.place ≡ [] → enumeration_breaks t d.place ≡ []
           → KindKeeps (scalar_kind_by s t d.place.node (numbers_of trees (type_places names) (bases_of trees names) id))
@@ -886,12 +681,12 @@ module _ (trees : List (List Node)) (names : Names) (word : Option (List ℕ)) (
   array_plain id d there is arr =
       let place = place_there (types names) id d there in
       let row = array_is id d there is arr in
-      let broken = over-none (empty_item_at (λ id. true) trees (table_rows trees names)) 0 (type_places names) no_empty_items id d.place place id (omega arith) in
-      let bits = unmet (may_be_empty (table_rows trees names) (item_id d).0) _ (sym (ap (λ o. empty_item_by (λ id. true) (table_rows trees names) d.place (item_in o)) row) ∙ broken) in
+      let broken = over-none (empty_item_at trees (table_rows trees names)) 0 (type_places names) u.empty_items id d.place place id (omega arith) in
+      let bits = unmet (may_be_empty (table_rows trees names) (item_id d).0) _ (sym (ap (λ o. empty_item_by (table_rows trees names) d.place (item_in o)) row) ∙ broken) in
       let is_closed = closed (open_of (table_rows trees names) (item_id d).0) (has_bits (table_rows trees names) (item_id d).0 bits).1 in
       record {
         nests = nested (table_rows trees names) levels circleless id (record { name = d.name; base = base_found trees names d.place; kind = array_kind trees names d.place }) row (item_id d).0 (item_there id d there) (inl refl);
-        solid = (solid_type (item_id d).0 (item_there id d there) is_closed bits).0;
+        solid = (solid_type (item_id d).0 is_closed bits).0;
         closed = is_closed;
       }
 

@@ -52,10 +52,6 @@ all_bases bases id = bases_within (length bases) bases id
 abbrev pub is_in_cycle : List (Option TypeId) → ℕ → Bool
 is_in_cycle bases id = list_any (λ base. base == id) (all_bases bases id)
 
--- the type or one of its bases is its own base
-abbrev pub meets_cycle : List (Option TypeId) → ℕ → Bool
-meets_cycle bases id = list_any (is_in_cycle bases) (id ∷ all_bases bases id)
-
 -- ---- rules on types by their numbers
 
 -- a rule that is judged at a type by its number and place, over some types, of which the first has the number n

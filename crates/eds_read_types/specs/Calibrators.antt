@@ -1,6 +1,6 @@
 -- The scale of a length entry: a container has c0 + c1 * r octets where its length entry has the raw number r
 -- (CCSDS 876.0-B, length entries and polynomial calibrators).
-use Rattle.std.specs.Prelude.{ℕ, ℤ, pos, negsuc, int_le, List, [], ◌∷◌, codes, Bool, false, not, ◌&&◌, ◌||◌, if◌then◌else◌, Option, unwrap_or}
+use Rattle.std.specs.Prelude.{ℕ, ℤ, pos, negsuc, int_le, List, [], ◌∷◌, codes, Bool, true, false, not, ◌&&◌, ◌||◌, if◌then◌else◌, Option, unwrap_or}
 use Rattle.std.specs.List.{flat_map}
 use Rattle.std.specs.Ordering.{int_eq}
 use Rattle.eds_base.specs.Reading.{◌>>=◌}

@@ -8,12 +8,12 @@ use Rattle.eds_base.specs.declared.rule.Rule.TheVariants.{EmptyRange}
 use Rattle.eds_bits.specs.declared.forms.IntForm.{IntForm}
 use Rattle.eds_tree.specs.declared.tree.Node.{Node}
 use Rattle.eds_names.specs.LookUp.{Names}
-use Rattle.eds_constraints.specs.declared.range.Range.{Range}
+use Rattle.eds_read_types.specs.declared.range.Range.{Range}
 use Rattle.eds_read_types.specs.Places.{is_sub_range, type_places}
 use Rattle.eds_read_types.specs.References.{broken}
 use Rattle.eds_read_types.specs.Forms.{int_form_of}
 use Rattle.eds_read_types.specs.Ranges.{range_of}
-use Rattle.eds_constraints.specs.Domains.{domain_of, has_none}
+use Rattle.eds_read_types.specs.Domains.{domain_of, has_none}
 use Rattle.eds_read_types.specs.Bases.{bases_of, bases_within, breaks_over}
 use Rattle.eds_read_types.specs.ScalarKinds.{is_integer, broken_where, breaks_each}
 use Rattle.eds_read_types.specs.BadEncoding.{lacks_form}

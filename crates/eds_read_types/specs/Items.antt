@@ -14,7 +14,8 @@ use Rattle.eds_read_types.specs.ReadTypes.{id_found}
 use Rattle.eds_read_types.specs.TextForms.{natural}
 use Rattle.eds_read_types.specs.Listings.{listing_of, value}
 use Rattle.eds_read_types.specs.ScalarKinds.{is_enumerated, is_boolean}
-use Rattle.eds_read_types.specs.Bases.{all_bases, bases_of, meets_cycle}
+use Rattle.eds_read_types.specs.Bases.{all_bases, bases_of}
+use Rattle.eds_read_types.specs.LimitChain.{meets_cycle}
 use Rattle.eds_read_types.specs.EmptyRange.{lacks_form_at}
 use Rattle.eds_read_types.specs.Numbers.{numbers_within}
 

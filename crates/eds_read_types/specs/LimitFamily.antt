@@ -1,5 +1,6 @@
 -- No family has more than 512 containers. The rule is judged where no type is reached that reaches itself or is its own base.
-use Rattle.std.specs.Prelude.{ℕ, nat_lt, List, [], ◌∷◌, codes, not, ◌&&◌, if◌then◌else◌, slice_get, unwrap_or}
+use Rattle.std.specs.Prelude.{ℕ, nat_lt, List, [], ◌∷◌, codes, Bool, not, ◌&&◌, if◌then◌else◌, slice_get, unwrap_or}
+use Rattle.eds_base.specs.declared.ids.Place.{Place}
 use Rattle.eds_base.specs.declared.refusal.Refusal.{Refusal}
 use Rattle.eds_base.specs.declared.rule.Rule.TheVariants.{Limit}
 use Rattle.eds_tree.specs.declared.tree.Node.{Node}

@@ -1,6 +1,7 @@
 -- At most 32 types are nested, counted with the type and on the longest way by items and by the types of the parts of a family's
 -- containers. The rule is judged where no type is reached that reaches itself or is its own base.
-use Rattle.std.specs.Prelude.{List, [], ◌∷◌, codes, nat_lt, Bool, false, if◌then◌else◌}
+use Rattle.std.specs.Prelude.{ℕ, List, [], ◌∷◌, codes, nat_lt, Bool, false, if◌then◌else◌}
+use Rattle.eds_base.specs.declared.ids.Place.{Place}
 use Rattle.eds_base.specs.declared.refusal.Refusal.{Refusal}
 use Rattle.eds_base.specs.declared.rule.Rule.TheVariants.{Limit}
 use Rattle.eds_tree.specs.declared.tree.Node.{Node}

@@ -1,6 +1,6 @@
 -- The number of a list's items is told by an entry of its container or of a base that stands before it, whose type is an integer
 -- type or a sub-range without negative numbers. Nothing is kept.
-use Rattle.std.specs.Prelude.{ℕ, pos, int_lt, List, [], ◌∷◌, Bool, false, not, ◌&&◌, ◌||◌, ◌==◌, nat_lt, if◌then◌else◌, Option, Some, None, slice_get}
+use Rattle.std.specs.Prelude.{ℕ, ℤ, pos, int_lt, List, [], ◌∷◌, Bool, true, false, not, ◌&&◌, ◌||◌, ◌==◌, nat_lt, if◌then◌else◌, Option, Some, None, slice_get}
 use Rattle.eds_base.specs.declared.ids.Place.{Place}
 use Rattle.eds_base.specs.declared.spans.Span.{Span}
 use Rattle.eds_base.specs.declared.refusal.Refusal.{Refusal}
@@ -12,9 +12,9 @@ use Rattle.eds_types.specs.declared.row.Kind.{Kind}
 use Rattle.eds_types.specs.declared.row.Kind.TheVariants as kind
 use Rattle.eds_types.specs.declared.row.Part.{Part}
 use Rattle.eds_types.specs.declared.row.Part.TheVariants as part
-use Rattle.eds_types.specs.Rows.{Table, container_of, entries_in, chain, list_has}
+use Rattle.eds_types.specs.Rows.{Table, Placed, container_of, entries_in, chain, list_has}
 use Rattle.eds_read_types.specs.References.{broken}
-use Rattle.eds_read_types.specs.Parts.{PartJudgement, at_parts, parts_in}
+use Rattle.eds_read_types.specs.Parts.{PartJudgement, at_parts}
 
 -- a number among these is negative
 abbrev pub has_negative : List Span → Bool
@@ -46,19 +46,14 @@ is_count t (Some (part.List name id y i)) = false
 is_count t (Some (part.Length name id c0 c1)) = false
 is_count t (Some (part.Check name id check)) = false
 
--- The part of a position in a container y stands before another: that is a later one of y, or one of a container that derives
+-- The entry of a position in a container y stands before a part: that is a later one of y, or one of a container that derives
 -- from y.
 abbrev pub stands_before : Table → (y i : ℕ) → (container place : ℕ) → Bool
 stands_before t y i container place = if y == container then nat_lt i place else list_has (chain t container) y
 
--- The parts of a container y that may stand before a list of some container: all parts of that container itself, and of a base
--- its entries alone, since the trailers of a base stand behind the parts of what derives from it.
-abbrev pub may_tell : Table → (y : ℕ) → (container : ℕ) → List Part
-may_tell t y container = if y == container then parts_in (container_of t y) else entries_in (container_of t y)
-
--- the part of a position in a container is an entry that counts, and stands before a part
+-- the entry of a position in a container counts, and stands before a part
 abbrev pub is_told : Table → (y i : ℕ) → (container place : ℕ) → Bool
-is_told t y i container place = stands_before t y i container place && is_count t (slice_get (may_tell t y container) i)
+is_told t y i container place = stands_before t y i container place && is_count t (slice_get (entries_in (container_of t y)) i)
 
 -- what breaks ListField at one part: a list, unless an entry that counts and stands before it tells its number of items
 abbrev pub list_field_by : Table → (container place : ℕ) → Place → Part → List Refusal

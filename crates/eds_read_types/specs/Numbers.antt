@@ -11,12 +11,11 @@ use Rattle.eds_bits.specs.declared.forms.BoolForm.{BoolForm}
 use Rattle.eds_bits.specs.declared.forms.TextForm.{TextForm}
 use Rattle.eds_tree.specs.declared.tree.Node.{Node}
 use Rattle.eds_read_types.specs.declared.numbers.FormAndDomain.{FormAndDomain}
-use Rattle.eds_constraints.specs.declared.range.Range.{Range}
+use Rattle.eds_read_types.specs.declared.range.Range.{Range}
 use Rattle.eds_read_types.specs.Sizes.{is_form, some_bits, few_bits}
 use Rattle.eds_read_types.specs.Forms.{int_form_of}
-use Rattle.eds_constraints.specs.Ranges.{no_range}
-use Rattle.eds_read_types.specs.Ranges.{range_of}
-use Rattle.eds_constraints.specs.Domains.{domain_of, narrowed}
+use Rattle.eds_read_types.specs.Ranges.{no_range, range_of}
+use Rattle.eds_read_types.specs.Domains.{domain_of, narrowed}
 use Rattle.eds_read_types.specs.ScalarKinds.{is_integer}
 use Rattle.eds_read_types.specs.Bases.{base_at}
 

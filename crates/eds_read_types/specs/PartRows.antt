@@ -17,7 +17,6 @@ use Rattle.eds_read_types.specs.Entries.{sort_at, type_named}
 use Rattle.eds_read_types.specs.ListFields.{field_seat, field_container, field_place}
 use Rattle.eds_read_types.specs.Calibrators.{c0_or_plain, c1_or_plain}
 use Rattle.eds_read_types.specs.Checks.{check_at}
-use Rattle.eds_read_types.specs.FixedValues.{fixed_value, row_value}
 use Rattle.eds_read_types.specs.ReadTypes.{id_found}
 use Rattle.eds_read_types.specs.TextForms.{natural, is_binary_size}
 
@@ -48,17 +47,13 @@ padding_size_in text = text >>= padding_size
 abbrev pub padding_bits : List (List Node) → Place → ℕ
 padding_bits trees at = unwrap_or (padding_size_in (attribute trees (codes "sizeInBits") at)) 8
 
--- an octet of padding, in place of what is no part
+-- an octet of padding, in place of a part that is not compiled yet
 abbrev pub unread : Part
 unread = part.Pad 8
 
 -- an entry by its name and its type
 abbrev pub plain_part : List (List Node) → Names → Place → Part
 plain_part trees names at = part.Plain (own_name trees at) (entry_id trees names at)
-
--- a fixed value by its name, if it has one, its type and its value
-abbrev pub fixed_part : List (List Node) → Names → Place → Part
-fixed_part trees names at = part.Fixed (attribute trees (codes "name") at) (entry_id trees names at) (row_value (fixed_value trees names (entry_id trees names at).0 at))
 
 -- a list by its name, the type of its items, and the part that tells their number, of the container of a number in whose sequence the seats are
 abbrev pub list_part : List (List Node) → Names → (container : ℕ) → List Seat → Place → Part
@@ -76,7 +71,7 @@ check_part trees names at = part.Check (own_name trees at) (entry_id trees names
 abbrev pub part_by : Option PartSort → List (List Node) → Names → (container : ℕ) → List Seat → Place → Part
 part_by None trees names container seats at = unread
 part_by (Some sort.Entry) trees names container seats at = plain_part trees names at
-part_by (Some sort.FixedValue) trees names container seats at = fixed_part trees names at
+part_by (Some sort.FixedValue) trees names container seats at = unread
 part_by (Some sort.Padding) trees names container seats at = part.Pad (padding_bits trees at)
 part_by (Some sort.List) trees names container seats at = list_part trees names container seats at
 part_by (Some sort.Length) trees names container seats at = length_part trees names at

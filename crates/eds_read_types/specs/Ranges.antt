@@ -1,14 +1,32 @@
--- The ranges of integer types and sub-ranges (CCSDS 876.0-B, ranges of numbers).
-use Rattle.std.specs.Prelude.{ℕ, ℤ, List, [], ◌∷◌, map, codes, Bool, if◌then◌else◌, Option, Some, None}
+-- The ranges of integer types and sub-ranges (CCSDS 876.0-B, ranges of numbers), and the numbers that they admit.
+use Rattle.std.specs.Prelude.{ℕ, ℤ, ◌≤ℤ◌, ◌<ℤ◌, List, [], ◌∷◌, map, codes, Bool, if◌then◌else◌, Option, Some, None}
 use Rattle.eds_base.specs.Reading.{same}
 use Rattle.eds_tree.specs.declared.tree.Node.{Node}
 use Rattle.eds_tree.specs.Trees.{attribute_at}
 use Rattle.std.specs.List.{list_any}
-use Rattle.eds_constraints.specs.declared.range.End.{End}
-use Rattle.eds_constraints.specs.declared.range.End.TheVariants.{Open, Inclusive, Exclusive}
-use Rattle.eds_constraints.specs.declared.range.Range.{Range}
-use Rattle.eds_constraints.specs.Ranges.{no_range}
+use Rattle.eds_read_types.specs.declared.range.End.{End}
+use Rattle.eds_read_types.specs.declared.range.End.TheVariants.{Open, Inclusive, Exclusive}
+use Rattle.eds_read_types.specs.declared.range.Range.{Range}
 use Rattle.eds_read_types.specs.Held.{child_named, number_at}
+
+-- ---- what a range admits
+
+-- the number is not below the lower end
+abbrev pub IsFrom : End → ℤ → Type 0
+IsFrom Open n = Unit {0}
+IsFrom (Inclusive low) n = low ≤ℤ n
+IsFrom (Exclusive low) n = low <ℤ n
+
+-- the number is not above the upper end
+abbrev pub IsTo : End → ℤ → Type 0
+IsTo Open n = Unit {0}
+IsTo (Inclusive high) n = n ≤ℤ high
+IsTo (Exclusive high) n = n <ℤ high
+
+-- the range admits the number
+pub record Admits (range : Range) (n : ℤ) : Type 0 where
+  pub from_low : IsFrom range.low n
+  pub to_high : IsTo range.high n
 
 -- ---- the range that an element gives
 
@@ -45,6 +63,10 @@ lower_end range_type least = if includes_least range_type then inclusive_end lea
 -- the upper end by the type of the range, at its greatest number
 abbrev pub upper_end : List ℕ → Option ℤ → End
 upper_end range_type greatest = if includes_greatest range_type then inclusive_end greatest else if excludes_greatest range_type then exclusive_end greatest else Open
+
+-- any number
+abbrev pub no_range : Range
+no_range = record { low = Open; high = Open }
 
 -- the range of bounds of this type, which admits any number where they have no type
 abbrev pub range_by : List Node → (bounds : ℕ) → Option (List ℕ) → Range

@@ -1,8 +1,10 @@
 -- The rows of the table of types.
-use Rattle.std.specs.Prelude.{ℕ, ◌+◌, nat_le, List, [], ◌∷◌, length, map, codes, Bool, true, ◌&&◌, if◌then◌else◌}
+use Rattle.std.specs.Prelude.{ℕ, ◌+◌, nat_le, List, [], ◌∷◌, length, map, codes, Bool, true, ◌&&◌, if◌then◌else◌, Option, Some, None, slice_get}
+use Rattle.std.specs.Option.{unwrap_or}
 use Rattle.std.specs.List.{list_all}
 use Rattle.eds_base.specs.declared.ids.Place.{Place}
 use Rattle.eds_tree.specs.declared.tree.Node.{Node}
+use Rattle.eds_tree.specs.Trees.{name_at}
 use Rattle.eds_tree.specs.Unsupported.{spells_flag}
 use Rattle.eds_names.specs.declared.declared.Declared.{Declared}
 use Rattle.eds_names.specs.LookUp.{Names}
@@ -12,14 +14,21 @@ use Rattle.eds_types.specs.declared.row.Kind.TheVariants as kind
 use Rattle.eds_types.specs.declared.row.Container.{Container}
 use Rattle.eds_types.specs.declared.row.Part.{Part}
 use Rattle.eds_types.specs.Rows.{container_by, entries_in, trailers_in}
-use Rattle.eds_read_types.specs.Places.{attribute, is_container, is_array, types}
+use Rattle.eds_read_types.specs.declared.numbers.FormAndDomain.{FormAndDomain}
+use Rattle.eds_read_types.specs.Places.{attribute, is_container, is_array, types, type_places}
 use Rattle.eds_read_types.specs.Entries.{entries_at, trailers_at}
 use Rattle.eds_read_types.specs.Seats.{seats_of}
 use Rattle.eds_read_types.specs.PartRows.{id_or_first, part_at}
 use Rattle.eds_read_types.specs.ReadTypes.{id_found}
 use Rattle.eds_read_types.specs.Items.{items_at, row_items}
-use Rattle.eds_read_types.specs.Bases.{base_found}
-use Rattle.eds_read_types.specs.Kinds.{scalar_at}
+use Rattle.eds_read_types.specs.Forms.{int_form_of, bool_form_of}
+use Rattle.eds_read_types.specs.Listings.{listing_of}
+use Rattle.eds_read_types.specs.declared.sort.Sort.{Sort}
+use Rattle.eds_read_types.specs.declared.sort.Sort.TheVariants as sort
+use Rattle.eds_read_types.specs.Sorts.{sort_of}
+use Rattle.eds_read_types.specs.TextForms.{text_form_of, is_open, binary_bits_of}
+use Rattle.eds_read_types.specs.Bases.{base_found, bases_of}
+use Rattle.eds_read_types.specs.Numbers.{form_or_wide, truth_or_octet, text_or_octet, numbers_of}
 
 -- ---- containers
 
@@ -37,6 +46,31 @@ container_at trees names id at = record { hidden = is_abstract trees at; constra
 
 -- ---- types
 
+-- a binary of the bits that it says, or of an octet; in a sheet that is not refused each binary has a size
+abbrev pub binary_kind : List Node → ℕ → Kind
+binary_kind t n = kind.Bin (unwrap_or (binary_bits_of t n) 8) (is_open t n)
+
+-- an enumerated or boolean type, a string, a binary, or a type of such numbers
+abbrev pub scalar_kind_by : Option Sort → List Node → ℕ → FormAndDomain → Kind
+scalar_kind_by None t n numbers = kind.Int numbers.form numbers.spans
+scalar_kind_by (Some sort.Integer) t n numbers = kind.Int numbers.form numbers.spans
+scalar_kind_by (Some sort.Enumerated) t n numbers = kind.Enum (form_or_wide (int_form_of t n)) (listing_of t n)
+scalar_kind_by (Some sort.Boolean) t n numbers = kind.Bool (truth_or_octet (bool_form_of t n))
+scalar_kind_by (Some sort.Text) t n numbers = kind.Str (text_or_octet (text_form_of t n))
+scalar_kind_by (Some sort.Binary) t n numbers = binary_kind t n
+scalar_kind_by (Some sort.Array) t n numbers = kind.Int numbers.form numbers.spans
+scalar_kind_by (Some sort.SubRange) t n numbers = kind.Int numbers.form numbers.spans
+scalar_kind_by (Some sort.Container) t n numbers = kind.Int numbers.form numbers.spans
+
+-- what a type is that is no container and no array: by its element, or a type of these numbers
+abbrev pub scalar_kind : List Node → ℕ → FormAndDomain → Kind
+scalar_kind t n numbers = scalar_kind_by (sort_of (name_at t n)) t n numbers
+
+-- what the type of an element is, or a type of these numbers where there is no such file
+abbrev pub scalar_kind_in : Option (List Node) → ℕ → FormAndDomain → Kind
+scalar_kind_in None n numbers = kind.Int numbers.form numbers.spans
+scalar_kind_in (Some t) n numbers = scalar_kind t n numbers
+
 -- an array, by the type of its items and their number
 abbrev pub array_kind : List (List Node) → Names → Place → Kind
 array_kind trees names at = kind.Arr (id_or_first (id_found names at (attribute trees (codes "dataTypeRef") at))) (row_items (items_at trees names at))
@@ -45,7 +79,8 @@ array_kind trees names at = kind.Arr (id_or_first (id_found names at (attribute 
 abbrev pub kind_of : List (List Node) → Names → ℕ → Place → Kind
 kind_of trees names id at =
     if is_container trees at then kind.Con (container_at trees names id at) else
-    if is_array trees at then array_kind trees names at else scalar_at trees names id at
+    if is_array trees at then array_kind trees names at else
+    scalar_kind_in (slice_get trees at.file) at.node (numbers_of trees (type_places names) (bases_of trees names) id)
 
 -- a declared type as a row
 abbrev pub table_row : List (List Node) → Names → ℕ → Declared → TypeRow

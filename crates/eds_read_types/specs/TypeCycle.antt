@@ -1,6 +1,7 @@
 -- No type reaches itself, or a type of its family, by items and by the types of the parts of a family's containers. The rule is
 -- judged where no type that is its own base is reached.
-use Rattle.std.specs.Prelude.{List, [], ◌∷◌, not, ◌&&◌, if◌then◌else◌}
+use Rattle.std.specs.Prelude.{ℕ, List, [], ◌∷◌, not, ◌&&◌, if◌then◌else◌}
+use Rattle.eds_base.specs.declared.ids.Place.{Place}
 use Rattle.eds_base.specs.declared.refusal.Refusal.{Refusal}
 use Rattle.eds_base.specs.declared.rule.Rule.TheVariants.{TypeCycle}
 use Rattle.eds_tree.specs.declared.tree.Node.{Node}

@@ -5,7 +5,7 @@ use Rattle.eds_tree.specs.declared.tree.Node.{Node}
 use Rattle.eds_types.specs.Rules.{IsDomain, IsListing}
 use Rattle.eds_read_types.specs.Forms.{int_form_of}
 use Rattle.eds_read_types.specs.Ranges.{range_of}
-use Rattle.eds_constraints.specs.Domains.{domain_of}
+use Rattle.eds_read_types.specs.Domains.{domain_of}
 use Rattle.eds_read_types.specs.Listings.{listing_of}
 
 -- the integer type has a form, and its domain is one of the form

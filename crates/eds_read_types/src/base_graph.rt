@@ -1,8 +1,8 @@
 //! The types of a sheet, each with the type that it derives from.
 
 ghost use Rattle.std.specs.Prelude.{◌≡◌, map, option_map, IfOk, length, slice_get};
-ghost use Rattle.std.specs.List.{range_with_len, list_any};
-ghost use Rattle.eds_read_types.specs.Bases.{may_derive as may_derive_at, base_named as base_named_in, base_found as base_found_by, bases_of as bases_in, base_at as base_in, is_in_cycle as is_in_cycle_of, bases_within, meets_cycle as meets_cycle_of};
+ghost use Rattle.std.specs.List.{range_with_len};
+ghost use Rattle.eds_read_types.specs.Bases.{may_derive as may_derive_at, base_named as base_named_in, base_found as base_found_by, bases_of as bases_in, base_at as base_in, is_in_cycle as is_in_cycle_of};
 
 use crate::element::{attribute, is_container, is_sub_range};
 use crate::named_trees::NamedTrees;
@@ -129,32 +129,4 @@ pub(crate) fn is_cyclic(graph: &BaseGraph, id: usize) -> bool
         None => false,
         Some(cyclic) => cyclic,
     }
-}
-
-/// Whether one of the first bases of a type is its own base.
-fn bases_meet_cycle(graph: &BaseGraph, most: usize, id: usize) -> bool
-    ensures { result ≡ list_any (is_in_cycle_of graph.now.bases.now) (bases_within most graph.now.bases.now id) }
-{
-    let mut at = id;
-    let mut left = most;
-    while left > 0 {
-        match base_at(graph.bases, at) {
-            None => return false,
-            Some(base) => {
-                at = base.0 as usize;
-                if is_cyclic(graph, at) {
-                    return true;
-                }
-            }
-        }
-        left -= 1;
-    }
-    false
-}
-
-/// Whether a type or one of its bases is its own base.
-pub(crate) fn meets_cycle(graph: &BaseGraph, id: usize) -> bool
-    ensures { result ≡ meets_cycle_of graph.now.bases.now id }
-{
-    is_cyclic(graph, id) || bases_meet_cycle(graph, graph.bases.len(), id)
 }

@@ -60,11 +60,7 @@ fn least_repeat(
 // ---- the names of bases
 
 /// Puts a name among others.
-pub(crate) fn note_name(
-    alloc: Global,
-    names: &mut IndexSet<String>,
-    name: &str,
-) -> Result<(), Memory>
+fn note_name(alloc: Global, names: &mut IndexSet<String>, name: &str) -> Result<(), Memory>
     ensures { OnOk result ((q : List ℕ) → is_among (map string_bytes names.new.keys) q ≡ is_among (name.now ∷ map string_bytes names.old.keys) q) }
 {
     if names.contains(name) {

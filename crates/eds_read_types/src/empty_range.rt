@@ -9,15 +9,15 @@ ghost use Rattle.eds_read_types.specs.EmptyRange.{lacks_numbers_by, lacks_number
 use crate::bad_encoding::lacks_form;
 use crate::base_graph::{BaseGraph, base_at, type_at};
 use crate::breaks::{PlaceRule, TypeRule, broken};
+use crate::domain::is_empty_domain;
 use crate::element::{is_sub_range, tree_at};
 use crate::form::int_form_of;
 use crate::named_trees::NamedTrees;
 use crate::numbers::numbers_of;
-use crate::range::range_of;
+use crate::range::{Range, range_of};
 use crate::scalar_kind::{is_integer, refusal_where};
 use eds_base::{Memory, Place, Refusal, Rule};
 use eds_bits::IntForm;
-use eds_constraints::{Range, is_empty_domain};
 use eds_tree::Tree;
 use std::alloc::Global;
 

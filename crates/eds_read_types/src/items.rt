@@ -8,9 +8,10 @@ ghost use Rattle.eds_read_types.specs.Bases.{bases_within, all_bases};
 ghost use Rattle.eds_read_types.specs.Numbers.{numbers_within};
 ghost use Rattle.eds_read_types.specs.Items.{span_size as span_size_of, set_size as set_size_of, different as different_of, values_in as values_in_tree, values_at as values_by_place, lacks_own_form as lacks_own_form_of, is_valueless as is_valueless_of, values_of as values_by_id, values_found as values_found_by, AreKnown, size_or as size_or_of, dimension_at as dimension_by, dimensions_of as dimensions_in, items_at as items_by, few as few_of, row_items as row_items_of};
 
-use crate::base_graph::{BaseGraph, base_at, meets_cycle, type_at};
+use crate::base_graph::{BaseGraph, base_at, type_at};
 use crate::element::{attribute, name_at, push_held, tree_at};
 use crate::empty_range::lacks_form_at;
+use crate::limit_chain::meets_cycle;
 use crate::listing::{add_value, listing_of};
 use crate::named_trees::NamedTrees;
 use crate::numbers::{FormAndDomain, narrowed_numbers, own_numbers_at, range_at};
@@ -196,18 +197,12 @@ fn values_of(alloc: Global, graph: &BaseGraph, id: usize) -> Result<Option<u32>,
     Ok(Some(values))
 }
 
-/// A mark for each type, none of them set.
-pub(crate) fn no_marks(alloc: Global, sheet: &NamedTrees) -> Result<Vec<bool>, Memory> {
-    let mut marks = Vec::new(alloc);
-    for _ in sheet.types {
-        marks.push(false)?;
-    }
-    Ok(marks)
-}
-
 /// For each type whether a dimension names it.
 fn are_named(alloc: Global, sheet: &NamedTrees) -> Result<Vec<bool>, Memory> {
-    let mut named = no_marks(alloc, sheet)?;
+    let mut named = Vec::new(alloc);
+    for _ in sheet.types {
+        named.push(false)?;
+    }
     for at in sheet.elements {
         if name_at(sheet.trees, *at) == "Dimension" {
             let index = id_found(
@@ -222,8 +217,7 @@ fn are_named(alloc: Global, sheet: &NamedTrees) -> Result<Vec<bool>, Memory> {
     Ok(named)
 }
 
-/// Sets the mark of a type, where there is such a type.
-pub(crate) fn mark(flags: &mut [bool], id: Option<TypeId>) {
+fn mark(flags: &mut [bool], id: Option<TypeId>) {
     let Some(id) = id else {
         return;
     };

@@ -13,26 +13,22 @@ ghost use Rattle.eds_bits.specs.Encodings.{IsForm};
 ghost use Rattle.eds_bits.specs.IntForms.{HasNumber};
 ghost use Rattle.eds_types.specs.Rules.{IsDomain, IsListing, IsSubRange};
 ghost use Rattle.eds_read_types.specs.Forms.{int_form, bool_form, bool_form_of};
-ghost use Rattle.eds_constraints.specs.Ranges.{Admits};
-ghost use Rattle.eds_constraints.specs.Domains.{domain_of, narrowed, has_none};
+ghost use Rattle.eds_read_types.specs.Ranges.{Admits};
+ghost use Rattle.eds_read_types.specs.Domains.{domain_of, narrowed, has_none};
 ghost use Rattle.eds_read_types.specs.Listings.{is_listing};
 ghost use Rattle.eds_read_types.specs.ScalarKinds.{is_integer, is_enumerated, is_boolean};
 ghost use Rattle.eds_read_types.specs.References.{broken};
 ghost use Rattle.eds_read_types.specs.Bases.{bases_within, all_bases, is_in_cycle};
 ghost use Rattle.eds_read_types.specs.BaseCycle.{cycle_at};
-ghost use Rattle.eds_tree.specs.declared.tree.Node.{Node as node};
-ghost use Rattle.eds_types.specs.Rows.{Table};
-ghost use Rattle.eds_graph.specs.Ways.{is_endless};
-ghost use Rattle.eds_read_types.specs.Nesting.{course_of};
-ghost use Rattle.eds_read_types.specs.LimitChain.{chain_at};
+ghost use Rattle.eds_read_types.specs.LimitChain.{meets_cycle, chain_at};
 ghost use Rattle.eds_read_types.specs.BadEncoding.{encoding_breaks};
 ghost use Rattle.eds_read_types.specs.EmptyRange.{range_breaks};
 ghost use Rattle.eds_read_types.specs.BadEnumeration.{enumeration_breaks};
 ghost use Rattle.eds_read_types.specs.Unbroken.{HasDomain, HasListing};
 
+use crate::range::Range;
 use eds_base::{Place, Spans};
 use eds_bits::IntForm;
-use eds_constraints::Range;
 use eds_tree::Tree;
 
 /// A size, an encoding and a byte order give a form exactly where the size is from 1 to 64 bits and has whole decimal digits
@@ -78,9 +74,9 @@ pub fn unbroken_types(tree: &Tree, at: Place)
 {}
 
 /// However far the bases of a type are followed, none is found that is not among its first ones, as many as there are types. A type
-/// that is its own base is refused as such, and no type for a long chain that reaches such a type, or one that reaches itself.
+/// that is its own base is refused as such, and neither it nor a type that derives from it for a long chain.
 pub fn circles()
     ensures bases { (bases : List (Option type_id)) (id other n : ℕ) → list_any (λ base. base == other) (bases_within n bases id) ≡ true → list_any (λ base. base == other) (all_bases bases id) ≡ true }
     ensures refused { (bases : List (Option type_id)) (id : ℕ) (at : place) → is_in_cycle bases id ≡ true → cycle_at bases id at ≡ broken BaseCycle at ∷ [] }
-    ensures apart { (trees : List (List node)) (t : Table) (id : ℕ) (at : place) → is_endless (course_of t id) ≡ true → chain_at trees t id at ≡ [] }
+    ensures apart { (bases : List (Option type_id)) (id : ℕ) (at : place) → meets_cycle bases id ≡ true → chain_at bases id at ≡ [] }
 {}

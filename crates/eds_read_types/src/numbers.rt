@@ -4,13 +4,13 @@ ghost use Rattle.std.specs.Prelude.{◌≡◌, IfOk, option_map};
 ghost use Rattle.eds_read_types.specs.Numbers.{form_or_wide as form_or_wide_of, truth_or_octet as truth_or_octet_of, text_or_octet as text_or_octet_of, numbers_with as numbers_by_form, own_numbers as own_numbers_of, own_numbers_at as own_numbers_in, range_at as range_in_tree, narrowed_numbers, all_numbers, numbers_within as numbers_up, numbers_of as numbers_by_id};
 
 use crate::base_graph::{BaseGraph, base_at, type_at};
+use crate::domain::{domain_of, narrowed};
 use crate::element::tree_at;
 use crate::form::int_form_of;
-use crate::range::range_of;
+use crate::range::{NO_RANGE, Range, range_of};
 use crate::scalar_kind::is_integer;
 use eds_base::{Memory, Place, Spans};
 use eds_bits::{BoolForm, ByteOrder, Encoding, IntForm, TextForm};
-use eds_constraints::{NO_RANGE, Range, domain_of, narrowed};
 use eds_tree::Tree;
 use std::alloc::Global;
 

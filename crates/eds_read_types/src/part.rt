@@ -1,7 +1,7 @@
 //! The parts of containers as rows hold them.
 
 ghost use Rattle.std.specs.Prelude.{◌≡◌, IfOk, option_map};
-ghost use Rattle.eds_read_types.specs.PartRows.{entry_type as entry_type_of, id_or_first as id_or_first_of, entry_id as entry_id_of, padding_size as padding_size_of, padding_size_in, padding_bits as padding_bits_of, unread as unread_part, plain_part as plain_part_of, fixed_part as fixed_part_of, list_part as list_part_of, length_part as length_part_of, check_part as check_part_of, part_at as part_of};
+ghost use Rattle.eds_read_types.specs.PartRows.{entry_type as entry_type_of, id_or_first as id_or_first_of, entry_id as entry_id_of, padding_size as padding_size_of, padding_size_in, padding_bits as padding_bits_of, unread as unread_part, plain_part as plain_part_of, list_part as list_part_of, length_part as length_part_of, check_part as check_part_of, part_at as part_of};
 
 use crate::calibrator::scale_at;
 use crate::element::{attribute, own_name};
@@ -12,7 +12,6 @@ use crate::named_trees::NamedTrees;
 use crate::part_sort::PartSort;
 use crate::reference::id_found;
 use crate::text_form::{binary_bits, natural};
-use crate::value_kinds::{ValueKinds, fixed_value, row_value};
 use eds_base::{Memory, Place, Text, TypeId, whole_number};
 use eds_tree::Tree;
 use eds_types::Part;
@@ -79,32 +78,11 @@ fn padding_bits(trees: &[Tree], at: Place) -> u32
     }
 }
 
-/// In place of what is no part.
+/// A part that is not compiled yet.
 fn unread() -> Part
     ensures { result ≡ unread_part }
 {
     Part::Pad(8)
-}
-
-/// A name, where there is one.
-fn text_if(alloc: Global, name: Option<&str>) -> Result<Option<Text>, Memory>
-    ensures { IfOk result (λ w. w ≡ option_map (λ n. n.now) name.entry) }
-{
-    match name {
-        None => Ok(None),
-        Some(name) => Ok(Some(Text::of(alloc, name)?)),
-    }
-}
-
-/// A fixed value by its name, if it has one, its type and its value.
-fn fixed_part(alloc: Global, kinds: &ValueKinds, at: Place) -> Result<Part, Memory>
-    ensures { IfOk result (λ p. p ≡ fixed_part_of kinds.now.graph.now.sheet.now.trees.now kinds.now.graph.now.sheet.now.space.now at) }
-{
-    let sheet = kinds.graph.sheet;
-    let id = entry_id(alloc, sheet, at)?;
-    let value = fixed_value(alloc, kinds, id.0 as usize, at)?;
-    let name = text_if(alloc, attribute(sheet.trees, "name", at))?;
-    Ok(Part::Fixed(name, id, row_value(value)))
 }
 
 /// A list by its name, the type of its items, and the part that tells their number.
@@ -151,19 +129,18 @@ fn check_part(alloc: Global, sheet: &NamedTrees, at: Place) -> Result<Part, Memo
 /// The part that the element at a place is, of the container of a number in whose sequence the fields are looked for.
 pub(crate) fn part_at(
     alloc: Global,
-    kinds: &ValueKinds,
+    sheet: &NamedTrees,
     container: usize,
     fields: &Fields,
     at: Place,
 ) -> Result<Part, Memory>
-    requires { fields.now.trees.now ≡ kinds.now.graph.now.sheet.now.trees.now }
-    ensures { IfOk result (λ p. p ≡ part_of kinds.now.graph.now.sheet.now.trees.now kinds.now.graph.now.sheet.now.space.now container fields.now.seats.now at) }
+    requires { fields.now.trees.now ≡ sheet.now.trees.now }
+    ensures { IfOk result (λ p. p ≡ part_of sheet.now.trees.now sheet.now.space.now container fields.now.seats.now at) }
 {
-    let sheet = kinds.graph.sheet;
     match sort_at(sheet.trees, at) {
         None => Ok(unread()),
         Some(PartSort::Entry) => plain_part(alloc, sheet, at),
-        Some(PartSort::FixedValue) => fixed_part(alloc, kinds, at),
+        Some(PartSort::FixedValue) => Ok(unread()),
         Some(PartSort::Padding) => Ok(Part::Pad(padding_bits(sheet.trees, at))),
         Some(PartSort::List) => list_part(alloc, sheet, container, fields, at),
         Some(PartSort::Length) => length_part(alloc, sheet, at),

@@ -1,11 +1,30 @@
 //! The ranges of integer types and sub-ranges.
 
 ghost use Rattle.std.specs.Prelude.{◌≡◌, option_map};
-ghost use Rattle.eds_read_types.specs.Ranges.{inclusive_end, exclusive_end, includes_least, excludes_least, includes_greatest, excludes_greatest, lower_end, upper_end, range_by, range_in, range_of};
+ghost use Rattle.eds_read_types.specs.Ranges.{inclusive_end, exclusive_end, includes_least, excludes_least, includes_greatest, excludes_greatest, lower_end, upper_end, no_range, range_by, range_in, range_of};
 
 use crate::element::{child_named, number_at};
-use eds_constraints::{End, NO_RANGE, Range};
 use eds_tree::Tree;
+
+/// An end of a range: what is admitted on its side.
+#[derive(Clone, Copy, Debug, PartialEq, Eq)]
+pub enum End {
+    /// No number is beyond it.
+    Open,
+    /// The last number that is not beyond it.
+    Inclusive(i128),
+    /// The first number that is beyond it.
+    Exclusive(i128),
+}
+
+/// The numbers from a lower end to an upper one (CCSDS 876.0-B, minimum and maximum ranges).
+#[derive(Clone, Copy, Debug, PartialEq, Eq)]
+pub struct Range {
+    /// The lower end.
+    pub low: End,
+    /// The upper end.
+    pub high: End,
+}
 
 fn inclusive_end(number: Option<i128>) -> End
     ensures { result ≡ inclusive_end number }
@@ -86,6 +105,12 @@ fn upper_end(range_type: &str, greatest: Option<i128>) -> End
         End::Open
     }
 }
+
+/// Any number.
+pub(crate) const NO_RANGE: Range = Range {
+    low: End::Open,
+    high: End::Open,
+};
 
 fn range_by(tree: &Tree, bounds: u32, range_type: Option<&str>) -> Range
     ensures { result ≡ range_by tree.now bounds (option_map (λ w. w.now) range_type.entry) }

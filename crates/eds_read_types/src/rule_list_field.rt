@@ -1,12 +1,12 @@
 //! The rule on the entry that tells the number of a list's items.
 
 ghost use Rattle.std.specs.Prelude.{◌≡◌, slice_get};
-ghost use Rattle.eds_read_types.specs.ListField.{has_negative as has_negative_in, counts_by as counts_by_kind, counts_in, is_count as is_count_of, stands_before as stands_before_at, may_tell, is_told as is_told_at};
+ghost use Rattle.eds_read_types.specs.ListField.{has_negative as has_negative_in, counts_by as counts_by_kind, counts_in, is_count as is_count_of, stands_before as stands_before_at, is_told as is_told_at};
 ghost use Rattle.eds_types.specs.Rows.{chain, list_has};
 ghost use Rattle.std.specs.Option.{option_copied};
 
 use crate::breaks::broken;
-use crate::sheet_rows::{PartAt, PartRule, base_of, entries_of, part_of};
+use crate::sheet_rows::{PartAt, PartRule, base_of, entries_of};
 use eds_base::{Memory, Refusal, Rule, Span, TypeId};
 use eds_types::{Kind, Part, TypeRows};
 use std::alloc::Global;
@@ -86,7 +86,7 @@ fn is_at_or_above(rows: &TypeRows, upper: usize, id: usize) -> bool
     false
 }
 
-/// Whether the part of a position in a container stands before another.
+/// Whether the entry of a position in a container stands before a part.
 fn stands_before(rows: &TypeRows, y: TypeId, field: u16, container: usize, place: usize) -> bool
     ensures { result ≡ stands_before_at rows.now y.0 field container place }
 {
@@ -98,26 +98,12 @@ fn stands_before(rows: &TypeRows, y: TypeId, field: u16, container: usize, place
     }
 }
 
-/// The part of a position in a container, among those that may stand before a list of some container.
-fn telling_part(rows: &TypeRows, y: usize, container: usize, index: usize) -> Option<&Part>
-    ensures { option_copied result ≡ slice_get (may_tell rows.now y container) index }
-{
-    if y == container {
-        part_of(rows, y, index)
-    } else {
-        entries_of(rows, y).get(index)
-    }
-}
-
-/// Whether the part of a position in a container is an entry that counts, and stands before a part.
+/// Whether the entry of a position in a container counts, and stands before a part.
 fn is_told(rows: &TypeRows, y: TypeId, field: u16, container: usize, place: usize) -> bool
     ensures { result ≡ is_told_at rows.now y.0 field container place }
 {
     stands_before(rows, y, field, container, place)
-        && is_count(
-            rows,
-            telling_part(rows, y.0 as usize, container, field as usize),
-        )
+        && is_count(rows, entries_of(rows, y.0 as usize).get(field as usize))
 }
 
 /// The number of a list's items is told by an entry before it, whose type has no negative numbers.

@@ -11,13 +11,11 @@ use crate::bad_encoding::BadEncoding;
 use crate::bad_enumeration::BadEnumeration;
 use crate::base_cycle::BaseCycle;
 use crate::breaks::{PlaceRule, TypeRule, least_over, least_over_types};
-use crate::constraint_rules::ConstraintRules;
 use crate::duplicate_entry::DuplicateEntry;
 use crate::empty_range::{EmptyRange, EmptySubRange};
-use crate::empty_type::EmptyType;
+use crate::empty_type::{EmptyItem, EmptyPart, EmptyWord};
 use crate::error_control::ErrorControl;
 use crate::face_rules::{AtFaces, OpenInFace, UnresolvedInFace, WrongKindInFace};
-use crate::fixed_value::FixedValue;
 use crate::length_field::{LengthField, LengthScale, SecondLength};
 use crate::limit_chain::LimitChain;
 use crate::limit_family::LimitFamily;
@@ -159,7 +157,7 @@ type References = And<
 type Bases = And<
     AtNumbers<BaseCycle>,
     And<
-        AtRows<LimitChain>,
+        AtNumbers<LimitChain>,
         And<
             AtRows<TypeCycle>,
             And<AtRows<LimitFamily>, And<AtRows<LimitNesting>, And<AtRows<LimitItems>, NoRule>>>,
@@ -171,6 +169,8 @@ type Scalars = And<
     AtTypes<BadEncoding>,
     And<AtTypes<EmptyRange>, And<AtNumbers<EmptySubRange>, And<AtTypes<BadEnumeration>, NoRule>>>,
 >;
+
+type EmptyType = And<AtRows<AtParts<EmptyPart>>, And<AtRows<EmptyItem>, EmptyWord>>;
 
 type Lengths = And<
     AtRows<AtParts<LengthField>>,
@@ -185,13 +185,7 @@ type Containers = And<
         AtRows<DuplicateEntry>,
         And<
             AtRows<AtParts<ListField>>,
-            And<
-                Lengths,
-                And<
-                    FixedValue,
-                    And<Checks, And<ConstraintRules, And<AtFaces<OpenInFace>, NoRule>>>,
-                >,
-            >,
+            And<Lengths, And<Checks, And<AtFaces<OpenInFace>, NoRule>>>,
         >,
     >,
 >;

@@ -1,6 +1,6 @@
 //! Rules that are judged over the rows of a sheet: at each type, and at each part of its container.
 
-ghost use Rattle.std.specs.Prelude.{◌≡◌, List, ℕ, Some, is_some, IfOk, IfSome, slice_get};
+ghost use Rattle.std.specs.Prelude.{◌≡◌, List, ℕ, is_some, IfOk, slice_get};
 ghost use Rattle.std.specs.Option.{option_copied};
 ghost use Rattle.eds_base.specs.declared.ids.Place.{Place as place};
 ghost use Rattle.eds_base.specs.declared.refusal.Refusal.{Refusal as refusal};
@@ -9,7 +9,6 @@ ghost use Rattle.eds_tree.specs.declared.tree.Node.{Node as node};
 ghost use Rattle.eds_types.specs.Sizes.{open_of};
 ghost use Rattle.eds_types.specs.Rows.{Table, Placed, base_of as base_in, number_of_id, container_of, entries_in, trailers_in};
 ghost use Rattle.eds_read_types.specs.Bases.{breaks_over};
-ghost use Rattle.eds_read_types.specs.FixedValues.{AreRead, kind_set};
 ghost use Rattle.eds_read_types.specs.TableRows.{table_rows};
 ghost use Rattle.eds_nesting.specs.Families.{families as families_of, nesting as nesting_of, family_sizes as family_sizes_of, endless_met as endless_met_of};
 ghost use Rattle.eds_read_types.specs.Parts.{parts_in, judged_part, judged_parts};
@@ -18,7 +17,6 @@ ghost use Rattle.eds_read_types.specs.Nesting.{course_of, meets_base_cycle};
 
 use crate::base_graph::BaseGraph;
 use crate::entry::own_parts_at;
-use crate::value_kind::ValueKind;
 use eds_base::{Memory, Place, Refusal, TypeId};
 use eds_graph::Course;
 use eds_types::{Kind, Part, TypeRows};
@@ -36,13 +34,10 @@ pub(crate) struct SheetRows<'a> {
     pub(crate) endless: &'a [bool],
     /// For each type how many containers its family has.
     pub(crate) sizes: &'a [usize],
-    /// The kind of each type that a fixed value names, if it is neither an array nor a container.
-    pub(crate) kinds: &'a [Option<ValueKind>],
     ghost read: { rows.now ≡ table_rows graph.now.sheet.now.trees.now graph.now.sheet.now.space.now },
     ghost nested: { nesting.now ≡ nesting_of rows.now (families_of rows.now) },
     ghost met: { endless.now ≡ endless_met_of rows.now (families_of rows.now) },
     ghost sized: { sizes.now ≡ family_sizes_of rows.now (families_of rows.now) },
-    ghost valued: { AreRead graph.now.sheet.now.trees.now graph.now.sheet.now.space.now kinds.now } by { Prim.hlevel kind_set },
 }
 
 impl<'a> SheetRows<'a> {
@@ -181,8 +176,8 @@ pub(crate) fn trailers_of(rows: &TypeRows, id: usize) -> &[Part]
     }
 }
 
-/// A part of a type, by its position among the entries and then the trailers.
-pub(crate) fn part_of(rows: &TypeRows, id: usize, index: usize) -> Option<&Part>
+/// One of both, by its position among the entries and then the trailers.
+fn part_of(rows: &TypeRows, id: usize, index: usize) -> Option<&Part>
     ensures { option_copied result ≡ slice_get (parts_in (container_of rows.now id)) index }
 {
     let entries = entries_of(rows, id);

@@ -1,5 +1,5 @@
 -- A sheet is refused for the least of all that it breaks.
-use Rattle.std.proofs.Common.{◌≡◌, ℕ, List, [], ◌∷◌, Option, Some, None, Result, Ok, Err, refl, sym, ap, subst, ◌∙◌}
+use Rattle.std.proofs.Common.{◌≡◌, ℕ, List, [], ◌∷◌, Option, Some, None, Result, Ok, Err, refl, sym, ap, ◌∙◌}
 use Rattle.std.specs.Prelude.{IsOk}
 use Rattle.eds_base.specs.declared.refusal.Refusal.{Refusal}
 use Rattle.eds_base.specs.Answering.{◌>>=◌}
@@ -9,13 +9,11 @@ use Rattle.eds_tree.specs.ShapeCheck.{shape_breaks, shape_verdict, unless_broken
 use Rattle.eds_names.specs.LookUp.{Names, names_in, names_of, duplicates, unless as names_unless}
 use Rattle.eds_read_types.specs.declared.table.SheetTypes.{SheetTypes}
 use Rattle.eds_read_types.specs.TableBreaks.{table_breaks}
-use Rattle.eds_read_types.specs.SheetTable.{sheet_table}
+use Rattle.eds_read_types.specs.TableRows.{table_rows}
 use Rattle.eds_read_comp.specs.Uses.{end_breaks, end_verdict}
 use Rattle.eds_read_types.specs.TableRead.{typed_of, unless as types_unless, table_read}
 use Rattle.eds_read_types.specs.Judging.{judged_first}
 use Rattle.eds_sheet.specs.Files.{trees_in, reading_breaks}
-use Rattle.eds_sheet.specs.declared.sheet.Sheet.{Sheet}
-use Rattle.eds_sheet.specs.Overlaps.{overlap_breaks, overlap_verdict}
 use Rattle.eds_sheet.specs.Pending.{pending_breaks, pending_verdict}
 use Rattle.eds_sheet.specs.Compiled.{tree_breaks, typed_breaks, breaks_where_read, all_breaks, sheet_of, compiled_trees, compiled}
 use Rattle.eds_sheet.proofs.Stages.{or_then, least-judged_first, stop_of, stop_of-Err, stop_of-then}
@@ -53,39 +51,29 @@ types-stop trees names word = go (least (table_breaks trees names word))
 
 -- ---- trees
 
-typed-is : (trees : List (List Node)) (names : Names) (word : Option (List ℕ)) (typed : SheetTypes) → table_read trees names word ≡ Ok typed → typed_of trees names word ≡ typed
+table-is : (trees : List (List Node)) (names : Names) (word : Option (List ℕ)) (typed : SheetTypes) → table_read trees names word ≡ Ok typed → typed.table ≡ table_rows trees names
 unfolding table_read
-typed-is trees names word typed h = go (least (table_breaks trees names word)) h
+table-is trees names word typed h = go (least (table_breaks trees names word)) h
   where
-    go : (o : Option Refusal) → types_unless o (typed_of trees names word) ≡ Ok typed → typed_of trees names word ≡ typed
-    go None e = cc
+    go : (o : Option Refusal) → types_unless o (typed_of trees names word) ≡ Ok typed → typed.table ≡ table_rows trees names
+    go None e = let same : typed_of trees names word ≡ typed = cc in sym (ap (λ (t : SheetTypes). t.table) same)
     go (Some r) e = absurd (cc)
 
 then-sheet : (names : Names) (typed : SheetTypes) (o : Option Refusal) → stop_of (unless_broken o >>= λ resolved. Ok (sheet_of names typed)) ≡ o
 then-sheet names typed None = refl
 then-sheet names typed (Some r) = refl
 
--- the sheet of some types, of which the containers and the interfaces are judged
-abbrev sheet_from : List (List Node) → Names → SheetTypes → Result Sheet Refusal
-sheet_from trees names typed = overlap_verdict names typed >>= λ apart. end_verdict trees names typed.table >>= λ resolved. Ok (sheet_of names typed)
-
-from-stop : (trees : List (List Node)) (names : Names) (typed : SheetTypes) → stop_of (sheet_from trees names typed) ≡ or_then (least (overlap_breaks names typed)) (least (end_breaks trees names typed.table))
-from-stop trees names typed =
-    stop_of-then (overlap_verdict names typed) _ (least (end_breaks trees names typed.table)) (λ apart h. then-sheet names typed (least (end_breaks trees names typed.table)))
-    ∙ ap (λ o. or_then o (least (end_breaks trees names typed.table))) (unless_broken-stop (least (overlap_breaks names typed)))
-
 -- the sheet of the types and interfaces, or why there is none
-sheet-stop : (trees : List (List Node)) (names : Names) (word : Option (List ℕ)) → stop_of (table_read trees names word >>= λ typed. sheet_from trees names typed) ≡ least (typed_breaks trees names word)
+sheet-stop : (trees : List (List Node)) (names : Names) (word : Option (List ℕ))
+    → stop_of (table_read trees names word >>= λ typed. end_verdict trees names typed.table >>= λ resolved. Ok (sheet_of names typed)) ≡ least (typed_breaks trees names word)
 sheet-stop trees names word =
-    let overlaps = overlap_breaks names (typed_of trees names word) in
-    let ends = end_breaks trees names (sheet_table trees names) in
-    stop_of-then (table_read trees names word) _ (or_then (least overlaps) (least ends))
-    (λ typed h. subst (λ (s : SheetTypes). stop_of (sheet_from trees names s) ≡ or_then (least overlaps) (least ends)) (typed-is trees names word typed h) (from-stop trees names (typed_of trees names word)))
-    ∙ ap (λ o. or_then o (or_then (least overlaps) (least ends))) (types-stop trees names word)
-    ∙ sym (least-judged_first (table_breaks trees names word) (judged_first overlaps ends) ∙ ap (or_then (least (table_breaks trees names word))) (least-judged_first overlaps ends))
+    stop_of-then (table_read trees names word) _ (least (end_breaks trees names (table_rows trees names)))
+    (λ typed h. then-sheet names typed (least (end_breaks trees names typed.table)) ∙ ap (λ t. least (end_breaks trees names t)) (table-is trees names word typed h))
+    ∙ ap (λ o. or_then o (least (end_breaks trees names (table_rows trees names)))) (types-stop trees names word)
+    ∙ sym (least-judged_first (table_breaks trees names word) (end_breaks trees names (table_rows trees names)))
 
 module _ (trees : List (List Node)) (word : Option (List ℕ)) where
-  typed-stop : (names : Names) → names_in trees ≡ Ok names → stop_of (table_read trees names word >>= λ typed. sheet_from trees names typed) ≡ least (typed_breaks trees (names_of trees) word)
+  typed-stop : (names : Names) → names_in trees ≡ Ok names → stop_of (table_read trees names word >>= λ typed. end_verdict trees names typed.table >>= λ resolved. Ok (sheet_of names typed)) ≡ least (typed_breaks trees (names_of trees) word)
   typed-stop names h = sheet-stop trees names word ∙ ap (λ ns. least (typed_breaks trees ns word)) (names-are trees names h)
 
   -- the stops of the steps, one after another

@@ -2,5 +2,5 @@ pub mod Lists
 pub mod Stages
 pub mod FilesLemmas
 pub mod CompiledLaws
-pub mod UsedTypes
+pub mod NoBases
 pub mod SoundSheets

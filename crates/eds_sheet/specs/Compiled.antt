@@ -11,28 +11,23 @@ use Rattle.eds_types.specs.Rows.{container_in}
 use Rattle.eds_read_types.specs.declared.table.SheetTypes.{SheetTypes}
 use Rattle.eds_read_types.specs.Judging.{judged_first}
 use Rattle.eds_read_types.specs.TableBreaks.{table_breaks}
-use Rattle.eds_read_types.specs.TableRead.{typed_of, table_read}
-use Rattle.eds_read_types.specs.SheetTable.{sheet_table}
+use Rattle.eds_read_types.specs.TableRead.{table_read}
+use Rattle.eds_read_types.specs.TableRows.{table_rows}
 use Rattle.eds_read_comp.specs.Uses.{end_breaks, end_verdict}
 use Rattle.eds_sheet.specs.declared.sheet.Counts.{Counts}
 use Rattle.eds_sheet.specs.declared.sheet.Sheet.{Sheet}
 use Rattle.eds_sheet.specs.Files.{trees_in, reading_breaks}
-use Rattle.eds_sheet.specs.Overlaps.{overlap_breaks, overlap_verdict}
 use Rattle.eds_sheet.specs.Pending.{pending_breaks, pending_verdict}
 
 -- ---- what a sheet breaks
 
--- What the references and the types of some trees break; where these break nothing, what their containers break that overlap;
--- and where these don't, what their interfaces break: under the maps of the ends of components, and without own generic names
--- under the empty map.
+-- What the references and the types of some trees break, and what their interfaces break where these break nothing: under the
+-- maps of the ends of components, and without own generic names under the empty map.
 abbrev pub typed_breaks : List (List Node) → Names → (word : Option (List ℕ)) → List Refusal
-typed_breaks trees names word =
-    judged_first (table_breaks trees names word)
-    (judged_first (overlap_breaks names (typed_of trees names word)) (end_breaks trees names (sheet_table trees names)))
+typed_breaks trees names word = judged_first (table_breaks trees names word) (end_breaks trees names (table_rows trees names))
 
 -- All that some trees break, each stage judged only where the stages before it are not broken: the elements and their
--- attributes, what is not compiled yet, the names, the references and the types, containers that overlap, and then the
--- interfaces.
+-- attributes, what is not compiled yet, the names, the references and the types, and then the interfaces.
 abbrev pub tree_breaks : List (List Node) → (word : Option (List ℕ)) → List Refusal
 tree_breaks trees word =
     judged_first (shape_breaks trees)
@@ -75,7 +70,6 @@ compiled_trees trees word =
     pending_verdict trees >>= λ built.
     names_in trees >>= λ names.
     table_read trees names word >>= λ typed.
-    overlap_verdict names typed >>= λ apart.
     end_verdict trees names typed.table >>= λ resolved.
     Ok (sheet_of names typed)
 

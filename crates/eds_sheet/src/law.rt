@@ -4,7 +4,7 @@ ghost use Rattle.std.specs.Prelude.{◌≡◌, ◌↔◌, [], Err, Some, IsOk, o
 ghost use Rattle.eds_base.specs.declared.refusal.Refusal.{Refusal};
 ghost use Rattle.eds_base.specs.Refusals.{least};
 ghost use Rattle.eds_sheet.specs.Compiled.{all_breaks, compiled};
-ghost use Rattle.eds_sheet.specs.Laws.{SheetsAreSound, UsedTypesAreClear};
+ghost use Rattle.eds_sheet.specs.Laws.{SheetsAreSound};
 
 use crate::Files;
 
@@ -19,10 +19,4 @@ pub fn refused_for_the_first_break(files: &Files, word: Option<&str>)
 /// such a word, and no two containers that are read through that type overlap.
 pub fn sheets_are_sound()
     ensures { SheetsAreSound }
-{}
-
-/// In a sheet that is accepted no two containers overlap that are read through a used type: one that a part, an array, the TYPE
-/// word, a parameter, an argument, a variable or a map names. An open binary is none of them.
-pub fn used_types_are_clear()
-    ensures { UsedTypesAreClear }
 {}

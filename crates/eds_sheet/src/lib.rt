@@ -3,7 +3,6 @@
 
 mod files;
 pub mod law;
-mod overlaps;
 mod pending;
 mod sheet;
 

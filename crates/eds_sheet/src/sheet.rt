@@ -4,11 +4,9 @@ ghost use Rattle.std.specs.Prelude.{◌≡◌, ◌≤◌, ◌<◌, ◌^◌, leng
 ghost use Rattle.std.specs.List.{All};
 ghost use Rattle.eds_base.specs.Answering.{Answers};
 ghost use Rattle.eds_types.specs.Overlap.{IsClear};
-ghost use Rattle.eds_types.specs.Rules.{IsHollow};
 ghost use Rattle.eds_sheet.specs.Compiled.{is_container as container, counts_of as counted, compiled};
 
 use crate::files::{Files, read_trees};
-use crate::overlaps::check_overlaps;
 use crate::pending::check_pending;
 use eds_base::{Fail, Memory, Refusal, TypeId};
 use eds_names::Space;
@@ -92,7 +90,6 @@ fn sheet_of(alloc: Global, files: &Files, extra: Option<&str>) -> Result<Sheet, 
     check_pending(alloc, &trees)?;
     let space = Space::build(alloc, &trees)?;
     let typed = read_types(alloc, &trees, &space, extra)?;
-    check_overlaps(alloc, &space, &typed)?;
     check_ends(alloc, &trees, &space, &typed.table)?;
     let counts = counts_of(&space, &typed)?;
     Ok(Sheet {
@@ -113,7 +110,6 @@ pub fn compile(alloc: Global, files: &Files, extra: Option<&str>) -> Result<Shee
     ensures word { IfOk result (λ s. IfSome s.asked_type (λ id. id.0 < length s.table)) }
     ensures asked { IfOk result (λ s. is_some s.asked_type ≡ is_some extra.entry) }
     ensures clear { IfOk result (λ s. IfSome s.asked_type (λ id. IsClear s.table id.0)) }
-    ensures solid { IfOk result (λ s. IfSome s.asked_type (λ id. ¬ (IsHollow s.table id.0))) }
 {
     sheet_of(alloc, files, extra)
 }

@@ -15,8 +15,3 @@ pub mod Levels
 pub mod Steps
 pub mod Tails
 pub mod Fronts
-pub mod Cutting
-pub mod PiecesLaw
-pub mod Rooms
-pub mod Taking
-pub mod CutLaw

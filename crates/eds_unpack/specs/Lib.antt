@@ -5,9 +5,3 @@ pub mod Courses
 pub mod Seeking
 pub mod Tails
 pub mod Choices
-pub mod Programs
-pub mod Holding
-pub mod Packets
-pub mod Splitting
-pub mod Split
-pub mod Pieces

@@ -3,8 +3,7 @@ use Rattle.eds_types.specs.Plain.{plain}
 use Rattle.eds_plan.specs.Statements.{stmts}
 use Rattle.eds_act.specs.declared.ending.ActEnd.TheVariants.{Done, Halted}
 use Rattle.eds_act.specs.declared.work.Task.TheVariants as task
-use Rattle.eds_plan.specs.Plans.{variable_types}
-use Rattle.eds_act.specs.Does.{storing, items_of}
+use Rattle.eds_act.specs.Does.{storing, variable_types, items_of}
 use Rattle.eds_act.specs.Running.{world, turn_item, next_turns}
 use Rattle.eds_act.specs.Work.{tasks_items}
 use Rattle.eds_act.proofs.Leading.{leads_stored, leads_nowhere}

@@ -1,5 +1,5 @@
 use Rattle.std.proofs.Common.{◌≡◌, length}
-use Rattle.eds_plan.specs.Interfaces.{agrees}
+use Rattle.eds_host.specs.Wires.{agrees}
 use Rattle.eds_host.proofs.wiring.agrees.Given as goal
 
 abbrev pub invariant-loop-rest : goal.invariant-loop-rest

@@ -1,5 +1,5 @@
 use Rattle.std.proofs.Common.{◌≡◌, length}
-use Rattle.eds_plan.specs.Interfaces.{type_named}
+use Rattle.eds_host.specs.Wires.{type_named}
 use Rattle.eds_host.proofs.wiring.type_named.Given as goal
 
 abbrev pub invariant-loop-rest : goal.invariant-loop-rest

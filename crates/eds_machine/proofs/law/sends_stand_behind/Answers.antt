@@ -1,5 +1,5 @@
-use Rattle.eds_machine.proofs.Behind.{sends_stand_behind, start_sends_stand_behind}
+use Rattle.eds_machine.proofs.Behind.{sends_stand_behind}
 use Rattle.eds_machine.proofs.law.sends_stand_behind.Goals as goal
 
 pub returns : goal.returns
-returns c = record { event = sends_stand_behind; start = start_sends_stand_behind }
+returns c = sends_stand_behind

@@ -1,8 +1,7 @@
 use Rattle.std.proofs.Common.{◌≡◌, drop, length, map}
 use Rattle.eds_types.specs.PackedSizes.{packs}
 use Rattle.eds_types.specs.Plain.{plain}
-use Rattle.eds_plan.specs.Plans.{variable_types}
-use Rattle.eds_act.specs.Does.{AllConform}
+use Rattle.eds_act.specs.Does.{AllConform, variable_types}
 use Rattle.eds_machine.specs.Reactions.{machines_react, reacting}
 use Rattle.eds_machine.proofs.reaction.all_react.Given as goal
 

@@ -4,8 +4,7 @@ use Rattle.eds_types.specs.PackedSizes.{packs}
 use Rattle.eds_types.specs.Plain.{plain}
 use Rattle.eds_plan.specs.declared.component.ComponentPlan.{ComponentPlan}
 use Rattle.eds_plan.specs.Plans.{component_at}
-use Rattle.eds_plan.specs.Plans.{variable_types}
-use Rattle.eds_act.specs.Does.{AllConform, budget}
+use Rattle.eds_act.specs.Does.{AllConform, variable_types, budget}
 use Rattle.eds_machine.specs.Reactions.{reacting, reacts}
 use Rattle.eds_machine.proofs.Keeping.{kept_on_ok}
 use Rattle.eds_machine.proofs.reaction.react.Goals as goal

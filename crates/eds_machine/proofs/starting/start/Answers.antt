@@ -6,8 +6,7 @@ use Rattle.eds_plan.specs.declared.component.ComponentPlan.{ComponentPlan}
 use Rattle.eds_plan.specs.declared.run.CompState.{CompState}
 use Rattle.eds_plan.specs.Plans.{component_at}
 use Rattle.eds_plan.specs.Sends.{sent}
-use Rattle.eds_plan.specs.Plans.{variable_types}
-use Rattle.eds_act.specs.Does.{AllConform}
+use Rattle.eds_act.specs.Does.{AllConform, variable_types}
 use Rattle.eds_machine.specs.Reactions.{starts}
 use Rattle.eds_machine.proofs.Keeping.{started_on_ok}
 use Rattle.eds_machine.proofs.starting.start.Goals as goal

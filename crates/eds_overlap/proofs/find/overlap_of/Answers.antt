@@ -1,9 +1,17 @@
-use Rattle.std.proofs.Common.{sym, subst, ◌∙◌}
+use Rattle.std.proofs.Common.{arith, sym, subst, ◌∙◌}
 use Rattle.eds_base.specs.declared.ids.TypeId.{TypeId}
 use Rattle.eds_types.specs.Overlap.{Overlapping}
 use Rattle.eds_overlap.specs.Pairs.{Named}
-use Rattle.eds_overlap.proofs.Meeting.{if_some, if_none, sets_at, overlapping_from, no_overlap, parted_of}
+use Rattle.eds_overlap.proofs.Meeting.{get_slice, if_some, if_none, sets_at, overlapping_from, no_overlap, parted_of}
+use Rattle.eds_overlap.proofs.ToldApart.{marked_apart}
 use Rattle.eds_overlap.proofs.find.overlap_of.Goals as goal
+
+pub returns-then-are_told_apart-clause-none : goal.returns-then-are_told_apart-clause-none
+returns-then-are_told_apart-clause-none c =
+    marked_apart c.args.table.now c.keeps_rules.ensures (Named c.args.used.now) c.args.sets.now c.args.marks.now c.args.first.0 c.args.second.0 c.index-marks-first.result c.index-marks-second.result c.requires.sets c.requires.marks
+    (get_slice c.args.marks.now c.args.first.0 c.index-marks-first.result c.index-marks-first.is (omega (arith, c.requires.first, c.requires.sets.size, c.requires.marks.size)))
+    (get_slice c.args.marks.now c.args.second.0 c.index-marks-second.result c.index-marks-second.is (omega (arith, c.requires.second, c.requires.sets.size, c.requires.marks.size)))
+    (c.are_told_apart.ensures c.if-are_told_apart.true)
 
 pub returns-in-Some-clause-some : goal.returns-in-Some-clause-some
 returns-in-Some-clause-some c =

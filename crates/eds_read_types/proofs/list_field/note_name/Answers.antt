@@ -1,4 +1,4 @@
-use Rattle.std.proofs.Common.{ap, ◌∙◌, sym, Some, string_bytes}
+use Rattle.std.proofs.Common.{ap, ◌∙◌, sym, Some, is_some, string_bytes}
 use Rattle.std.specs.HashMap.{get_by_text}
 use Rattle.std.specs.Map.{update}
 use Rattle.std.specs.Str.{bytes_eq}

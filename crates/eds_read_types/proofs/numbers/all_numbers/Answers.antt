@@ -1,5 +1,5 @@
 use Rattle.std.proofs.Common.{ap}
-use Rattle.eds_constraints.specs.Ranges.{no_range}
+use Rattle.eds_read_types.specs.Ranges.{no_range}
 use Rattle.eds_read_types.specs.Numbers.{numbers_with}
 use Rattle.eds_read_types.proofs.NumberSteps.{ok-is}
 use Rattle.eds_read_types.proofs.numbers.all_numbers.Goals as goal

@@ -5,5 +5,5 @@ use Rattle.eds_read_types.proofs.table_row.rows_among.Given as goal
 
 abbrev pub invariant-loop-one : goal.invariant-loop-one
 invariant-loop-one l =
-    l.rows ++ rows_from l.reader.first.now.graph.now.sheet.now.trees.now l.reader.first.now.graph.now.sheet.now.space.now (length l.rows) (filter is_type (drop l.one-index l.declared))
-    ≡ rows_from l.reader.first.now.graph.now.sheet.now.trees.now l.reader.first.now.graph.now.sheet.now.space.now 0 (filter is_type l.declared)
+    l.rows ++ rows_from l.first.graph.now.sheet.now.trees.now l.first.graph.now.sheet.now.space.now (length l.rows) (filter is_type (drop l.one-index l.declared))
+    ≡ rows_from l.first.graph.now.sheet.now.trees.now l.first.graph.now.sheet.now.space.now 0 (filter is_type l.declared)

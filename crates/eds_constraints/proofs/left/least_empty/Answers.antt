@@ -1,8 +1,0 @@
-use Rattle.eds_types.specs.Rows.{number_of_id}
-use Rattle.eds_constraints.proofs.LeftFacts.{least_of}
-use Rattle.eds_constraints.proofs.left.least_empty.Goals as goal
-
-pub returns : goal.returns
-returns c =
-    least_of c.args.rows.now.rows.now c.args.rows.now.lists.now c.args.id.0 c.asked_of-asked.result.now (number_of_id c.base_of-base.result) c.in_ok-paths.paths c.in_ok-states.states c.go_on.result
-    c.asked_of-asked.ensures c.base_of-base.ensures c.in_ok-paths.ensures c.in_ok-states.ensures c.go_on.ensures.least
