@@ -1,19 +1,21 @@
 //! Tries small types: the plain program of the definitions against what is known of them, and reader and packer against
 //! the plain program.
 //!
-//! Each line of `data/trials` is one trial, as `trial::Trial` says. What differs is printed, and last how many trials
-//! passed and failed.
+//! Each line of `data/trials` is one trial, as `trial::Trial` says, and each line of `data/streams` some octets that are cut
+//! into packets, as `packets::Stream` says. What differs is printed, and last how many trials passed and failed.
 #![tactic(auto)]
 
 mod agreement;
 mod census;
 mod known;
+mod packets;
 mod sheet;
 mod slow;
 mod small;
 mod trial;
 
 use eds_base::Memory;
+use packets::stream_agrees;
 use std::fs;
 use std::process::ExitCode;
 use trial::{Outcome, outcome_of};
@@ -55,6 +57,26 @@ fn try_lines(rt: &HostRuntime, lines: &str, tally: &mut Tally) -> Result<(), Mem
     Ok(())
 }
 
+// Whether the stream of a line is cut as it says.
+fn try_stream(rt: &HostRuntime, line: &str) -> Result<bool, Memory> {
+    let file = line.split(' ').next().unwrap_or("");
+    match fs::read_to_string(rt, file) {
+        Ok(text) => stream_agrees(rt.alloc(), text.as_str(), line),
+        Err(_) => Ok(false),
+    }
+}
+
+fn try_streams(rt: &HostRuntime, lines: &str, tally: &mut Tally) -> Result<(), Memory> {
+    for line in lines.lines() {
+        let passes = try_stream(rt, line)?;
+        tally.count(passes);
+        if !passes {
+            let _ = println!(rt; "{line}: is cut otherwise");
+        }
+    }
+    Ok(())
+}
+
 fn main(rt: HostRuntime) -> ExitCode {
     let mut tally = Tally {
         passed: 0,
@@ -63,8 +85,13 @@ fn main(rt: HostRuntime) -> ExitCode {
     let Ok(lines) = fs::read_to_string(&rt, "trials") else {
         return ExitCode::FAILURE;
     };
+    let Ok(streams) = fs::read_to_string(&rt, "streams") else {
+        return ExitCode::FAILURE;
+    };
     tally.count(known::checks_are_known(rt.alloc()).unwrap_or(false));
-    if try_lines(&rt, lines.as_str(), &mut tally).is_err() {
+    if try_lines(&rt, lines.as_str(), &mut tally).is_err()
+        || try_streams(&rt, streams.as_str(), &mut tally).is_err()
+    {
         let _ = println!(rt; "an allocation was refused");
         return ExitCode::FAILURE;
     }
