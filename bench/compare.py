@@ -4,7 +4,7 @@
   bench/compare.py [--runs N] [--seed S] [--stage WORDS] [--jobs J] [PROGRAM]
 
 PROGRAM is a built program (by default crates/eds_prog/out/eds_prog), or `-` for the model alone. A run is one sheet: it is
-checked, and where it is accepted, frames and values of its types are read and packed, and packets are split. WORDS say what sheets may hold: `built`,
+checked, and where it is accepted, frames and values of its types are read and packed. WORDS say what sheets may hold: `built`,
 `whole`, `scalars`, or words of `EVERYTHING` in bench/model/run_model.py with commas between them. Each difference is printed
 with its words and files. The last lines count the answers, and the differences. The same seed makes the same inputs.
 """
@@ -51,7 +51,6 @@ def inputs(dice, sheet, stage):
         for _ in range(INPUTS):
             yield ["unpack", word], gen.frame_text(dice, judge, judge.word)
             yield ["pack", word], gen.value_text(dice, judge, judge.word)
-        yield ["split", word], gen.packets(dice, judge, judge.word)
 
 
 def compare(asked):

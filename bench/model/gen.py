@@ -749,13 +749,6 @@ def value_text(rng, judge, t):
     return text.encode()
 
 
-def packets(rng, judge, t):
-    """Octets: packets one after another, mostly of values, of which some may be changed or cut."""
-    frames = [frame_text(rng, judge, t) for _ in range(rng.choice([0, 1, 2, 3, 5]))]
-    digits = ["".join(o for o in frame.decode("latin-1") if o in "0123456789abcdefABCDEF") for frame in frames]
-    return b"".join(bytes.fromhex(it[: len(it) // 2 * 2]) for it in digits)
-
-
 def frame_text(rng, judge, t):
     """Hex: a packed value that is perhaps changed, or any octets."""
     bits = None

@@ -117,7 +117,7 @@ def sheets_of(names, files):
     return sheets, None
 
 
-LEAST_WORDS = {"split": 4, "check": 2, "unpack": 4, "pack": 4, "run": 3, "demo": 2}
+LEAST_WORDS = {"check": 2, "unpack": 4, "pack": 4, "run": 3, "demo": 2}
 
 
 def answer(words, files, stage=EVERYTHING):
@@ -131,7 +131,7 @@ def answer(words, files, stage=EVERYTHING):
     if end is not None:
         return end
     try:
-        judge = judged(sheets, words[1] if command in ("unpack", "pack", "split") else None, stage)
+        judge = judged(sheets, words[1] if command in ("unpack", "pack") else None, stage)
     except m.Refused as refused:
         return (1, refused.report())
     if command == "check":
@@ -144,32 +144,12 @@ def counts(judge):
     return (judge.counts["type"], containers, judge.counts["interface"], judge.counts["component"])
 
 
-def split_answer(judge, octets):
-    """(status, report) of packets one after another, each from an octet on and of at most 65,536 octets."""
-    if len(octets) > 16777216:
-        return (7, "limit input 16777216\n")
-    rest, lines = octets, []
-    while rest:
-        front = rest[:65536]
-        try:
-            value, end = m.Reader(judge, m.bits_of(front)).read(judge.word)
-        except m.Fault as fault:
-            too_long = fault.reason == "Short" and len(rest) >= 65536
-            reason, path = ("TooLong", "") if too_long else (fault.reason, fault.path)
-            return (3, "fault %s at $%s in packet %d\n" % (reason, path, len(lines) + 1))
-        lines.append(m.shown(value) + "\n")
-        rest = rest[(end + 7) // 8:]
-    return (0, "".join(lines) + "packets %d octets %d\n" % (len(lines), len(octets)))
-
-
 def input_answer(command, judge, name, files):
     """(status, report) of a command that reads an input file, over an accepted sheet."""
     if name not in files:
         return (8, "no file %s\n" % name)
     if command == "run":
         return run_answer(judge, files[name])
-    if command == "split":
-        return split_answer(judge, files[name])
     most = 1048576 if command == "unpack" else 4194304
     if len(files[name]) > most:
         return (7, "limit input %d\n" % most)

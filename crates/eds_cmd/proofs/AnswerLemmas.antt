@@ -8,7 +8,7 @@ use Rattle.eds_types.specs.Plain.{Plain}
 use Rattle.eds_value.specs.declared.fail.ValueFail.{ValueFail}
 use Rattle.eds_value.specs.Json.{value_in}
 use Rattle.eds_cmd.specs.declared.command.Verb.{Verb}
-use Rattle.eds_cmd.specs.declared.command.Verb.TheVariants.{Unpack, Pack, Split}
+use Rattle.eds_cmd.specs.declared.command.Verb.TheVariants.{Unpack, Pack}
 use Rattle.eds_cmd.specs.declared.status.Status.{Status}
 use Rattle.eds_cmd.specs.declared.status.Status.TheVariants as statuses
 use Rattle.eds_cmd.specs.declared.status.What.TheVariants as what
@@ -21,7 +21,6 @@ use Rattle.eds_cmd.specs.Limits.{sheet_count}
 use Rattle.eds_cmd.specs.Outcome.{ComesTo}
 use Rattle.eds_cmd.specs.Pack.{PacksGiven}
 use Rattle.eds_cmd.specs.Reports.{limit_line}
-use Rattle.eds_cmd.specs.Split.{Splits}
 use Rattle.eds_cmd.specs.Stops.{IsStop, status_of}
 use Rattle.eds_cmd.specs.Target.{TypeIn, type_of}
 use Rattle.eds_cmd.specs.Unpack.{UnpacksFrame, frame_for}
@@ -62,14 +61,9 @@ value_end type (Ok value) status report (inl p) = inl p.status_is
 value_end type (Ok value) status report (inr f) = stop_end _ status report f.stop
 value_end type (Err fail) status report s = stop_end _ status report s
 
-split_end : (type : TypeIn) (octets : List ℕ) (status : Status) (report : List ℕ) → Splits type octets status report → IsEnd status
-split_end type octets status report (inl s) = inl s.status_is
-split_end type octets status report (inr c) = stop_end _ status report c.stop
-
 work_end : (verb : Verb) (type : TypeIn) (input : Result (List ℕ) Stop) (status : Status) (report : List ℕ) → WorksOn verb type input status report → IsEnd status
 work_end Unpack type (Ok input) status report u = frame_end type (frame_for input) status report u
 work_end Pack type (Ok input) status report p = value_end type (value_in type.table type.id input) status report p
-work_end Split type (Ok input) status report s = split_end type input status report s
 work_end verb type (Err stop) status report s = stop_end stop status report s
 
 does_end : (job : Option JobWords) (files : Files) (sheet : Sheet) (status : Status) (report : List ℕ) → DoesBy job files sheet status report → IsEnd status

@@ -1,6 +1,4 @@
 pub mod Unpacking
-pub mod Splitting
-pub mod Targets
 pub mod SheetFiles
 pub mod OneAnswer
 pub mod AnswerLemmas

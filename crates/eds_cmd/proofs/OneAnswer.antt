@@ -11,7 +11,7 @@ use Rattle.eds_base.specs.declared.ids.TypeId.{TypeId}
 use Rattle.eds_base.specs.declared.refusal.Refusal.{Refusal}
 use Rattle.eds_bits.specs.Bits.{Bits, bits_of}
 use Rattle.eds_io.specs.Files.{Files}
-use Rattle.eds_overlap.specs.Laws.{EmptyTypes, IsReadable, IsThere, OneCanonical, OneOutcome, PackingIsDecided}
+use Rattle.eds_overlap.specs.Laws.{IsReadable, IsThere, OneCanonical, OneOutcome, PackingIsDecided}
 use Rattle.eds_sheet.specs.declared.sheet.Sheet.{Sheet}
 use Rattle.eds_sheet.specs.Compiled.{compiled}
 use Rattle.eds_sheet.specs.Laws.{IsSound, SheetsAreSound}
@@ -19,16 +19,13 @@ use Rattle.eds_types.specs.Failing.{FailsAt, fault_at}
 use Rattle.eds_types.specs.Overlap.{IsClear}
 use Rattle.eds_types.specs.Packing.{PackFailsAt, PackFault, most_bits, pack_fault_at}
 use Rattle.eds_types.specs.Plain.{Plain}
-use Rattle.eds_types.specs.Rules.{IsHollow}
 use Rattle.eds_types.specs.Spelling.{Canon, Spells}
-use Rattle.eds_unpack.specs.Pieces.{OneCut}
-use Rattle.eds_unpack.specs.Splitting.{IsFraming}
 use Rattle.eds_unpack.proofs.Fronts.{readable}
 use Rattle.eds_value.specs.declared.fail.ValueFail.{ValueFail}
 use Rattle.eds_value.specs.Json.{value_in}
 use Rattle.eds_value.specs.JsonOfValue.{json_text}
 use Rattle.eds_cmd.specs.declared.command.Verb.{Verb}
-use Rattle.eds_cmd.specs.declared.command.Verb.TheVariants.{Unpack, Pack, Split}
+use Rattle.eds_cmd.specs.declared.command.Verb.TheVariants.{Unpack, Pack}
 use Rattle.eds_cmd.specs.declared.status.Status.{Status}
 use Rattle.eds_cmd.specs.declared.status.Status.TheVariants as statuses
 use Rattle.eds_cmd.specs.declared.status.What.TheVariants as what
@@ -41,19 +38,15 @@ use Rattle.eds_cmd.specs.Laws.{OneAnswer, SomeAnswer}
 use Rattle.eds_cmd.specs.Limits.{report_octets, sheet_count}
 use Rattle.eds_cmd.specs.Pack.{PacksGiven, PacksValue, packed_report}
 use Rattle.eds_cmd.specs.Reports.{bits_report, counts_line, usage_line}
-use Rattle.eds_cmd.specs.Split.{framing_of}
 use Rattle.eds_cmd.specs.Stops.{IsStop, frame_fault, limited, pack_fault, status_of}
 use Rattle.eds_cmd.specs.Target.{TypeIn, type_of}
 use Rattle.eds_cmd.specs.Unpack.{Begins, UnpacksBits, UnpacksFrame, frame_for}
-use Rattle.eds_cmd.proofs.Splitting.{framing_for, one_way, some_way}
 
 -- the laws of values and bits
 pub record ValueLaws : Type 0 where
   pub outcome : OneOutcome
   pub canonical : OneCanonical
   pub packing : PackingIsDecided
-  pub empty : EmptyTypes
-  pub cut : OneCut
 
 -- a stop ends a command as itself
 itself : (stop : Stop) → IsStop stop (status_of stop.cause) stop.report
@@ -82,7 +75,7 @@ some_stop stop = inr (stop, itself stop)
 
 -- ---- a value by a type
 
-module _ (laws : ValueLaws) (type : TypeIn) (is : IsReadable type.table type.id) (solid : IsHollow type.table type.id → ⊥) where
+module _ (laws : ValueLaws) (type : TypeIn) (is : IsReadable type.table type.id) where
   abbrev frame_stop : Fault → Stop
   frame_stop g = frame_fault type.table g.reason g.path
 
@@ -165,30 +158,17 @@ module _ (laws : ValueLaws) (type : TypeIn) (is : IsReadable type.table type.id)
   some_of_given (Ok value) = some_of_value value
   some_of_given (Err fail) = some_stop _
 
-  framing : IsFraming (framing_of type)
-  framing = framing_for laws.empty type is.rules (record { there = is.there; clear = is.clear; solid = solid })
-
   one_of_work : (verb : Verb) (input : Result (List ℕ) Stop) → IsOfOne (WorksOn verb type input)
   one_of_work Unpack (Ok input) = one_of_frame (frame_for input)
   one_of_work Pack (Ok input) = one_of_given (value_in type.table type.id input)
-  one_of_work Split (Ok input) = one_way laws.cut type framing input
   one_of_work verb (Err stop) = one_stop stop
 
   some_of_work : (verb : Verb) (input : Result (List ℕ) Stop) → IsOfSome (WorksOn verb type input)
   some_of_work Unpack (Ok input) = some_of_frame (frame_for input)
   some_of_work Pack (Ok input) = some_of_given (value_in type.table type.id input)
-  some_of_work Split (Ok input) = some_way laws.cut type framing input
   some_of_work verb (Err stop) = some_stop stop
 
 -- ---- an accepted sheet
-
--- the type that a word names in a sheet has no spelling of no bits
-word_solid : (word : List ℕ) (sheet : Sheet) → IsSound (Some word) sheet → IsHollow (type_of sheet).table (type_of sheet).id → ⊥
-word_solid word sheet s = go sheet.asked_type s.asked s.solid
-  where
-    go : (w : Option TypeId) → is_some w ≡ true → IfSome w (λ id. IsHollow sheet.table id.0 → ⊥) → IsHollow sheet.table (option_map_or (λ id. id.0) w 0) → ⊥
-    go (Some id) asked solid = solid
-    go None asked solid = absurd (cc asked)
 
 -- the type that a word names in a sheet can be read
 word_readable : (word : List ℕ) (sheet : Sheet) → IsSound (Some word) sheet → IsReadable (type_of sheet).table (type_of sheet).id
@@ -218,11 +198,11 @@ accepted_sound sound files c sheet is = go (sheet_files files 0 c.sheets) is
 module _ (laws : ValueLaws) (files : Files) where
   one_by_sheet : (job : Option JobWords) (sheet : Sheet) → IsSound (option_map (λ j. j.type_name) job) sheet → IsOfOne (DoesBy job files sheet)
   one_by_sheet None sheet sound s o r l a b = (a.status_is ∙ sym b.status_is, a.report_is ∙ sym b.report_is)
-  one_by_sheet (Some job) sheet sound s o r l a b = one_of_work laws (type_of sheet) (word_readable job.type_name sheet sound) (word_solid job.type_name sheet sound) job.verb (input_for files job) s o r l a b
+  one_by_sheet (Some job) sheet sound s o r l a b = one_of_work laws (type_of sheet) (word_readable job.type_name sheet sound) job.verb (input_for files job) s o r l a b
 
   some_by_sheet : (job : Option JobWords) (sheet : Sheet) → IsSound (option_map (λ j. j.type_name) job) sheet → IsOfSome (DoesBy job files sheet)
   some_by_sheet None sheet sound = inl (counts_line sheet.counts, record { status_is = refl; report_is = refl })
-  some_by_sheet (Some job) sheet sound = some_of_work laws (type_of sheet) (word_readable job.type_name sheet sound) (word_solid job.type_name sheet sound) job.verb (input_for files job)
+  some_by_sheet (Some job) sheet sound = some_of_work laws (type_of sheet) (word_readable job.type_name sheet sound) job.verb (input_for files job)
 
   -- a report isn't both within its limit and past it
   not_past : (job : Option JobWords) (sheet : Sheet) → IsSound (option_map (λ j. j.type_name) job) sheet → (s o : Status) (r l : List ℕ) → IsWithin job files sheet s r → IsPast job files sheet o l → ⊥

@@ -1,11 +1,11 @@
 -- A valid command is done.
-use Rattle.std.proofs.Common.{◌≡◌, ◌++◌, ℕ, List, length, true, nat_le, inl, Option, Some, None, Result, Ok, refl, arith}
+use Rattle.std.proofs.Common.{◌≡◌, ℕ, List, length, true, nat_le, inl, Option, Some, None, Result, Ok, refl, arith}
 use Rattle.std.proofs.lemmas.Bool.{le-leb}
 use Rattle.eds_io.specs.Files.{Files}
 use Rattle.eds_sheet.specs.declared.sheet.Sheet.{Sheet}
 use Rattle.eds_value.specs.JsonOfValue.{json_text}
 use Rattle.eds_cmd.specs.declared.command.Verb.{Verb}
-use Rattle.eds_cmd.specs.declared.command.Verb.TheVariants.{Unpack, Pack, Split}
+use Rattle.eds_cmd.specs.declared.command.Verb.TheVariants.{Unpack, Pack}
 use Rattle.eds_cmd.specs.declared.status.Status.{Status}
 use Rattle.eds_cmd.specs.declared.status.Status.TheVariants as statuses
 use Rattle.eds_cmd.specs.declared.stop.Stop.{Stop}
@@ -15,7 +15,6 @@ use Rattle.eds_cmd.specs.Laws.{OneAnswer}
 use Rattle.eds_cmd.specs.Limits.{frame_octets, sheet_count}
 use Rattle.eds_cmd.specs.Pack.{packed_report}
 use Rattle.eds_cmd.specs.Reports.{bits_report, counts_line}
-use Rattle.eds_cmd.specs.Split.{packet_lines, packets_line}
 use Rattle.eds_cmd.specs.Target.{TypeIn, type_of}
 use Rattle.eds_cmd.specs.Unpack.{frame_for}
 use Rattle.eds_cmd.proofs.SheetFiles.{there_read}
@@ -34,10 +33,6 @@ valid_work Unpack type input v = (
   rw (valid_frame type input v) (inl (record { value = v.value; front = v.front; rest = v.rest; begins = v.begins; few = v.few; status_is = refl; report_is = refl })),
 )
 valid_work Pack type input v = (packed_report v.bits, rw v.given (inl (record { bits = v.bits; canonical = v.canonical; within = v.within; status_is = refl; report_is = refl })))
-valid_work Split type octets v = (
-  packet_lines type.table v.0 ++ packets_line (length v.0) (length octets),
-  inl (record { packets = v.0; cut = v.1; status_is = refl; report_is = refl }),
-)
 
 valid_does : (files : Files) (job : Option JobWords) (sheet : Sheet) → IsValidFor files job sheet → (report : List ℕ) × DoesBy job files sheet statuses.Done report
 valid_does files None sheet v = (counts_line sheet.counts, record { status_is = refl; report_is = refl })

@@ -7,12 +7,11 @@ use Rattle.eds_io.specs.Files.{Files, file_named}
 use Rattle.eds_types.specs.Packing.{most_bits}
 use Rattle.eds_types.specs.Plain.{Plain}
 use Rattle.eds_types.specs.Spelling.{Canon}
-use Rattle.eds_unpack.specs.Packets.{AreCut, Packet}
 use Rattle.eds_value.specs.Json.{value_in}
 use Rattle.eds_sheet.specs.declared.sheet.Sheet.{Sheet}
 use Rattle.eds_sheet.specs.Compiled.{compiled}
 use Rattle.eds_cmd.specs.declared.command.Verb.{Verb}
-use Rattle.eds_cmd.specs.declared.command.Verb.TheVariants.{Unpack, Pack, Split}
+use Rattle.eds_cmd.specs.declared.command.Verb.TheVariants.{Unpack, Pack}
 use Rattle.eds_cmd.specs.Limits.{frame_octets, report_octets, sheet_count, sheet_octets, sheets_octets}
 use Rattle.eds_cmd.specs.declared.status.Status.{Status}
 use Rattle.eds_cmd.specs.declared.status.Status.TheVariants as statuses
@@ -23,7 +22,6 @@ use Rattle.eds_cmd.specs.Command.{CommandWords, JobWords, command_of, input_most
 use Rattle.eds_cmd.specs.Hex.{hex_octets}
 use Rattle.eds_cmd.specs.Pack.{Packs}
 use Rattle.eds_cmd.specs.Reports.{counts_line, usage_line}
-use Rattle.eds_cmd.specs.Split.{Splits, framing_of}
 use Rattle.eds_cmd.specs.Stops.{IsStop, limited, missing, refused}
 use Rattle.eds_cmd.specs.Target.{TypeIn, type_of}
 use Rattle.eds_cmd.specs.Unpack.{Begins, Unpacks}
@@ -78,7 +76,6 @@ within_report report = if nat_le (length report) report_octets then Ok report el
 abbrev pub Works : Verb → TypeIn → List ℕ → Status → List ℕ → Type 0
 Works Unpack type input status report = Unpacks type input status report
 Works Pack type input status report = Packs type input status report
-Works Split type input status report = Splits type input status report
 
 -- the same, where the input file may have ended the command
 abbrev pub WorksOn : Verb → TypeIn → Result (List ℕ) Stop → Status → List ℕ → Type 0
@@ -170,7 +167,6 @@ pub record IsValidValue (type : TypeIn) (text : List ℕ) : Type 0 where
 abbrev pub IsValidInput : Verb → TypeIn → List ℕ → Type 0
 IsValidInput Unpack type text = IsValidFrame type text
 IsValidInput Pack type text = IsValidValue type text
-IsValidInput Split type octets = (packets : List Packet) × AreCut (framing_of type) packets octets
 
 -- the input file is there and within its limit, and valid for the type
 pub record IsValidJob (files : Files) (job : JobWords) (type : TypeIn) : Type 0 where

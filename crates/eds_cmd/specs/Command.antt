@@ -4,10 +4,10 @@ use Rattle.std.specs.List.{Contains}
 use Rattle.std.specs.Option.{option_map}
 use Rattle.eds_base.specs.Reading.{◌>>=◌, same}
 use Rattle.eds_cmd.specs.declared.command.Verb.{Verb}
-use Rattle.eds_cmd.specs.declared.command.Verb.TheVariants.{Unpack, Pack, Split}
+use Rattle.eds_cmd.specs.declared.command.Verb.TheVariants.{Unpack, Pack}
 use Rattle.eds_cmd.specs.declared.command.Job.{Job}
 use Rattle.eds_cmd.specs.declared.command.Command.{Command}
-use Rattle.eds_cmd.specs.Limits.{hex_octets, json_octets, packets_octets}
+use Rattle.eds_cmd.specs.Limits.{hex_octets, json_octets}
 
 -- what is to be done with an input file, the name of the type by which it is done, and the name of the file
 pub record JobWords : Type 0 where
@@ -30,10 +30,7 @@ words_of c = record { job = option_map job_words c.job; sheets = c.sheets.now }
 
 -- the verb that a word is
 abbrev pub verb_of : List ℕ → Option Verb
-verb_of word =
-    if same word (codes "unpack") then Some Unpack else
-    if same word (codes "pack") then Some Pack else
-    if same word (codes "split") then Some Split else None
+verb_of word = if same word (codes "unpack") then Some Unpack else if same word (codes "pack") then Some Pack else None
 
 -- `FILE...`, one name or more
 abbrev pub check_of : List (List ℕ) → Option CommandWords
@@ -47,7 +44,7 @@ job_of verb (type_name ∷ []) = None
 job_of verb (type_name ∷ input ∷ []) = None
 job_of verb (type_name ∷ input ∷ name ∷ names) = Some (record { job = Some (record { verb = verb; type_name = type_name; input = input }); sheets = name ∷ names })
 
--- `check FILE...`, `unpack TYPE HEXFILE FILE...`, `pack TYPE JSONFILE FILE...` or `split TYPE BINFILE FILE...`
+-- `check FILE...`, `unpack TYPE HEXFILE FILE...` or `pack TYPE JSONFILE FILE...`
 abbrev pub command_of : List (List ℕ) → Option CommandWords
 command_of [] = None
 command_of (first ∷ words) = if same first (codes "check") then check_of words else (verb_of first >>= λ verb. job_of verb words)
@@ -56,7 +53,6 @@ command_of (first ∷ words) = if same first (codes "check") then check_of words
 abbrev pub input_most : Verb → ℕ
 input_most Unpack = hex_octets
 input_most Pack = json_octets
-input_most Split = packets_octets
 
 -- the name of the type, where the command names one
 abbrev pub type_name_of : CommandWords → Option (List ℕ)

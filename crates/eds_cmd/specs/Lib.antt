@@ -8,7 +8,6 @@ pub mod Endings
 pub mod Target
 pub mod Unpack
 pub mod Pack
-pub mod Split
 pub mod Answer
 pub mod Laws
 pub mod Outcome

@@ -21,14 +21,6 @@ hex_octets = 1048576
 abbrev pub json_octets : ℕ
 json_octets = 4194304
 
--- the octets of a file of packets
-abbrev pub packets_octets : ℕ
-packets_octets = 16777216
-
--- the octets of one packet of such a file
-abbrev pub packet_octets : ℕ
-packet_octets = 65536
-
 -- the octets of a frame
 abbrev pub frame_octets : ℕ
 frame_octets = 65536

@@ -82,18 +82,6 @@ counts_line c =
 abbrev pub fault_line : List ℕ → List ℕ → List ℕ
 fault_line reason path = codes "fault " ++ reason ++ codes " at " ++ path ++ codes "\n"
 
--- `fault REASON at PATH`, without the end of the line
-abbrev pub fault_words : (reason path : List ℕ) → List ℕ
-fault_words reason path = codes "fault " ++ reason ++ codes " at " ++ path
-
--- ` in packet K`
-abbrev pub packet_words : (packet : ℕ) → List ℕ
-packet_words packet = codes " in packet " ++ decimal packet ++ codes "\n"
-
--- `fault REASON at PATH in packet K`
-abbrev pub packet_fault_line : (reason path : List ℕ) → (packet : ℕ) → List ℕ
-packet_fault_line reason path packet = fault_words reason path ++ packet_words packet
-
 -- ---- a value that was read or written
 
 -- the text of a value or its octets, and how many bits there were

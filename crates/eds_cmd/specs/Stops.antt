@@ -17,7 +17,7 @@ use Rattle.eds_cmd.specs.declared.status.What.{What}
 use Rattle.eds_cmd.specs.declared.stop.Cause.{Cause}
 use Rattle.eds_cmd.specs.declared.stop.Cause.TheVariants.{Sheet as Refused, Data, Limit, NoFile}
 use Rattle.eds_cmd.specs.declared.stop.Stop.{Stop}
-use Rattle.eds_cmd.specs.Reports.{fault_line, limit_line, no_file_line, packet_fault_line, refusal_line}
+use Rattle.eds_cmd.specs.Reports.{fault_line, limit_line, no_file_line, refusal_line}
 
 -- the status of a command that ends for this cause
 abbrev pub status_of : Cause → Status
@@ -64,11 +64,4 @@ abbrev pub frame_fault : Table → Reason → List Step → Stop
 frame_fault t reason path = record {
   cause = Data (faults.Frame (record { reason = reason; path = path }));
   report = fault_line (reason_name reason) (path_text t path);
-}
-
--- the packet of a number can't be read as a value of the table, for this reason at this path
-abbrev pub packet_fault : Table → (packet : ℕ) → Reason → List Step → Stop
-packet_fault t packet reason path = record {
-  cause = Data (faults.Packet packet (record { reason = reason; path = path }));
-  report = packet_fault_line (reason_name reason) (path_text t path) packet;
 }

@@ -1,9 +1,8 @@
 -- The type that a command names, among those of its sheet.
-use Rattle.std.specs.Prelude.{ℕ, ◌<◌, length, IfSome}
+use Rattle.std.specs.Prelude.{ℕ, ◌<◌, length}
 use Rattle.std.specs.Option.{option_map_or}
 use Rattle.eds_types.specs.Rows.{Table}
 use Rattle.eds_types.specs.Overlap.{IsClear}
-use Rattle.eds_types.specs.Rules.{IsHollow}
 use Rattle.eds_sheet.specs.declared.sheet.Sheet.{Sheet}
 use Rattle.eds_cmd.specs.declared.target.Target.{Target}
 
@@ -20,12 +19,7 @@ type_in t = record { table = t.table.now; id = t.id.0 }
 abbrev pub type_of : Sheet → TypeIn
 type_of sheet = record { table = sheet.table; id = option_map_or (λ id. id.0) sheet.asked_type 0 }
 
--- no two containers overlap under the type that a command names, and it has no spelling of no bits, where it names one
-unfoldable pub MayBeRead : Sheet → Type 0
-MayBeRead sheet = IfSome sheet.asked_type (λ id. IsClear sheet.table id.0 × (IsHollow sheet.table id.0 → ⊥))
-
--- the type is there, clear, and has no spelling of no bits
+-- the type is there, and clear
 pub record IsKnown (type : TypeIn) : Type 0 where
   pub there : type.id < length type.table
   pub clear : IsClear type.table type.id
-  pub solid : IsHollow type.table type.id → ⊥

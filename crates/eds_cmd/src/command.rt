@@ -1,9 +1,9 @@
 //! The words of a command.
 
-ghost use Rattle.std.specs.Prelude.{◌≡◌, ◌≤◌, option_map};
+ghost use Rattle.std.specs.Prelude.{◌≡◌, option_map};
 ghost use Rattle.eds_cmd.specs.Command.{check_of as check_in, command_of as command_in, input_most as most_input, job_of as job_in, verb_of as verb_in, type_name_of as type_name_in, words_of};
 
-use crate::limits::{HEX_OCTETS, JSON_OCTETS, PACKETS_OCTETS};
+use crate::limits::{HEX_OCTETS, JSON_OCTETS};
 use eds_base::Text;
 
 /// What is done with an input file.
@@ -13,8 +13,6 @@ pub enum Verb {
     Unpack,
     /// Writes the octets of a value.
     Pack,
-    /// Reads the values of packets one after another.
-    Split,
 }
 
 /// What is to be done with an input file, the name of the type by which it is done, and the name of
@@ -50,8 +48,6 @@ fn verb_of(word: &str) -> Option<Verb>
         Some(Verb::Unpack)
     } else if word == "pack" {
         Some(Verb::Pack)
-    } else if word == "split" {
-        Some(Verb::Split)
     } else {
         None
     }
@@ -107,12 +103,10 @@ pub fn command_of(words: &[Text]) -> Option<Command<'_>>
 
 /// The most octets of the input file.
 pub fn input_most(verb: Verb) -> u64
-    ensures most { result ≡ most_input verb }
-    ensures few { result ≤ PACKETS_OCTETS }
+    ensures { result ≡ most_input verb }
 {
     match verb {
         Verb::Unpack => HEX_OCTETS,
         Verb::Pack => JSON_OCTETS,
-        Verb::Split => PACKETS_OCTETS,
     }
 }

@@ -2,9 +2,8 @@
 
 ghost use Rattle.eds_cmd.specs.Laws.{OneAnswer, SomeAnswer};
 
-use eds_overlap::law::{canonical_spelling, empty_types, one_outcome, packing_is_decided};
+use eds_overlap::law::{canonical_spelling, one_outcome, packing_is_decided};
 use eds_sheet::law::sheets_are_sound;
-use eds_unpack::law::one_cut;
 
 /// Words have exactly one answer over files, a status and a report.
 pub fn answer_is_one()
@@ -14,7 +13,5 @@ pub fn answer_is_one()
     one_outcome();
     canonical_spelling();
     packing_is_decided();
-    empty_types();
-    one_cut();
     sheets_are_sound();
 }

@@ -9,7 +9,6 @@ mod limits;
 mod pack;
 mod perform;
 mod report;
-mod split;
 mod status;
 mod stop;
 mod target;

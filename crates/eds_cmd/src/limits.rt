@@ -15,12 +15,6 @@ pub const HEX_OCTETS: u64 = 1048576;
 /// The octets of the text of a value.
 pub const JSON_OCTETS: u64 = 4194304;
 
-/// The octets of a file of packets.
-pub const PACKETS_OCTETS: u64 = 16777216;
-
-/// The octets of one packet of such a file.
-pub const PACKET_OCTETS: usize = 65536;
-
 /// The octets of a frame.
 pub const FRAME_OCTETS: u64 = 65536;
 

@@ -5,18 +5,18 @@ ghost use Rattle.std.specs.List.{Contains};
 ghost use Rattle.eds_base.specs.Answering.{Answers};
 ghost use Rattle.eds_io.specs.Counts.{HasRisen};
 ghost use Rattle.eds_io.specs.Files.{Files};
+ghost use Rattle.eds_types.specs.Overlap.{IsClear};
 ghost use Rattle.eds_sheet.specs.Compiled.{compiled};
 ghost use Rattle.eds_cmd.specs.Answer.{AnswersFew, DoesBy, IsReached, IsReachedSheet, Works, accepted, input_for as input_of, or_refused, sheet_file as sheet_of_name, sheet_files as sheets_of_names, whole_file as whole, within_report as within_limit};
 ghost use Rattle.eds_cmd.specs.Command.{ReadsFile, job_words, words_of};
 ghost use Rattle.eds_cmd.specs.Endings.{Comes, CommandEndsAs, EndsAs, OnUnread};
-ghost use Rattle.eds_cmd.specs.Target.{IsKnown, MayBeRead, type_in};
+ghost use Rattle.eds_cmd.specs.Target.{IsKnown, type_in};
 
 use crate::command::{Command, Job, Verb, input_most};
 use crate::ended::Ended;
-use crate::limits::{PACKETS_OCTETS, REPORT_OCTETS, SHEET_OCTETS, SHEETS, SHEETS_OCTETS};
+use crate::limits::{REPORT_OCTETS, SHEET_OCTETS, SHEETS, SHEETS_OCTETS};
 use crate::pack::packed;
 use crate::report::counts_line;
-use crate::split::split;
 use crate::status::What;
 use crate::stop::{Stop, limited, missing, refused};
 use crate::target::{Target, target_of};
@@ -115,7 +115,7 @@ fn sheet_by(
     requires short { All (λ file. length file < 2 ^ 32) files.now }
     ensures answer { Answers (λ s. s) result (or_refused (compiled files.now (option_map (λ w. w.now) type_name.entry))) }
     ensures word { IfOk result (λ s. IfSome s.asked_type (λ id. id.0 < length s.table)) }
-    ensures readable { IfOk result MayBeRead }
+    ensures clear { IfOk result (λ s. IfSome s.asked_type (λ id. IsClear s.table id.0)) }
     ensures given { IfOk result (λ s. is_some s.asked_type ≡ is_some type_name.entry) }
 {
     match compile(alloc, files, type_name) {
@@ -131,7 +131,7 @@ fn sheet_for<S: Shelf>(alloc: Global, command: &Command<'_>, shelf: &mut S) -> R
     ensures told { (files : Files) → S.files shelf.old ≡ Some files
         → Comes (λ s. s) result (accepted files (words_of command.now)) }
     ensures word { IfOk result (λ s. IfSome s.asked_type (λ id. id.0 < length s.table)) }
-    ensures readable { IfOk result MayBeRead }
+    ensures clear { IfOk result (λ s. IfSome s.asked_type (λ id. IsClear s.table id.0)) }
     ensures given { IfOk result (λ s. is_some s.asked_type ≡ is_some command.now.job) }
     ensures files { S.files shelf.new ≡ S.files shelf.old }
     ensures calm { (other : List ℕ) → S.faults shelf.old other ≤ S.faults shelf.new other }
@@ -152,14 +152,12 @@ fn run_verb(
     target: &Target<'_>,
     input: &[u8],
 ) -> Result<String, Fail<Stop>>
-    requires known { IsKnown (type_in target.now) }
-    requires few { length input.now ≤ PACKETS_OCTETS }
+    requires { IsKnown (type_in target.now) }
     ensures { EndsAs string_bytes (Works verb (type_in target.now) input.now) result }
 {
     match verb {
         Verb::Unpack => unpacked(alloc, target, input),
         Verb::Pack => packed(alloc, target, input),
-        Verb::Split => split(alloc, target, input),
     }
 }
 
@@ -167,7 +165,6 @@ fn run_verb(
 fn input_for<S: Shelf>(alloc: Global, job: &Job<'_>, shelf: &mut S) -> Result<Octets, Ended>
     ensures told { (files : Files) → S.files shelf.old ≡ Some files
         → Comes (λ o. o) result (input_of files (job_words job.now)) }
-    ensures few { IfOk result (λ o. length o ≤ PACKETS_OCTETS) }
     ensures calm { (other : List ℕ) → S.faults shelf.old other ≤ S.faults shelf.new other }
     ensures unread { IfErr result (λ ended. OnUnread ended
         (λ n. (n ≡ job.now.input.now) × HasRisen (S.faults shelf.old n) (S.faults shelf.new n))) }
@@ -183,7 +180,7 @@ fn run_job<S: Shelf>(
     shelf: &mut S,
 ) -> Result<String, Ended>
     requires word { IsSomeAnd sheet.now.asked_type (λ id. id.0 < length sheet.now.table) }
-    requires readable { MayBeRead sheet.now }
+    requires clear { IfSome sheet.now.asked_type (λ id. IsClear sheet.now.table id.0) }
     ensures told { (files : Files) → S.files shelf.old ≡ Some files
         → CommandEndsAs string_bytes (DoesBy (Some (job_words job.now)) files sheet.now) result }
     ensures calm { (other : List ℕ) → S.faults shelf.old other ≤ S.faults shelf.new other }
@@ -203,7 +200,7 @@ fn report_for<S: Shelf>(
     shelf: &mut S,
 ) -> Result<String, Ended>
     requires word { IfSome sheet.now.asked_type (λ id. id.0 < length sheet.now.table) }
-    requires readable { MayBeRead sheet.now }
+    requires clear { IfSome sheet.now.asked_type (λ id. IsClear sheet.now.table id.0) }
     requires given { is_some sheet.now.asked_type ≡ is_some job }
     ensures told { (files : Files) → S.files shelf.old ≡ Some files
         → CommandEndsAs string_bytes (DoesBy (option_map job_words job.entry) files sheet.now) result }

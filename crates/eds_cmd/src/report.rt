@@ -1,7 +1,7 @@
 //! The lines that are reported.
 
 ghost use Rattle.std.specs.Prelude.{◌≡◌, IfOk, string_bytes};
-ghost use Rattle.eds_cmd.specs.Reports.{bits_report as report_of_bits, common_text as text_of_common, count_text as text_of_count, counts_line as line_of_counts, fault_line as line_of_fault, fault_words as words_of_fault, kept_text as text_of_kept, limit_line as line_of_limit, no_file_line as line_of_no_file, packet_fault_line as line_of_packet_fault, packet_words as words_of_packet, place_text as text_of_place, read_fault_line as line_of_read_fault, refusal_line as line_of_refusal, rule_text as text_of_rule, what_text as text_of_what};
+ghost use Rattle.eds_cmd.specs.Reports.{bits_report as report_of_bits, common_text as text_of_common, count_text as text_of_count, counts_line as line_of_counts, fault_line as line_of_fault, kept_text as text_of_kept, limit_line as line_of_limit, no_file_line as line_of_no_file, place_text as text_of_place, read_fault_line as line_of_read_fault, refusal_line as line_of_refusal, rule_text as text_of_rule, what_text as text_of_what};
 
 use crate::status::What;
 use eds_base::{CommonNumber, Kept, Place, Refusal, Rule};
@@ -139,33 +139,6 @@ pub fn fault_line(alloc: Global, reason: &str, path: &str) -> Result<String, All
     ensures { IfOk result (λ s. string_bytes s ≡ line_of_fault reason.now path.now) }
 {
     Ok(format!(in alloc; "fault {reason} at {path}\n")?)
-}
-
-fn fault_words(alloc: Global, reason: &str, path: &str) -> Result<String, AllocError>
-    ensures { IfOk result (λ s. string_bytes s ≡ words_of_fault reason.now path.now) }
-{
-    Ok(format!(in alloc; "fault {reason} at {path}")?)
-}
-
-fn packet_words(alloc: Global, packet: u32) -> Result<String, AllocError>
-    ensures { IfOk result (λ s. string_bytes s ≡ words_of_packet packet) }
-{
-    Ok(format!(in alloc; " in packet {packet}\n")?)
-}
-
-/// The line of a fault in a packet, by its number from 1.
-pub fn packet_fault_line(
-    alloc: Global,
-    reason: &str,
-    path: &str,
-    packet: u32,
-) -> Result<String, AllocError>
-    ensures { IfOk result (λ s. string_bytes s ≡ line_of_packet_fault reason.now path.now packet) }
-{
-    let mut line = fault_words(alloc, reason, path)?;
-    let words = packet_words(alloc, packet)?;
-    line.push_str(words.as_str())?;
-    Ok(line)
 }
 
 /// The report on a value that was read or written: the text of the value or its octets, and the number of its bits.

@@ -32,8 +32,6 @@ pub enum DataFault {
     Json(ValueFail),
     /// A value can't be packed.
     Pack(PackFail),
-    /// A packet of that number, from 1, can't be read.
-    Packet(u32, Fault),
 }
 
 /// How a command ended.

@@ -3,7 +3,7 @@
 ghost use Rattle.std.specs.Prelude.{◌≡◌, IfOk};
 ghost use Rattle.eds_cmd.specs.Stops as stops;
 
-use crate::report::{fault_line, limit_line, no_file_line, packet_fault_line, refusal_line};
+use crate::report::{fault_line, limit_line, no_file_line, refusal_line};
 use crate::status::{DataFault, Status, What};
 use eds_base::{Fault, Memory, Refusal, Text};
 use eds_pack::PackFail;
@@ -97,23 +97,6 @@ pub fn frame_fault(alloc: Global, table: &TypeTable, fault: Fault) -> Result<Sto
     let report = fault_line(alloc, fault.reason.name(), place.as_str())?;
     Ok(Stop {
         cause: Cause::Data(DataFault::Frame(fault)),
-        report: Text::from_string(report),
-    })
-}
-
-/// The packet of a number can't be read as a value of the type.
-pub fn packet_fault(
-    alloc: Global,
-    table: &TypeTable,
-    packet: u32,
-    fault: Fault,
-) -> Result<Stop, Memory>
-    ensures { IfOk result (λ s. s ≡ stops.packet_fault table.now packet fault.reason fault.path) }
-{
-    let place = path_text(alloc, table, &fault.path)?;
-    let report = packet_fault_line(alloc, fault.reason.name(), place.as_str(), packet)?;
-    Ok(Stop {
-        cause: Cause::Data(DataFault::Packet(packet, fault)),
         report: Text::from_string(report),
     })
 }

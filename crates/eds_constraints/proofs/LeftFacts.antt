@@ -21,6 +21,7 @@ use Rattle.eds_types.specs.declared.row.TypeRow.{TypeRow}
 use Rattle.eds_types.specs.Fields.{listed}
 use Rattle.eds_types.specs.Reading.{is_within}
 use Rattle.eds_types.specs.Rows.{Table, base_of, chain_before, chain_within}
+use Rattle.eds_types.specs.Rules.{KindKeeps}
 use Rattle.eds_types.proofs.ReadingTests.{within_from}
 use Rattle.eds_constraints.specs.declared.asked.Aim.{Aim}
 use Rattle.eds_constraints.specs.declared.asked.Asked.{Asked}
@@ -28,7 +29,7 @@ use Rattle.eds_constraints.specs.declared.left.Left.{Left}
 use Rattle.eds_constraints.specs.declared.asked.Test.{Test}
 use Rattle.eds_constraints.specs.declared.asked.Test.TheVariants.{Value, Within, Under}
 use Rattle.eds_constraints.specs.Breaks.{Lists, Posed, aim_at, admitted, some_of, left_by, left_behind, left_after, left_on, asked_of, posed_by, posed_of, empties_after, empties_of}
-use Rattle.eds_constraints.specs.ConstrainedRows.{AreRead, IsReadKind}
+use Rattle.eds_constraints.specs.ConstrainedRows.{AreRead}
 use Rattle.eds_constraints.specs.Domains.{narrowed}
 use Rattle.eds_constraints.specs.Lefts.{path_of, every_number_on, left_on_path, posed_over, IsPlaced, IsLeft, IsLeftOf, AreAllLeft, RiseIn, AreRising}
 use Rattle.eds_constraints.specs.Sets.{one_number, all_numbers, met, truth_number, number_within, value_set, type_set, concrete_under, set_by, set_of}
@@ -58,7 +59,7 @@ truth_rises : (b : Bool) → Rises (one_number (truth_number b))
 truth_rises true = grind arith
 truth_rises false = grind arith
 
-value_kept : (k : Kind) (text : List ℕ) → IsReadKind k → RiseIn k → IsKept (value_set k text)
+value_kept : (k : Kind) (text : List ℕ) → KindKeeps k → RiseIn k → IsKept (value_set k text)
 value_kept (kind.Int form spans) text keeps r = go (whole_number text)
   where
     go : (o : Option ℤ) → IsKept (option_map (number_within spans) o)
@@ -92,7 +93,7 @@ only_kept : (b : Bool) (s : List Span) → Rises s → IsKept (if b then Some s 
 only_kept true s r = r
 only_kept false s r = tt
 
-set_kept : (t : Table) (target : ℕ) (k : Kind) (test : Test) → length t ≤ 4096 → IsReadKind k → RiseIn k → IsKept (set_by t target k test)
+set_kept : (t : Table) (target : ℕ) (k : Kind) (test : Test) → length t ≤ 4096 → KindKeeps k → RiseIn k → IsKept (set_by t target k test)
 set_kept t target k (Value text) few keeps r = value_kept k text keeps r
 set_kept t target k (Within range) few keeps r = range_kept k t target range r
 set_kept t target k (Under id) few keeps r = only_kept _ (concrete_under t id.0) (concrete_rises t id.0 few)

@@ -7,12 +7,5 @@ pub mod SetFacts
 pub mod ConcreteFacts
 pub mod ValueFacts
 pub mod BreakSteps
-pub mod BrokenFacts
 pub mod LeftFacts
 pub mod GoneOn
-pub mod RowsEach
-pub mod AlikeTables
-pub mod AimFacts
-pub mod AdmittedFacts
-pub mod LeftSome
-pub mod ConstrainedKeeps

@@ -10,9 +10,10 @@ use Rattle.eds_types.specs.declared.row.Container.{Container}
 use Rattle.eds_types.specs.declared.row.Kind.{Kind}
 use Rattle.eds_types.specs.declared.row.Kind.TheVariants as kind
 use Rattle.eds_types.specs.Rows.{Table, id_of, address, base_of, container_by, container_in, entries_in, trailers_in, entries_of, trailers_of, placed_entries, placed_trailers, chain_before, chain_within, chain}
+use Rattle.eds_types.specs.Rules.{KindKeeps}
 use Rattle.eds_constraints.specs.Paths.{called, place_called, first_called}
 use Rattle.eds_constraints.specs.Named.{names_of_entries, names_of_trailers, has_few_parts, have_few_parts}
-use Rattle.eds_constraints.specs.ConstrainedRows.{AreRead, IsReadKind}
+use Rattle.eds_constraints.specs.ConstrainedRows.{AreRead}
 use Rattle.eds_constraints.proofs.Called.{or_else, own_entries, own_trailers, position_below, entries_along, trailers_along, entries-none, entries-root, entries-up, trailers-none, trailers-up, both-sequences}
 
 -- ---- few parts
@@ -39,13 +40,13 @@ few_own t h id = go (slice_get t id) refl
     go None e = rw e (grind arith, grind arith)
     go (Some row) e = rw e (few_by (length (entries_in (container_by row.kind))) (length (trailers_in (container_by row.kind))) (all_there has_few_parts t h id row e))
 
-few_row : (row : TypeRow) → IsReadKind row.kind → has_few_parts row ≡ true
+few_row : (row : TypeRow) → KindKeeps row.kind → has_few_parts row ≡ true
 few_row row k = go row.kind k
   where
     both : (a b : ℕ) → a ≤ 32767 → b ≤ 32767 → nat_le a 32767 && nat_le b 32767 ≡ true
     both a b h k = grind arith
 
-    go : (k : Kind) → IsReadKind k → nat_le (length (entries_in (container_by k))) 32767 && nat_le (length (trailers_in (container_by k))) 32767 ≡ true
+    go : (k : Kind) → KindKeeps k → nat_le (length (entries_in (container_by k))) 32767 && nat_le (length (trailers_in (container_by k))) 32767 ≡ true
     go (kind.Int form spans) h = refl
     go (kind.Enum form listing) h = refl
     go (kind.Bool form) h = refl
@@ -57,7 +58,7 @@ few_row row k = go row.kind k
 both_true : (a b : Bool) → a ≡ true → b ≡ true → (a && b) ≡ true
 both_true a b h k = rw (h, k) refl
 
-few_all : (rows : List TypeRow) → ((id : ℕ) (row : TypeRow) → slice_get rows id ≡ Some row → IsReadKind row.kind) → have_few_parts rows ≡ true
+few_all : (rows : List TypeRow) → ((id : ℕ) (row : TypeRow) → slice_get rows id ≡ Some row → KindKeeps row.kind) → have_few_parts rows ≡ true
 few_all [] h = refl
 few_all (r ∷ rows) h = both_true (has_few_parts r) (have_few_parts rows) (few_row r (h 0 r refl)) (few_all rows (λ id row e. h (suc id) row e))
 

@@ -2,18 +2,21 @@
 use Rattle.std.proofs.Common.{◌≡◌, ℕ, zero, suc, ◌+◌, ℤ, ◌≤ℤ◌, length, List, [], ◌∷◌, Bool, true, false, Option, Some, None, refl, sym, ap, subst, ◌∙◌, arith}
 use Rattle.std.specs.Prelude.{if◌then◌else◌, Result, Ok, Err, IfOk, option_map, slice_get, map}
 use Rattle.std.specs.List.{AllByRecursion, range_with_len}
+use Rattle.std.proofs.lemmas.Int.{ints}
 use Rattle.std.proofs.lemmas.Option.{slice_get-map}
 use Rattle.eds_base.specs.declared.spans.Span.{Span}
 use Rattle.eds_base.specs.Reading.{same}
 use Rattle.eds_base.specs.Spans.{bottom, top}
 use Rattle.eds_bits.specs.declared.forms.IntForm.{IntForm}
+use Rattle.eds_bits.specs.IntForms.{least, greatest, HasNumber}
 use Rattle.eds_types.specs.declared.row.Kind.{Kind}
 use Rattle.eds_types.specs.declared.row.Kind.TheVariants as kind
 use Rattle.eds_types.specs.Fields.{listed}
 use Rattle.eds_types.specs.Reading.{is_within}
 use Rattle.eds_types.specs.Rows.{Table, numbers}
-use Rattle.eds_constraints.specs.ConstrainedRows.{IsSmallLabel, IsReadKind}
+use Rattle.eds_types.specs.Rules.{KindKeeps, IsListing}
 use Rattle.eds_constraints.specs.Sets.{one_number, number_within, concrete_under}
+use Rattle.eds_constraints.proofs.DomainFacts.{bounds_within}
 
 pub within_then : {E : Type 0} (domain : List Span) (n : ℤ) (r : Result (List Span) E) → is_within domain n ≡ true → IfOk r (λ s. s ≡ one_number n) → IfOk r (λ s. s ≡ number_within domain n)
 within_then domain n (Ok s) is e = rw is e
@@ -22,17 +25,25 @@ within_then domain n (Err x) is e = tt
 pub within_else : (domain : List Span) (n : ℤ) (s : List Span) → is_within domain n ≡ false → s ≡ [] → s ≡ number_within domain n
 within_else domain n s is e = rw is e
 
--- the number of a label is one that a set may hold
-listed_number : (listing : List (List ℕ × ℤ)) (label : List ℕ) (n : ℤ) → AllByRecursion IsSmallLabel listing → listed listing label ≡ Some n → (bottom ≤ℤ n) × (n ≤ℤ top)
-listed_number [] label n all e = absurd cc
-listed_number (x ∷ xs) label n all e = go (same x.0 label) refl (listed_number xs label n all.1)
+-- the number of a label is one of the form
+listed_number : (form : IntForm) (listing : List (List ℕ × ℤ)) (label : List ℕ) (n : ℤ) → AllByRecursion (λ e. HasNumber form e.1) listing → listed listing label ≡ Some n → HasNumber form n
+listed_number form [] label n all e = absurd cc
+listed_number form (x ∷ xs) label n all e = go (same x.0 label) refl (listed_number form xs label n all.1)
   where
-    go : (b : Bool) → same x.0 label ≡ b → (listed xs label ≡ Some n → (bottom ≤ℤ n) × (n ≤ℤ top)) → (bottom ≤ℤ n) × (n ≤ℤ top)
-    go true h more = let f : Some x.1 ≡ Some n = rw h at e in let g : x.1 ≡ n = cc in subst (λ m. (bottom ≤ℤ m) × (m ≤ℤ top)) g all.0
+    go : (b : Bool) → same x.0 label ≡ b → (listed xs label ≡ Some n → HasNumber form n) → HasNumber form n
+    go true h more = let f : Some x.1 ≡ Some n = rw h at e in let g : x.1 ≡ n = cc in subst (HasNumber form) g all.0
     go false h more = more (rw h at e)
 
-pub label_bounds : (form : IntForm) (listing : List (List ℕ × ℤ)) (label : List ℕ) (n : ℤ) (k : Kind) → k ≡ kind.Enum form listing → IsReadKind k → listed listing label ≡ Some n → (bottom ≤ℤ n) × (n ≤ℤ top)
-label_bounds form listing label n k is keeps e = listed_number listing label n (subst IsReadKind is keeps) e
+pub label_bounds : (form : IntForm) (listing : List (List ℕ × ℤ)) (label : List ℕ) (n : ℤ) (k : Kind) → k ≡ kind.Enum form listing → KindKeeps k → listed listing label ≡ Some n → (bottom ≤ℤ n) × (n ≤ℤ top)
+label_bounds form listing label n k is keeps e =
+    let all : IsListing form listing = subst KindKeeps is keeps in
+    let number = listed_number form listing label n all.of_form e in
+    let ends = bounds_within form in
+    let low = ends.0 in
+    let high = ends.1 in
+    let from = number.from_least in
+    let to = number.to_greatest in
+    (omega (arith, ints), omega (arith, ints))
 
 -- a set among those of all types
 range_at : (f : ℕ → List Span) (a n i : ℕ) (s : List Span) → slice_get (map f (range_with_len a n)) i ≡ Some s → s ≡ f (a + i)

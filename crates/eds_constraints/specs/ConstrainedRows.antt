@@ -1,39 +1,25 @@
 -- The rows of types with the constraints of their containers.
-use Rattle.std.specs.Prelude.{ℕ, ◌+◌, ◌≡◌, ◌≤◌, ℤ, ◌≤ℤ◌, List, [], ◌∷◌, length, Bool, true, false, Option, Some, None, option_map, slice_get}
-use Rattle.std.specs.List.{AllByRecursion, filter_map}
+use Rattle.std.specs.Prelude.{ℕ, ◌+◌, ◌≡◌, ◌≤◌, List, [], ◌∷◌, length, Bool, true, false, Option, Some, None, option_map, slice_get}
+use Rattle.std.specs.List.{filter_map}
 use Rattle.eds_base.specs.Reading.{◌>>=◌}
 use Rattle.eds_base.specs.declared.spans.Span.{Span}
-use Rattle.eds_base.specs.Spans.{bottom, top}
 use Rattle.eds_types.specs.declared.row.Constraint.{Constraint}
 use Rattle.eds_types.specs.declared.row.Container.{Container}
 use Rattle.eds_types.specs.declared.row.Kind.{Kind}
 use Rattle.eds_types.specs.declared.row.Kind.TheVariants as kind
 use Rattle.eds_types.specs.declared.row.TypeRow.{TypeRow}
 use Rattle.eds_types.specs.Rows.{Table}
+use Rattle.eds_types.specs.Rules.{KindKeeps}
 use Rattle.eds_constraints.specs.declared.asked.Aim.{Aim}
 use Rattle.eds_constraints.specs.declared.asked.Test.{Test}
 use Rattle.eds_constraints.specs.declared.asked.Test.TheVariants.{Value, Within, Under}
 use Rattle.eds_constraints.specs.Breaks.{Lists, Posed, aim_at, posed_of}
 use Rattle.eds_constraints.specs.Sets.{set_of}
 
--- the value of a label is one that a set may hold
-abbrev pub IsSmallLabel : List ℕ × ℤ → Type 0
-IsSmallLabel entry = (bottom ≤ℤ entry.1) × (entry.1 ≤ℤ top)
-
--- what every kind has as elements give it, whether it breaks a rule or not: small values of labels, and few parts
-abbrev pub IsReadKind : Kind → Type 0
-IsReadKind (kind.Int form spans) = Unit {0}
-IsReadKind (kind.Enum form listing) = AllByRecursion IsSmallLabel listing
-IsReadKind (kind.Bool form) = Unit {0}
-IsReadKind (kind.Str form) = Unit {0}
-IsReadKind (kind.Bin n free) = Unit {0}
-IsReadKind (kind.Arr item n) = Unit {0}
-IsReadKind (kind.Con c) = (length c.entries ≤ 32767) × (length c.trailers ≤ 32767)
-
--- What all rows of a sheet have by the shape of its elements: there are at most 4,096 types, each of a kind as elements give it.
+-- What the stages before say of rows: there are at most 4,096 types, and each kind keeps what the rules say of it alone.
 pub record AreRead (t : Table) : Type 0 where
   pub few : length t ≤ 4096
-  pub kinds : (id : ℕ) (row : TypeRow) → slice_get t id ≡ Some row → IsReadKind row.kind
+  pub kinds : (id : ℕ) (row : TypeRow) → slice_get t id ≡ Some row → KindKeeps row.kind
 
 -- a constraint on a type admits numbers of types
 abbrev pub is_on_kind : Test → Bool

@@ -41,7 +41,7 @@ pub(crate) trait ConstraintRule {
 }
 
 /// The least break of a rule in the container of a number.
-pub(crate) fn least_in<R: ConstraintRule>(
+fn least_in<R: ConstraintRule>(
     alloc: Global,
     rows: &AskedRows,
     id: TypeId,
@@ -71,7 +71,7 @@ fn least_over<R: ConstraintRule>(alloc: Global, rows: &AskedRows) -> Result<Opti
     Ok(found)
 }
 
-pub(crate) struct ConstraintTarget;
+struct ConstraintTarget;
 
 impl ConstraintRule for ConstraintTarget {
     ghost breaks = { target_at };
@@ -92,7 +92,7 @@ impl ConstraintRule for ConstraintTarget {
     }
 }
 
-pub(crate) struct ConstraintValue;
+struct ConstraintValue;
 
 impl ConstraintRule for ConstraintValue {
     ghost breaks = { value_at };

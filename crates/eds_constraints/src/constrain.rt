@@ -2,13 +2,13 @@
 
 ghost use Rattle.std.specs.Prelude.{◌≡◌, map, IfOk};
 ghost use Rattle.eds_types.specs.Rows.{number_of_id, numbers};
-ghost use Rattle.eds_constraints.specs.Breaks.{Lists, posed_by};
-ghost use Rattle.eds_constraints.specs.ConstrainedRows.{AreRead, is_on_kind as is_kind_test, constraint_by as constraint_with, constraint_of as constraint_at, constraints_for, kind_with as constrained_kind, row_with as constrained_row, constrained};
+ghost use Rattle.eds_constraints.specs.Breaks.{posed_by};
+ghost use Rattle.eds_constraints.specs.ConstrainedRows.{AreRead, is_on_kind as is_kind_test, constraint_by as constraint_with, constraint_of as constraint_at, constraints_for};
 
 use crate::asked::{Aim, Asked, Test};
 use crate::asked_rows::AskedRows;
 use eds_base::{Items, Memory, Spans, TypeId};
-use eds_types::{Constraint, Constraints, Container, Kind, TypeRow, TypeRows};
+use eds_types::{Constraint, Constraints};
 use std::alloc::Global;
 
 fn is_on_kind(test: &Test) -> bool
@@ -74,47 +74,4 @@ pub fn constraints_of_all(alloc: Global, rows: &AskedRows) -> Result<Items<Const
         all.push(own_constraints(alloc, rows, TypeId(id as u32))?)?;
     }
     Ok(all)
-}
-
-fn kind_with(constraints: Constraints, kind: Kind) -> Kind
-    ensures { result ≡ constrained_kind constraints kind }
-{
-    match kind {
-        Kind::Con(container) => Kind::Con(Container {
-            hidden: container.hidden,
-            constraints,
-            entries: container.entries,
-            trailers: container.trailers,
-        }),
-        kind => kind,
-    }
-}
-
-fn row_with(constraints: Constraints, row: TypeRow) -> TypeRow
-    ensures { result ≡ constrained_row constraints row }
-{
-    TypeRow {
-        name: row.name,
-        base: row.base,
-        kind: kind_with(constraints, row.kind),
-    }
-}
-
-/// The rows with the constraints of their containers, which are given for each type.
-pub fn constrained_rows(
-    alloc: Global,
-    rows: TypeRows,
-    constraints: Items<Constraints>,
-) -> Result<TypeRows, Memory>
-    ensures { IfOk result (λ t. (lists : Lists) → constraints ≡ map (constraints_for rows lists) (numbers rows) → t ≡ constrained rows lists) }
-{
-    let mut whole = Items::new(alloc);
-    let mut each = constraints.into_vec().into_iter();
-    for row in rows.into_vec() {
-        match each.next() {
-            None => return Ok(whole),
-            Some(own) => whole.push(row_with(own, row))?,
-        }
-    }
-    Ok(whole)
 }

@@ -153,7 +153,7 @@ fn own_left(alloc: Global, rows: &AskedRows, id: TypeId) -> Result<Left, Memory>
     Ok(Left { paths, states })
 }
 
-pub(crate) fn all_lefts(alloc: Global, rows: &AskedRows) -> Result<Items<Left>, Memory>
+fn all_lefts(alloc: Global, rows: &AskedRows) -> Result<Items<Left>, Memory>
     requires { AreRead rows.now.rows.now }
     ensures { IfOk result (λ l. AreAllLeft rows.now.rows.now rows.now.lists.now l) }
 {
@@ -268,7 +268,7 @@ fn seeds(
 // ---- the rule
 
 // The least constraint of a container that leaves nothing.
-pub(crate) fn least_empty(
+fn least_empty(
     alloc: Global,
     rows: &AskedRows,
     lefts: &[Left],
@@ -295,7 +295,7 @@ fn kind_rises(kind: &Kind)
     }
 }
 
-pub(crate) fn rows_rise(rows: &[TypeRow])
+fn rows_rise(rows: &[TypeRow])
     ensures { AreRising rows.now }
 {
     for row in rows {

@@ -7,7 +7,8 @@ ghost use Rattle.eds_base.specs.Spans.{bottom, top};
 ghost use Rattle.eds_types.specs.Domains.{int_domain_by};
 ghost use Rattle.eds_types.specs.Reading.{is_within as is_of_domain};
 ghost use Rattle.eds_types.specs.Rows.{chain, chain_within, list_has, numbers};
-ghost use Rattle.eds_constraints.specs.ConstrainedRows.{AreRead, IsReadKind};
+ghost use Rattle.eds_types.specs.Rules.{KindKeeps};
+ghost use Rattle.eds_constraints.specs.ConstrainedRows.{AreRead};
 ghost use Rattle.eds_constraints.specs.Domains.{narrowed as narrowed_by};
 ghost use Rattle.eds_constraints.specs.Sets.{one_number as one_number_alone, all_numbers as every_number, met as met_sets, concrete_under as concrete_at_or_under, truth_number as truth_as_number, number_within as number_in_domain, label_set as label_set_of, value_set as value_set_of, type_set as type_set_of, set_by as set_by_kind, set_of as set_of_test};
 
@@ -143,7 +144,7 @@ fn number_set(alloc: Global, domain: &Spans, text: &str) -> Result<Option<Spans>
 }
 
 fn label_set(alloc: Global, kind: &Kind, text: &str) -> Result<Option<Spans>, Memory>
-    requires { IsReadKind kind.now }
+    requires { KindKeeps kind.now }
     ensures { IfOk result (λ s. s ≡ label_set_of kind.now text.now) }
 {
     match kind {
@@ -165,7 +166,7 @@ fn truth_set(alloc: Global, text: &str) -> Result<Option<Spans>, Memory>
 }
 
 fn value_set(alloc: Global, kind: &Kind, text: &str) -> Result<Option<Spans>, Memory>
-    requires { IsReadKind kind.now }
+    requires { KindKeeps kind.now }
     ensures { IfOk result (λ s. s ≡ value_set_of kind.now text.now) }
 {
     match kind {
@@ -230,7 +231,7 @@ fn set_by(
 ) -> Result<Option<Spans>, Memory>
     requires read { AreRead rows.now }
     requires sets { sets.now ≡ map (concrete_at_or_under rows.now) (numbers rows.now) }
-    requires kept { IsReadKind kind.now }
+    requires kept { KindKeeps kind.now }
     ensures { IfOk result (λ s. s ≡ set_by_kind rows.now target.0 kind.now test.now) }
 {
     match test {

@@ -172,7 +172,12 @@ fn base_of(alloc: Global, file: &File, own: &NameList, node: u32) -> Result<Base
     })
 }
 
-fn bases_of(alloc: Global, file: &File, own: &NameList, nodes: &[u32]) -> Result<Vec<Base>, Memory>
+fn bases_of(
+    alloc: Global,
+    file: &File,
+    own: &NameList,
+    nodes: &[u32],
+) -> Result<Vec<Base>, Memory>
     ensures { IfOk result (λ v. v.items ≡ map (base_at file.now.tree.now file.now.space.now file.now.file file.now.all.now own.now) nodes.now) }
 {
     let mut bases = Vec::new(alloc);
@@ -212,7 +217,12 @@ fn push_parameter(
     Ok(())
 }
 
-fn argument_of(alloc: Global, file: &File, own: &NameList, node: u32) -> Result<OwnArgument, Memory>
+fn argument_of(
+    alloc: Global,
+    file: &File,
+    own: &NameList,
+    node: u32,
+) -> Result<OwnArgument, Memory>
     ensures { IfOk result (λ a. a ≡ argument_at file.now.tree.now file.now.space.now file.now.file own.now node) }
 {
     let name = Text::of(alloc, own_name(file.tree, node))?;

@@ -1,5 +1,5 @@
 -- What eds_machine's functions tell of components, as a run sees them.
-use Rattle.std.proofs.Common.{◌≡◌, ◌≤◌, ◌<◌, ◌^◌, ℕ, zero, suc, List, [], ◌∷◌, length, map, Option, Some, None, slice_get, refl, sym, ap, subst, ◌∙◌, arith}
+use Rattle.std.proofs.Common.{◌≡◌, ◌≤◌, ◌<◌, ◌+◌, ◌^◌, ℕ, zero, suc, List, [], ◌∷◌, length, map, Option, Some, None, slice_get, refl, sym, ap, subst, ◌∙◌, arith}
 use Rattle.std.specs.List.{AllByRecursion}
 use Rattle.eds_base.specs.Reading.{◌>>=◌}
 use Rattle.eds_types.specs.PackedSizes.{packs}
@@ -29,7 +29,7 @@ use Rattle.eds_host.specs.Comings.{coming}
 use Rattle.eds_host.specs.Laws.{NotBefore}
 use Rattle.eds_host.specs.Machines.{at_event, outcome, reacted, started, takes, waits_of, IsStateOf}
 use Rattle.eds_host.specs.Plans.{IsSent, MayCome}
-use Rattle.eds_host.specs.Systems.{StateNow, state_now}
+use Rattle.eds_host.specs.Systems.{Reaction, StateNow, state_now}
 
 -- ---- components
 

@@ -1,5 +1,5 @@
 -- A frame's line: its value arrives, or the frame is refused.
-use Rattle.std.proofs.Common.{◌≡◌, ◌≤◌, ◌+◌, ℕ, List, [], ◌∷◌, ◌++◌, Option, Some, refl, sym, ap, subst, ◌∙◌, arith, length, length-append}
+use Rattle.std.proofs.Common.{◌≡◌, ◌≤◌, ◌+◌, ◌*◌, ℕ, List, [], ◌∷◌, ◌++◌, Option, Some, refl, sym, ap, subst, ◌∙◌, arith, length, length-append}
 use Rattle.std.specs.Prelude.{Result, Ok, Err, IfOk}
 use Rattle.eds_base.specs.declared.fail.Memory.{Memory}
 use Rattle.eds_base.specs.declared.fault.Fault.{Fault}
@@ -24,7 +24,7 @@ use Rattle.eds_host.specs.declared.handled.Handled.{Handled}
 use Rattle.eds_host.specs.declared.handled.Handled.TheVariants.{Done}
 use Rattle.eds_host.specs.declared.setting.Setting.{Setting}
 use Rattle.eds_host.specs.Frames.{FrameIs}
-use Rattle.eds_host.specs.Hosts.{BringsOne, brought_to, way_to}
+use Rattle.eds_host.specs.Hosts.{BringsOne, brought_to, reading, way_to}
 use Rattle.eds_host.specs.Plans.{Arrives}
 use Rattle.eds_host.specs.Resting.{LineIs}
 use Rattle.eds_host.specs.Runs.{comes, follows}

@@ -1,12 +1,12 @@
 -- Lines after lines.
-use Rattle.std.proofs.Common.{◌≡◌, List, [], ◌∷◌, ◌++◌, Option, Some, None, refl, sym, ap, subst, ◌∙◌}
+use Rattle.std.proofs.Common.{◌≡◌, ℕ, List, [], ◌∷◌, ◌++◌, Option, Some, None, refl, sym, ap, subst, ◌∙◌}
 use Rattle.std.specs.Prelude.{Result}
 use Rattle.eds_base.specs.declared.fault.Fault.{Fault}
 use Rattle.eds_plan.specs.Lines.{Told, starts, passes, framed}
 use Rattle.eds_plan.specs.Lines as lines
 use Rattle.eds_plan.specs.Outs.{Report}
 use Rattle.eds_types.specs.Plain.{Plain}
-use Rattle.eds_host.specs.Hosts.{PlansReadOne, RunsGoOn, RunsJoin, RunsHaveOneOutcome, reading}
+use Rattle.eds_host.specs.Hosts.{PlansReadOne, RunsJoin, RunsHaveOneOutcome, reading}
 use Rattle.eds_host.specs.Laws.{ReadsOne}
 use Rattle.eds_host.specs.Plans.{system}
 use Rattle.eds_host.specs.Runs.{Course, LineGoes, Reading, RestGoes, RunGoes, frame_goes}
@@ -23,13 +23,6 @@ module _ (sys : System) (reading : Reading) where
           → (o : Option World) → RestGoes o h.1 (Some v) (λ u os. RunGoes sys reading ls u os (Some v)) → RestGoes o (h.1 ++ more) end (λ u os. RunGoes sys reading (ls ++ two) u os end)
       go on None r = absurd (let e = r.1 in cc)
       go on (Some u) r = on u r
-
-  one_line : (l : Told) (w : World) (c : Course) → LineGoes sys reading l w c → RunGoes sys reading (l ∷ []) w (c.outs ∷ []) c.end
-  one_line l w c h = (c, [], h, go c.end, refl)
-    where
-      go : (o : Option World) → RestGoes o [] o (λ u os. RunGoes sys reading [] u os o)
-      go None = (refl, refl)
-      go (Some u) = (refl, refl)
 
   one_course : (l : Told) (w : World) (c d : Course) → ReadsOne reading → LineGoes sys reading l w c → LineGoes sys reading l w d → c ≡ d
   one_course starts w c d one h k = h ∙ sym k
@@ -52,9 +45,6 @@ module _ (sys : System) (reading : Reading) where
 
 pub runs_join : RunsJoin
 runs_join t plan tied one two w v outs more end h k = joined (system t plan tied) (reading t plan) one two w v outs more end h k
-
-pub runs_go_on : RunsGoOn
-runs_go_on t plan tied ls l w v outs c h k = joined (system t plan tied) (reading t plan) ls (l ∷ []) w v outs (c.outs ∷ []) c.end h (one_line (system t plan tied) (reading t plan) l v c k)
 
 pub runs_have_one_outcome : PlansReadOne → RunsHaveOneOutcome
 runs_have_one_outcome reads t plan tied ls w outs more end stop keeps fits clear h k = one_run (system t plan tied) (reading t plan) ls w outs more end stop (reads t plan keeps fits clear) h k

@@ -1,8 +1,11 @@
 -- The least moment for which a component waits.
-use Rattle.std.proofs.Common.{◌≡◌, ◌≤◌, ◌+◌, ℕ, zero, suc, List, [], ◌∷◌, Bool, true, false, cond, Option, Some, None, refl, subst, arith}
+use Rattle.std.proofs.Common.{◌≡◌, ◌≤◌, ◌<◌, ◌+◌, ℕ, zero, suc, List, [], ◌∷◌, Bool, true, false, cond, Option, Some, None, refl, sym, ap, subst, ◌∙◌, arith, length}
 use Rattle.std.specs.Prelude.{nat_lt, nat_le, slice_get}
 use Rattle.std.proofs.lemmas.Bool.Decides.{nat_tests}
+use Rattle.eds_plan.specs.declared.component.ComponentPlan.{ComponentPlan}
 use Rattle.eds_host.specs.declared.due.Due.{Due}
+use Rattle.eds_host.specs.Machines.{waits_of}
+use Rattle.eds_host.specs.Plans.{NoneBefore}
 use Rattle.eds_host.specs.Laws.{NotBefore}
 use Rattle.eds_host.specs.Systems.{System, StateNow, due_at, first_of, first_due, has_come}
 

@@ -7,7 +7,7 @@ use Rattle.eds_plan.specs.declared.component.ComponentPlan.{ComponentPlan}
 use Rattle.eds_plan.specs.declared.machine.Machine.{Machine}
 use Rattle.eds_plan.specs.declared.machine.Transition.{Transition}
 use Rattle.eds_plan.specs.declared.run.MachineState.{MachineState}
-use Rattle.eds_machine.specs.Moments.{AnyHas, HasMoment}
+use Rattle.eds_machine.specs.Moments.{AnyHas, HasMoment, moment as moment_of}
 use Rattle.eds_machine.specs.Reactions.{fires, standing}
 use Rattle.eds_machine.proofs.MachineLaws.{IsLater, moment_later, moments_pass}
 use Rattle.eds_host.specs.Hosts.{TimersFireOnce}

@@ -1,28 +1,30 @@
 -- A frame comes to one thing alone.
-use Rattle.std.proofs.Common.{◌≡◌, ◌<◌, ◌+◌, ℕ, List, [], ◌∷◌, Option, Some, None, length, length-append, slice_get, refl, sym, ap, subst, ◌∙◌, arith, inl, inr}
-use Rattle.std.specs.Prelude.{Result, Ok, Err}
+use Rattle.std.proofs.Common.{◌≡◌, ◌≤◌, ◌<◌, ◌+◌, ℕ, List, [], ◌∷◌, ◌++◌, Option, Some, None, length, length-append, slice_get, refl, sym, ap, subst, ◌∙◌, arith, inl, inr}
+use Rattle.std.specs.Prelude.{Result, Ok, Err, ◌⊎◌}
 use Rattle.std.specs.List.{AllByRecursion}
 use Rattle.eds_base.specs.declared.fault.Fault.{Fault}
 use Rattle.eds_base.specs.Reading.{◌>>=◌}
 use Rattle.eds_bits.specs.Bits.{Bits, bits_of}
+use Rattle.eds_types.specs.Failing.{FailsAt}
 use Rattle.eds_types.specs.Overlap.{IsClear}
 use Rattle.eds_types.specs.Plain.{Plain}
 use Rattle.eds_types.specs.Rows.{Table}
 use Rattle.eds_types.specs.Rules.{KeepsRules}
 use Rattle.eds_overlap.specs.Laws.{HasOneOutcome, IsReadable, OneOutcome}
-use Rattle.eds_plan.specs.Carried.{arriving, carried}
+use Rattle.eds_plan.specs.Carried.{arriving, carried, carried_of}
 use Rattle.eds_plan.specs.Ends.{end_at}
 use Rattle.eds_plan.specs.Fitting.{ComponentFits, MemberKnown, PlanFits}
 use Rattle.eds_plan.specs.declared.activity.Op.TheVariants as op
 use Rattle.eds_plan.specs.declared.component.ComponentPlan.{ComponentPlan}
 use Rattle.eds_plan.specs.declared.component.EndPlan.{EndPlan}
+use Rattle.eds_plan.specs.declared.instance.Argument.{Argument}
 use Rattle.eds_plan.specs.declared.instance.Member.{Member}
 use Rattle.eds_plan.specs.declared.instance.Member.TheVariants as members
 use Rattle.eds_plan.specs.declared.run.End.{End}
 use Rattle.eds_plan.specs.declared.run.Way.{Way}
 use Rattle.eds_act.specs.Does.{Conforms}
 use Rattle.eds_host.specs.Frames.{Begins, FrameIs}
-use Rattle.eds_host.specs.Hosts.{ArgumentsAreClear, FramesHaveOneOutcome, HasClearArguments, PlansReadOne, brought_to}
+use Rattle.eds_host.specs.Hosts.{ArgumentsAreClear, FramesHaveOneOutcome, HasClearArguments, PlansReadOne, brought_to, reading}
 use Rattle.eds_host.proofs.FrameTypes.{all_at, one_has}
 
 module _ (t : Table) (id : ℕ) (bits : Bits) (one : HasOneOutcome t id bits) where

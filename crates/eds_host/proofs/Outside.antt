@@ -1,6 +1,7 @@
 -- Ends that no wire names are tied to none.
-use Rattle.std.proofs.Common.{◌≡◌, ◌≢◌, ◌≤◌, ◌+◌, ◌-◌, ℕ, suc, List, [], ◌∷◌, ◌++◌, map, Bool, true, false, cond, Option, Some, None, slice_get, refl, sym, ap, subst, ◌∙◌, arith, inl, inr}
+use Rattle.std.proofs.Common.{◌≡◌, ◌≢◌, ◌≤◌, ◌+◌, ◌-◌, ℕ, zero, suc, List, [], ◌∷◌, ◌++◌, map, Bool, true, false, cond, Option, Some, None, slice_get, refl, sym, ap, subst, ◌∙◌, arith, inl, inr}
 use Rattle.std.specs.Prelude.{Result, Ok, Err, option_map, ◌⊎◌}
+use Rattle.std.specs.List.{AllByRecursion}
 use Rattle.std.specs.Str.{bytes_eq}
 use Rattle.std.proofs.lemmas.Slice.Eq.{bytes_eq-Decides}
 use Rattle.eds_base.specs.Reading.{◌>>=◌}
@@ -10,6 +11,8 @@ use Rattle.eds_plan.specs.declared.component.EndPlan.{EndPlan}
 use Rattle.eds_plan.specs.declared.run.End.{End}
 use Rattle.eds_plan.specs.declared.run.Wire.{Wire}
 use Rattle.eds_plan.proofs.Called.{first_append}
+use Rattle.eds_host.specs.declared.wiring.Asked.{Asked}
+use Rattle.eds_host.specs.declared.wiring.HostFail.{HostFail}
 use Rattle.eds_host.specs.declared.wiring.Tie.{Tie}
 use Rattle.eds_host.specs.declared.wiring.WireWhy.{WireWhy}
 use Rattle.eds_host.specs.Hosts.{IsUnnamed, UnnamedEndsAreOutside, asked_by}

@@ -1,9 +1,10 @@
 -- The components of a plan are punctual.
-use Rattle.std.proofs.Common.{◌≤◌, ◌+◌, ℕ, List, slice_get}
+use Rattle.std.proofs.Common.{◌≤◌, ◌+◌, ℕ, List, Option, slice_get}
 use Rattle.eds_types.specs.PackedSizes.{packs}
 use Rattle.eds_types.specs.Rows.{Table}
 use Rattle.eds_plan.specs.Plans.{component_at}
 use Rattle.eds_plan.specs.declared.component.ComponentPlan.{ComponentPlan}
+use Rattle.eds_plan.specs.declared.run.End.{End}
 use Rattle.eds_machine.specs.Laws as machines
 use Rattle.eds_machine.specs.Reactions.{Reacting}
 use Rattle.eds_machine.proofs.Punctual.{fires_late, receives_late}

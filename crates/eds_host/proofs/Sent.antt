@@ -1,16 +1,17 @@
 -- What is sent, one after another.
-use Rattle.std.proofs.Common.{◌≡◌, ℕ, List, [], ◌∷◌, ◌++◌, Option, Some, refl, sym, ap, ◌∙◌, append_assoc, map}
+use Rattle.std.proofs.Common.{◌≡◌, ℕ, List, [], ◌∷◌, ◌++◌, Option, Some, None, refl, sym, ap, subst, ◌∙◌, append_assoc, map, drop}
 use Rattle.std.proofs.lemmas.List.{map-append}
 use Rattle.std.specs.List.{AllByRecursion}
 use Rattle.std.specs.Prelude.{slice_get}
 use Rattle.eds_plan.specs.declared.component.ComponentPlan.{ComponentPlan}
 use Rattle.eds_plan.specs.declared.run.End.{End}
 use Rattle.eds_plan.specs.declared.run.Out.{Out}
+use Rattle.eds_plan.specs.declared.run.Send.{Send}
 use Rattle.eds_plan.specs.Carried.{leaving as leaving_way}
-use Rattle.eds_plan.specs.Outs.{Signal, report, stopped}
-use Rattle.eds_plan.specs.Sends.{Sent, primitive, halted}
+use Rattle.eds_plan.specs.Outs.{Signal, Report, report, stopped}
+use Rattle.eds_plan.specs.Sends.{Sent, primitive, halted, sent}
 use Rattle.eds_types.specs.Rows.{Table}
-use Rattle.eds_host.specs.Plans.{Arrives, Leaves, AreTied, WiresFit}
+use Rattle.eds_host.specs.Plans.{Arrives, Leaves, Stands, AreTied, WiresFit, IsSent}
 use Rattle.eds_host.specs.Systems.{queued, leaving, delivered_at, leaves_at, sent_at}
 
 some : {A : Type 0} {a b : A} → Some a ≡ Some b → a ≡ b

@@ -1,5 +1,5 @@
 -- The states of components.
-use Rattle.std.proofs.Common.{◌≡◌, ◌<◌, ℕ, zero, suc, List, [], ◌∷◌, Some, refl, sym, ap, subst, ◌∙◌, arith, length, map, inl, inr}
+use Rattle.std.proofs.Common.{◌≡◌, ◌≢◌, ◌<◌, ◌≤◌, ◌+◌, ◌^◌, ℕ, zero, suc, List, [], ◌∷◌, ◌++◌, Option, Some, None, refl, sym, ap, subst, ◌∙◌, arith, length, map, inl, inr}
 use Rattle.std.specs.Prelude.{slice_set, slice_get, slice_index_or, unwrap_or, ◌⊎◌}
 use Rattle.eds_types.specs.Rows.{Table}
 use Rattle.eds_plan.specs.declared.component.ComponentPlan.{ComponentPlan}

@@ -1,6 +1,7 @@
 -- The list of moments for which components wait, and their states.
-use Rattle.std.proofs.Common.{◌≡◌, ◌<◌, ◌+◌, ℕ, zero, suc, List, [], ◌∷◌, ◌++◌, Option, refl, sym, ap, ◌∙◌, arith, length}
-use Rattle.std.specs.Prelude.{slice_set}
+use Rattle.std.proofs.Common.{◌≡◌, ◌<◌, ◌≤◌, ◌+◌, ℕ, zero, suc, List, [], ◌∷◌, ◌++◌, Option, Some, None, refl, sym, ap, subst, ◌∙◌, arith, length}
+use Rattle.std.specs.Prelude.{slice_set, slice_get, unwrap_or}
+use Rattle.eds_host.specs.declared.due.Due.{Due}
 use Rattle.eds_host.specs.Mirrors.{dues_of, first_in}
 use Rattle.eds_host.specs.Settings.{state_in}
 use Rattle.eds_host.specs.Systems.{System, StateNow, due_at, first_of, first_due}

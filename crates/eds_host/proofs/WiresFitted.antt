@@ -1,6 +1,6 @@
 -- Wires that tie their ends tie what fits.
-use Rattle.std.proofs.Common.{◌≡◌, List, [], ◌∷◌, ◌++◌, Bool, true, false, Option, Some, None, refl, sym, ap, subst, ◌∙◌}
-use Rattle.std.specs.Prelude.{not, if◌then◌else◌, is_some, Result, Ok, Err}
+use Rattle.std.proofs.Common.{◌≡◌, ℕ, List, [], ◌∷◌, ◌++◌, Bool, true, false, Option, Some, None, refl, sym, ap, subst, ◌∙◌}
+use Rattle.std.specs.Prelude.{not, ◌&&◌, ◌==◌, if◌then◌else◌, is_some, Result, Ok, Err}
 use Rattle.std.specs.List.{AllByRecursion}
 use Rattle.eds_plan.specs.Carried.{arriving, leaving}
 use Rattle.eds_plan.specs.Ends.{end_at}
@@ -9,11 +9,12 @@ use Rattle.eds_plan.specs.declared.component.ComponentPlan.{ComponentPlan}
 use Rattle.eds_plan.specs.declared.component.EndPlan.{EndPlan}
 use Rattle.eds_plan.specs.declared.run.End.{End}
 use Rattle.eds_host.specs.declared.wiring.Asked.{Asked}
+use Rattle.eds_host.specs.declared.wiring.HostFail.{HostFail}
 use Rattle.eds_host.specs.declared.wiring.Tie.{Tie}
 use Rattle.eds_host.specs.declared.wiring.WireWhy.{WireWhy}
 use Rattle.eds_host.specs.declared.wiring.WireWhy.TheVariants.{WireEnd, WireType, WireTwice}
 use Rattle.eds_host.specs.Plans.{AreTied, WiresFit}
-use Rattle.eds_host.specs.Wires.{other_end, same_end, tie_at, tie_next, tie_of, tie_unless, ties_behind}
+use Rattle.eds_host.specs.Wires.{other_end, same_end, tie_at, tie_next, tie_of, tie_unless, ties_behind, wrong_between}
 use Rattle.eds_host.proofs.Sent.{placed_last}
 use Rattle.eds_host.proofs.Tying.{same_is}
 

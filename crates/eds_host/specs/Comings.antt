@@ -4,7 +4,6 @@ use Rattle.eds_machine.specs.declared.event.Event.TheVariants.{Prim, Timer}
 use Rattle.eds_host.specs.Systems.{Coming, arrival, moment}
 use Rattle.eds_plan.specs.Outs.{signal}
 
--- the plain data of an event
 abbrev pub coming : Event → Coming
 coming (Prim p) = arrival (signal p)
 coming (Timer machine) = moment machine

@@ -172,12 +172,6 @@ RunsJoin = (t : Table) (plan : List ComponentPlan) (tied : End → Option End) (
     let sys = system t plan tied in let read = reading t plan in
     RunGoes sys read one w outs (Some v) → RunGoes sys read two v more end → RunGoes sys read (one ++ two) w (outs ++ more) end
 
--- one more line behind some of which none was a storm
-abbrev pub RunsGoOn : Type 0
-RunsGoOn = (t : Table) (plan : List ComponentPlan) (tied : End → Option End) (ls : List Told) (l : Told) (w v : World) (outs : List (List Report)) (c : Course) →
-    let sys = system t plan tied in let read = reading t plan in
-    RunGoes sys read ls w outs (Some v) → LineGoes sys read l v c → RunGoes sys read (ls ++ l ∷ []) w (outs ++ c.outs ∷ []) c.end
-
 -- lines have one outcome, where the plan fits and no two containers overlap under its commands' arguments
 abbrev pub RunsHaveOneOutcome : Type 0
 RunsHaveOneOutcome = (t : Table) (plan : List ComponentPlan) (tied : End → Option End) (ls : List Told) (w : World) (outs more : List (List Report)) (end stop : Option World) →

@@ -1,5 +1,5 @@
 -- The map of ends that are tied.
-use Rattle.std.specs.Prelude.{◌≡◌, List, Option, Result, Err}
+use Rattle.std.specs.Prelude.{◌≡◌, List, Option, Result, Ok, Err}
 use Rattle.std.specs.BTreeMap.{BTreeMap, get}
 use Rattle.std.specs.Ordering.{nat_cmp, ordering_then}
 use Rattle.std.specs.declared.cmp.Ordering.{Ordering}

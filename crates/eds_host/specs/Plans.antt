@@ -1,5 +1,6 @@
 -- The system of components that a plan describes, and what is asked of what comes to them.
-use Rattle.std.specs.Prelude.{◌≡◌, ℕ, List, length, Bool, Option, Some, slice_get}
+use Rattle.std.specs.Prelude.{◌≡◌, ◌≤◌, ◌<◌, ◌+◌, ◌^◌, ℕ, List, length, Bool, true, false, Option, Some, None, slice_get}
+use Rattle.std.specs.List.{AllByRecursion}
 use Rattle.eds_types.specs.Rows.{Table}
 use Rattle.eds_plan.specs.Carried.{OpFits, arriving, carried, leaving}
 use Rattle.eds_plan.specs.Ends.{end_at}

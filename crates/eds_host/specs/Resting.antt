@@ -12,6 +12,7 @@ use Rattle.eds_host.specs.declared.host.Phase.{Phase}
 use Rattle.eds_host.specs.declared.host.Phase.TheVariants.{Fresh, Rests, Storm, Spent}
 use Rattle.eds_host.specs.declared.wiring.Tie.{Tie}
 use Rattle.eds_host.specs.Hosts.{ArgumentsAreClear, BringsOne, reading}
+use Rattle.eds_host.specs.Machines.{unstarted}
 use Rattle.eds_host.specs.Mirrors.{dues_of}
 use Rattle.eds_host.specs.Plans.{AreStates, Arrives, NoneBefore, WiresFit, system}
 use Rattle.eds_host.specs.Runs.{Course, LineGoes}

@@ -1,7 +1,8 @@
 -- What the host's functions are handed, and what holds of it.
-use Rattle.std.specs.Prelude.{◌≤◌, ◌+◌, ℕ, List, length, Option, Some, None, slice_get, unwrap_or}
+use Rattle.std.specs.Prelude.{◌≡◌, ◌≤◌, ◌+◌, ℕ, List, [], length, Option, Some, None, slice_get, unwrap_or, map}
 use Rattle.eds_plan.specs.Outs.{Signal}
 use Rattle.eds_plan.specs.declared.component.ComponentPlan.{ComponentPlan}
+use Rattle.eds_types.specs.Rows.{Table}
 use Rattle.eds_host.specs.declared.setting.Setting.{Setting}
 use Rattle.eds_plan.specs.Fitting.{PlanFits}
 use Rattle.eds_act.specs.Does.{Conforms}
@@ -24,7 +25,6 @@ pub record IsSetting (s : Setting) : Type 0 where
   pub plan : PlanFits s.table.now (Conforms s.table.now) s.plan.now
   pub wires : WiresFit s.plan.now (other_end s.links.now)
 
--- a world of a time, states and what is to be delivered
 abbrev pub world : ℕ → List StateNow → List Signal → World
 world now states queue = record { now = now; states = states; queue = queue }
 

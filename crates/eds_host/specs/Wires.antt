@@ -1,5 +1,5 @@
 -- Wires between ends: what is wrong with them, and what they tie.
-use Rattle.std.specs.Prelude.{ℕ, List, [], ◌∷◌, ◌++◌, Bool, not, ◌&&◌, ◌==◌, if◌then◌else◌, Option, Some, None, is_some, Result, Ok, Err}
+use Rattle.std.specs.Prelude.{ℕ, List, [], ◌∷◌, ◌++◌, Bool, true, false, not, ◌&&◌, ◌==◌, if◌then◌else◌, Option, Some, None, is_some, Result, Ok, Err}
 use Rattle.eds_plan.specs.Ends.{end_at}
 use Rattle.eds_plan.specs.Interfaces.{same_interface}
 use Rattle.eds_plan.specs.declared.component.ComponentPlan.{ComponentPlan}

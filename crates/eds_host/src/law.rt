@@ -1,6 +1,6 @@
 //! Laws of runs.
 
-ghost use Rattle.eds_host.specs.Hosts.{ComponentsArePunctual, FramesHaveOneOutcome, PlansReadOne, RunsGoOn, RunsHaveOneOutcome, RunsJoin, TimersFireOnce, UnnamedEndsAreOutside};
+ghost use Rattle.eds_host.specs.Hosts.{ComponentsArePunctual, FramesHaveOneOutcome, PlansReadOne, RunsHaveOneOutcome, RunsJoin, TimersFireOnce, UnnamedEndsAreOutside};
 ghost use Rattle.eds_host.specs.Laws.{CoursesAreChains, CoursesGoOnOrStorm, EachIsDelivered, NoneIsLate, TicksAdd, TimeGoesOn, TimersAreOnTime};
 
 use eds_overlap::law::one_outcome;
@@ -52,7 +52,6 @@ pub fn unnamed_ends_are_outside()
 /// to is one thing.
 pub fn runs_join()
     ensures join { RunsJoin }
-    ensures more { RunsGoOn }
     ensures one { RunsHaveOneOutcome }
 {
     one_outcome();

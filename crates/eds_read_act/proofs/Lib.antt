@@ -4,7 +4,3 @@ pub mod Sound
 pub mod Stepping
 pub mod Over
 pub mod Planning
-pub mod Giving
-pub mod Carried
-pub mod Arriving
-pub mod Transacting

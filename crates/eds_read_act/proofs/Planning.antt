@@ -3,7 +3,7 @@ use Rattle.std.proofs.Common.{◌≡◌, ℕ, List, [], ◌∷◌, ◌++◌, map
 use Rattle.std.specs.Prelude.{slice_get}
 use Rattle.std.proofs.lemmas.List.{map-append}
 use Rattle.eds_plan.specs.declared.activity.Activity.{Activity}
-use Rattle.eds_read_act.specs.declared.component.Head.{Head}
+use Rattle.eds_read_act.specs.declared.scope.Head.{Head}
 use Rattle.eds_read_act.specs.Activities.{Planned, planned, activity_at, activity_if, numbered_activity}
 use Rattle.eds_read_act.specs.Scopes.{Scope}
 

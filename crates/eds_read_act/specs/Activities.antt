@@ -7,7 +7,7 @@ use Rattle.eds_graph.specs.Ways.{all_courses, is_circular}
 use Rattle.eds_tree.specs.Breaks.{refusal_at}
 use Rattle.eds_plan.specs.declared.activity.Activity.{Activity}
 use Rattle.eds_plan.specs.Statements.{Stmt, stmts}
-use Rattle.eds_read_act.specs.declared.component.Head.{Head}
+use Rattle.eds_read_act.specs.declared.scope.Head.{Head}
 use Rattle.eds_read_act.specs.BadReference.{bad_references}
 use Rattle.eds_read_act.specs.Bodies.{body_of}
 use Rattle.eds_read_act.specs.CallCycle.{call_graph}

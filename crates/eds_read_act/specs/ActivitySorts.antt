@@ -1,4 +1,4 @@
--- What the elements of activities and machines are, told by their names (CCSDS 876.0-B, activities and state machines).
+-- What the elements of an activity are, told by their names (CCSDS 876.0-B, activities).
 use Rattle.std.specs.Prelude.{ℕ, List, codes, Bool, true, false, if◌then◌else◌}
 use Rattle.eds_base.specs.Reading.{same}
 use Rattle.eds_tree.specs.declared.tree.Node.{Node}
@@ -25,9 +25,6 @@ sort_of name =
     if same name (codes "EndAt") then sort.Bound else
     if same name (codes "Step") then sort.Step else
     if same name (codes "Call") then sort.Call else
-    if same name (codes "OnEntry") then sort.Action else
-    if same name (codes "OnExit") then sort.Action else
-    if same name (codes "Do") then sort.Action else
     if same name (codes "SendCommandPrimitive") then sort.SendCommand else
     if same name (codes "SendParameterPrimitive") then sort.SendParameter else sort.Other
 

@@ -1,5 +1,5 @@
 -- What an element of an activity, a guard or an action names is there, and may be written where it is written.
-use Rattle.std.specs.Prelude.{ℕ, ◌==◌, ◌&&◌, not, List, [], ◌∷◌, codes, Bool, true, false, is_some, is_none, if◌then◌else◌, Option, Some, None, slice_get}
+use Rattle.std.specs.Prelude.{ℕ, ◌==◌, ◌&&◌, not, List, [], ◌∷◌, codes, Bool, true, false, is_none, if◌then◌else◌, Option, Some, None, slice_get}
 use Rattle.std.specs.List.{flat_map, list_any}
 use Rattle.eds_base.specs.Reading.{same}
 use Rattle.eds_base.specs.declared.refusal.Refusal.{Refusal}
@@ -8,7 +8,6 @@ use Rattle.eds_base.specs.declared.rule.Rule.{Rule}
 use Rattle.eds_base.specs.declared.rule.Rule.TheVariants.{BadReference}
 use Rattle.eds_tree.specs.declared.tree.Node.{Node}
 use Rattle.eds_tree.specs.declared.link.Link.{Link}
-use Rattle.eds_tree.specs.Trees.{is_named}
 use Rattle.eds_read_act.specs.declared.variable.VariableHead.{VariableHead}
 use Rattle.eds_read_act.specs.declared.activity_sort.ActivitySort.{ActivitySort}
 use Rattle.eds_read_act.specs.declared.activity_sort.ActivitySort.TheVariants as sort
@@ -67,10 +66,6 @@ is_stray t link None = false
 is_stray t link (Some fields) =
     if list_any (is_field (text_at t link.node (codes "name"))) fields then not (is_the (given_for t link.parent (text_at t link.node (codes "name"))) link.node) else true
 
--- OnEntry, OnExit and the Do of a transition call an activity; the Do of an iteration holds statements
-abbrev pub calls : List Node → Link → Bool
-calls t link = not (is_named t (codes "Iteration") link.parent)
-
 -- ---- parameters
 
 -- a parameter that isn't there, or is to be set at a required end though it is read-only
@@ -83,12 +78,11 @@ is_unsendable operation (Some p) = p.required && (p.read_only && same operation 
 -- an element of this sort breaks BadReference, which one of a sort that names nothing never does
 abbrev pub is_bad_as : ActivitySort → Scope → Link → Bool
 is_bad_as sort.VariableRef s link = is_none (found_as sort.VariableRef s link.node)
-is_bad_as sort.ArgumentRef s link = is_some s.arguments && is_none (found_as sort.ArgumentRef s link.node)
+is_bad_as sort.ArgumentRef s link = is_none (found_as sort.ArgumentRef s link.node)
 is_bad_as sort.Assignment s link = is_unwritable s.variables (output_of s link.node)
 is_bad_as sort.Calculation s link = is_unwritable s.variables (output_of s link.node)
 is_bad_as sort.Iteration s link = is_unwritable s.variables (iterator_of s link.node)
 is_bad_as sort.Call s link = lacks_some s.tree link.node (taken_at s link.node)
-is_bad_as sort.Action s link = calls s.tree link && lacks_some s.tree link.node (taken_at s link.node)
 is_bad_as sort.SendCommand s link = lacks_some s.tree link.node (taken_at s link.node)
 is_bad_as sort.ArgumentValue s link = is_stray s.tree link (taken_at s link.parent)
 is_bad_as sort.SendParameter s link = is_unsendable (text_at s.tree link.node (codes "operation")) (parameter_of s link.node)

@@ -5,7 +5,6 @@ use Rattle.eds_base.specs.Reading.{◌>>=◌, same}
 use Rattle.eds_base.specs.declared.ids.TypeId.{TypeId}
 use Rattle.eds_tree.specs.declared.tree.Node.{Node}
 use Rattle.eds_tree.specs.Trees.{children_at, attribute_at}
-use Rattle.eds_names.specs.Positions.{place_among}
 use Rattle.eds_plan.specs.declared.activity.Action.{Action}
 use Rattle.eds_plan.specs.declared.activity.MathItem.{MathItem}
 use Rattle.eds_plan.specs.declared.activity.MathItem.TheVariants as math
@@ -28,6 +27,7 @@ use Rattle.eds_read_act.specs.ActivitySorts.{sort_at}
 use Rattle.eds_read_act.specs.BadReference.{output_of, iterator_of}
 use Rattle.eds_read_act.specs.Inside.{text_at, operand_of, operands_of, child_named, first_where, given_for}
 use Rattle.eds_read_act.specs.Naming.{short}
+use Rattle.eds_read_act.specs.Numbered.{numbered}
 use Rattle.eds_read_act.specs.Operands.{operand_at, operand_if, type_of}
 use Rattle.eds_read_act.specs.Scopes.{Scope, Field}
 use Rattle.eds_read_act.specs.Sending.{activity_of, command_of, parameter_of}
@@ -55,13 +55,17 @@ module _ (s : Scope) where
 
 -- ---- transactions
 
+-- a name as it is
+abbrev pub as_name : List ℕ → List ℕ → Option (List ℕ)
+as_name name own = if same own name then Some own else None
+
 -- a number of a transaction as it stands in a plan; no component has more of them than there are such numbers
 abbrev pub long : ℕ → ℕ
 long n = if nat_le n 4294967295 then n else 4294967295
 
 -- the number of a transaction of a name
 abbrev pub number_named : List (List ℕ) → List ℕ → Option ℕ
-number_named names name = option_map long (place_among names name)
+number_named names name = option_map (λ p. long p.0) (numbered (as_name name) 0 names)
 
 -- ---- targets
 

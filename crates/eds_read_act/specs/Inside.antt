@@ -30,10 +30,6 @@ operand_of t n = first_where (is_operand_at t) (children_at t n)
 abbrev pub operands_of : List Node → ℕ → List ℕ
 operands_of t n = filter (is_operand_at t) (children_at t n)
 
--- the children that give arguments their values
-abbrev pub givers : List Node → ℕ → List ℕ
-givers t n = filter (is_named t (codes "ArgumentValue")) (children_at t n)
-
 -- an element gives an argument its value
 abbrev pub gives : List Node → List ℕ → ℕ → Bool
 gives t name n = is_named t (codes "ArgumentValue") n && same (text_at t n (codes "name")) name

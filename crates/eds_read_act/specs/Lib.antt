@@ -1,10 +1,8 @@
 pub mod ActivitySorts
 pub mod Scopes
 pub mod Numbered
-pub mod Carrying
 pub mod Naming
 pub mod Inside
-pub mod Given
 pub mod Sending
 pub mod Operands
 pub mod BadReference
@@ -12,9 +10,3 @@ pub mod TypeMismatch
 pub mod Bodies
 pub mod CallCycle
 pub mod Activities
-pub mod Machines
-pub mod States
-pub mod Events
-pub mod MachineBreaks
-pub mod MachinePlans
-pub mod Transactions

@@ -8,7 +8,7 @@ use Rattle.eds_types.specs.Rows.{Table, sequence, address}
 use Rattle.eds_types.specs.Fields.{part_at}
 use Rattle.eds_read_act.specs.declared.variable.VariableHead.{VariableHead}
 use Rattle.eds_read_act.specs.declared.naming.Found.{Found}
-use Rattle.eds_read_act.specs.Numbered.{item_named}
+use Rattle.eds_read_act.specs.Numbered.{numbered}
 use Rattle.eds_read_act.specs.Scopes.{Field}
 
 -- ---- names in a text
@@ -84,13 +84,17 @@ abbrev pub follow : Table → Found → List (List ℕ) → Option Found
 follow t found [] = Some found
 follow t found (name ∷ names) = entry_named t found.id name >>= λ e. follow t (record { at = found.at; path = found.path ++ e.0 ∷ []; id = e.1 }) names
 
+-- the type of a field of a name
+abbrev pub as_field : List ℕ → Field → Option TypeId
+as_field name f = if same f.0 name then Some f.1 else None
+
 -- a whole variable or argument
-abbrev pub whole : ℕ × Field → Found
-whole p = record { at = short p.0; path = []; id = (p.1).1 }
+abbrev pub whole : ℕ × TypeId → Found
+whole p = record { at = short p.0; path = []; id = p.1 }
 
 -- the field of a name
 abbrev pub field_named : List Field → List ℕ → Option Found
-field_named fields name = option_map whole (item_named (λ f. f.0) fields name)
+field_named fields name = option_map whole (numbered (as_field name) 0 fields)
 
 -- from what was found on, where something was
 abbrev pub follow_if : Table → Option Found → List (List ℕ) → Option Found

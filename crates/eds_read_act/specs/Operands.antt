@@ -1,13 +1,14 @@
 -- What operands stand for, and what they fit.
-use Rattle.std.specs.Prelude.{ℕ, ◌==◌, ◌||◌, List, codes, Bool, true, false, is_some, is_none, Option, Some, None, option_map, slice_get, pos}
+use Rattle.std.specs.Prelude.{ℕ, ◌==◌, ◌||◌, List, codes, Bool, true, false, is_some, Option, Some, None, option_map, slice_get, pos}
 use Rattle.eds_base.specs.Reading.{◌>>=◌}
 use Rattle.eds_base.specs.Numbers.{whole_number}
 use Rattle.eds_base.specs.declared.ids.TypeId.{TypeId}
 use Rattle.eds_types.specs.declared.row.Kind.{Kind}
 use Rattle.eds_types.specs.declared.row.Kind.TheVariants as kind
 use Rattle.eds_types.specs.declared.row.TypeRow.{TypeRow}
+use Rattle.eds_types.specs.declared.value.Value.{Value}
 use Rattle.eds_types.specs.declared.value.Value.TheVariants as value
-use Rattle.eds_types.specs.Plain.{Plain, num, stored}
+use Rattle.eds_types.specs.Plain.{Plain, num, label, truth, text, bits, items, fields}
 use Rattle.eds_types.specs.Rows.{Table, chain, list_has}
 use Rattle.eds_types.specs.TextValues.{text_value_of}
 use Rattle.eds_plan.specs.declared.activity.Operand.{Operand}
@@ -60,6 +61,16 @@ fit_together t a b = both_alike t a (kind_of t a) b (kind_of t b)
 
 -- ---- values
 
+-- a value that is no list of others, 0 in its place
+abbrev pub stored : Plain → Value
+stored (num n) = value.Num n
+stored (label l) = value.Label l
+stored (truth b) = value.Bool b
+stored (text s) = value.Text s
+stored (bits n o) = value.Bits n o
+stored (items vs) = value.Num (pos 0)
+stored (fields k vs) = value.Num (pos 0)
+
 -- the value of what is wanted that a text stands for: where a number is wanted, each whole number is one
 abbrev pub literal : Table → Wanted → List ℕ → Option Plain
 literal t (wanted.Type id) s = kind_of t id >>= λ k. text_value_of k s
@@ -70,20 +81,12 @@ literal t wanted.Number s = option_map num (whole_number s)
 -- what a reference finds that is an operand; a value is no reference
 abbrev pub found_as : ActivitySort → Scope → ℕ → Option Found
 found_as sort.VariableRef s n = found_in s.table (fields_of s.variables) (text_at s.tree n (codes "variableRef"))
-found_as sort.ArgumentRef s n = s.arguments >>= λ fields. found_in s.table fields (text_at s.tree n (codes "argumentRef"))
+found_as sort.ArgumentRef s n = found_in s.table s.arguments (text_at s.tree n (codes "argumentRef"))
 found_as k s n = None
 
 -- what an element finds that is a reference to a variable or an argument
 abbrev pub found_at : Scope → ℕ → Option Found
 found_at s n = found_as (sort_at s.tree n) s n
-
--- an ArgumentRef where it isn't known which arguments there are
-abbrev pub is_unknown_as : ActivitySort → Scope → Bool
-is_unknown_as sort.ArgumentRef s = is_none s.arguments
-is_unknown_as k s = false
-
-abbrev pub is_unknown : Scope → ℕ → Bool
-is_unknown s n = is_unknown_as (sort_at s.tree n) s
 
 -- its type
 abbrev pub type_of : Scope → ℕ → Option TypeId

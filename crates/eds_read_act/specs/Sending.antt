@@ -10,16 +10,20 @@ use Rattle.eds_plan.specs.declared.run.Way.{Way}
 use Rattle.eds_plan.specs.Carried.{carried_fields, leaving}
 use Rattle.eds_read_act.specs.declared.activity_sort.ActivitySort.{ActivitySort}
 use Rattle.eds_read_act.specs.declared.activity_sort.ActivitySort.TheVariants as sort
-use Rattle.eds_read_act.specs.declared.component.Head.{Head}
+use Rattle.eds_read_act.specs.declared.scope.Head.{Head}
 use Rattle.eds_read_act.specs.declared.sending.Taker.{Taker}
 use Rattle.eds_read_act.specs.declared.sending.Held.{Held}
 use Rattle.eds_read_act.specs.ActivitySorts.{sort_at}
 use Rattle.eds_read_act.specs.Inside.{text_at}
 use Rattle.eds_read_act.specs.Naming.{short}
-use Rattle.eds_read_act.specs.Numbered.{numbered, item_named}
+use Rattle.eds_read_act.specs.Numbered.{numbered}
 use Rattle.eds_read_act.specs.Scopes.{Scope, Field}
 
 -- ---- by name
+
+-- an end of a name
+abbrev pub as_end : List ℕ → EndPlan → Option EndPlan
+as_end name e = if same e.name name then Some e else None
 
 -- the arguments of a command of a name
 abbrev pub as_command : List ℕ → Member → Option (List Argument)
@@ -31,11 +35,15 @@ abbrev pub as_parameter : List ℕ → Member → Option (TypeId × Bool)
 as_parameter name (member.Parameter own id read_only) = if same own name then Some (id, read_only) else None
 as_parameter name (member.Command own args) = None
 
+-- the arguments of an activity of a name
+abbrev pub as_head : List ℕ → Head → Option (List Field)
+as_head name h = if same h.name name then Some h.arguments else None
+
 -- ---- what an element names
 
 -- the end that an element names
 abbrev pub end_of : Scope → ℕ → Option (ℕ × EndPlan)
-end_of s n = item_named (λ e. e.name) s.ends (text_at s.tree n (codes "interface"))
+end_of s n = numbered (as_end (text_at s.tree n (codes "interface"))) 0 s.ends
 
 -- the command of an end that carries arguments in a way
 abbrev pub command_at_end : (Bool → Way) → List ℕ → ℕ × EndPlan → Option Taker
@@ -53,14 +61,13 @@ parameter_at_end name (k, e) = option_map (λ p. record { end = short k; member 
 abbrev pub parameter_of : Scope → ℕ → Option Held
 parameter_of s n = end_of s n >>= parameter_at_end (text_at s.tree n (codes "parameter"))
 
--- the activity that an element names, with its arguments
+-- the activity that an element names
 abbrev pub activity_of : Scope → ℕ → Option (ℕ × List Field)
-activity_of s n = option_map (λ h. (h.0, (h.1).arguments)) (item_named (λ (h : Head). h.name) s.activities (text_at s.tree n (codes "activity")))
+activity_of s n = numbered (as_head (text_at s.tree n (codes "activity"))) 0 s.activities
 
 -- what an element takes that gives arguments their values: the arguments of an activity, or what a command carries
 abbrev pub taken_by : ActivitySort → Scope → ℕ → Option (List Field)
 taken_by sort.Call s n = option_map (λ a. a.1) (activity_of s n)
-taken_by sort.Action s n = option_map (λ a. a.1) (activity_of s n)
 taken_by sort.SendCommand s n = option_map (λ (c : Taker). c.fields) (command_of leaving s n)
 taken_by k s n = None
 

@@ -20,9 +20,8 @@ use Rattle.eds_read_act.specs.declared.operand.Wanted.TheVariants as wanted
 use Rattle.eds_read_act.specs.declared.sending.Held.{Held}
 use Rattle.eds_read_act.specs.ActivitySorts.{sort_at, is_operand}
 use Rattle.eds_read_act.specs.Inside.{text_at, operand_of, operands_of, is_operand_at}
-use Rattle.eds_read_act.specs.Operands.{kind_of, is_number, is_unknown, type_of, operand_fits}
+use Rattle.eds_read_act.specs.Operands.{kind_of, is_number, type_of, operand_fits}
 use Rattle.eds_read_act.specs.BadReference.{broken_if, is_bad, output_of, iterator_of}
-use Rattle.eds_read_act.specs.Carrying.{field_type}
 use Rattle.eds_read_act.specs.Scopes.{Scope, Field}
 use Rattle.eds_read_act.specs.Sending.{parameter_of, taken_at}
 
@@ -37,6 +36,11 @@ fits_if s w (Some n) = operand_fits s w n
 abbrev pub misfits_found : Scope → ℕ → Option Found → Bool
 misfits_found s n None = false
 misfits_found s n (Some f) = not (fits_if s (wanted.Type f.id) (operand_of s.tree n))
+
+-- the type of a field of a name
+abbrev pub field_type : List Field → List ℕ → Option TypeId
+field_type [] name = None
+field_type (f ∷ fs) name = if same f.0 name then Some f.1 else field_type fs name
 
 -- the operand of an element doesn't fit a type that may be there
 abbrev pub misfits_type : Scope → ℕ → Option TypeId → Bool
@@ -146,15 +150,11 @@ mismatches_as sort.Bound s link = not (fits_if s wanted.Number (operand_of s.tre
 mismatches_as sort.Step s link = not (is_step (number_in s.tree (operand_of s.tree link.node)))
 mismatches_as k s link = false
 
--- a child is an operand that breaks BadReference, or an ArgumentRef where it isn't known which arguments there are
-abbrev pub is_unsound_operand : Scope → (parent child : ℕ) → Bool
-is_unsound_operand s n child = is_operand_at s.tree child && (is_unknown s child || is_bad s (record { parent = n; node = child }))
-
--- one of some children is such an operand
+-- an operand that is a child breaks BadReference
 abbrev pub has_bad_operand : Scope → ℕ → List ℕ → Bool
-has_bad_operand s n children = list_any (is_unsound_operand s n) children
+has_bad_operand s n children = list_any (λ child. is_operand_at s.tree child && is_bad s (record { parent = n; node = child })) children
 
--- what stands in an element doesn't fit; not judged where it has such an operand
+-- what stands in an element doesn't fit; not judged where an operand that is its child breaks BadReference
 abbrev pub is_mismatch : Scope → Link → Bool
 is_mismatch s link = not (has_bad_operand s link.node (children_at s.tree link.node)) && mismatches_as (sort_at s.tree link.node) s link
 

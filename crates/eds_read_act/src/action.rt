@@ -1,12 +1,10 @@
 //! The actions that elements stand for: activities with what is given for their arguments.
 
 ghost use Rattle.std.specs.Prelude.{◌≡◌, IfOk};
-ghost use Rattle.eds_read_act.specs.Given.{TellsGiven};
 ghost use Rattle.eds_read_act.specs.Scopes.{scope_of};
 ghost use Rattle.eds_read_act.specs.Bodies.{given_operand as given_in, given_operands as given_for_all, action_at as action_of};
 
-use crate::given::Given;
-use crate::inside::operand_of;
+use crate::inside::{given_for, operand_of};
 use crate::naming::short;
 use crate::operand::{Wanted, operand_if};
 use crate::scope::Scope;
@@ -19,15 +17,14 @@ use std::alloc::Global;
 fn given_operand(
     alloc: Global,
     scope: &Scope,
-    given: &Given,
+    node: u32,
     field: &(Text, TypeId),
 ) -> Result<Operand, Memory>
-    requires { TellsGiven scope.now.tree.now given.now }
-    ensures { IfOk result (λ a. a ≡ given_in (scope_of scope.now) given.now.holder field.now) }
+    ensures { IfOk result (λ a. a ≡ given_in (scope_of scope.now) node field.now) }
 {
-    let operand = match given.first(scope.tree, field.0.as_str()) {
+    let operand = match given_for(scope.tree, node, field.0.as_str()) {
         None => None,
-        Some(giver) => operand_of(scope.tree, giver),
+        Some(given) => operand_of(scope.tree, given),
     };
     operand_if(alloc, scope, Wanted::Type(field.1), operand)
 }
@@ -41,11 +38,10 @@ pub(crate) fn given_operands(
 ) -> Result<Items<Operand>, Memory>
     ensures { IfOk result (λ os. os ≡ given_for_all (scope_of scope.now) node fields.now) }
 {
-    let given = Given::of(alloc, scope.tree, node)?;
     let mut operands = Items::new(alloc);
     let mut rest = fields;
     while let [field, after @ ..] = rest {
-        let operand = given_operand(alloc, scope, &given, field)?;
+        let operand = given_operand(alloc, scope, node, field)?;
         operands.push(operand)?;
         rest = after;
     }
@@ -62,7 +58,7 @@ pub(crate) fn action_at(alloc: Global, scope: &Scope, node: u32) -> Result<Actio
             operands: Items::new(alloc),
         }),
         Some((activity, fields)) => {
-            let operands = given_operands(alloc, scope, node, fields.as_slice())?;
+            let operands = given_operands(alloc, scope, node, fields)?;
             Ok(Action {
                 activity: short(activity),
                 operands,

@@ -8,9 +8,7 @@ ghost use Rattle.eds_read_act.specs.Activities.{bad_references_in, mismatches_in
 
 use crate::bad_reference::least_bad_reference;
 use crate::call_cycle::call_graph;
-use crate::component::Head;
-use crate::given::Given;
-use crate::scope::Scope;
+use crate::scope::{Head, Scope};
 use crate::sending::copied;
 use crate::statement::body_of;
 use crate::type_mismatch::{least_mismatch, push_sound};
@@ -21,11 +19,18 @@ use eds_plan::Activity;
 use eds_tree::Link;
 use std::alloc::Global;
 
-// The scope in which the body of an activity stands.
 fn with_head<'a>(scope: &Scope<'a>, head: &'a Head) -> Scope<'a>
     ensures { scope_of result ≡ with_arguments (scope_of scope.now) head.now.arguments }
 {
-    scope.with(Some(&head.arguments))
+    Scope {
+        tree: scope.tree,
+        table: scope.table,
+        ends: scope.ends,
+        variables: scope.variables,
+        activities: scope.activities,
+        transactions: scope.transactions,
+        arguments: head.arguments.as_slice(),
+    }
 }
 
 /// The least break of BadReference in an element or below it.
@@ -38,8 +43,7 @@ pub(crate) fn least_reference_in(
     ensures { IfOk result (λ r. r ≡ least (bad_references_in file (scope_of scope.now) node)) }
 {
     let links = links_below(alloc, scope.tree, node)?;
-    let given = Given::of(alloc, scope.tree, node)?;
-    least_bad_reference(alloc, file, scope, given, links.as_slice())
+    least_bad_reference(alloc, file, scope, links.as_slice())
 }
 
 /// The least break of TypeMismatch in an element or below it.
@@ -52,9 +56,8 @@ pub(crate) fn least_mismatch_in(
     ensures { IfOk result (λ r. r ≡ least (mismatches_in file (scope_of scope.now) node)) }
 {
     let mut links = Vec::new(alloc);
-    let given = Given::of(alloc, scope.tree, node)?;
     let link = Link { parent: node, node };
-    push_sound(&mut links, alloc, scope, &given, scope.tree.len(), link)?;
+    push_sound(&mut links, alloc, scope, scope.tree.len(), link)?;
     least_mismatch(alloc, file, scope, links.as_slice())
 }
 
@@ -118,7 +121,7 @@ fn least_numbered(
 ) -> Result<Option<Refusal>, Memory>
     ensures { IfOk result (λ r. r ≡ least (breaks_at file (scope_of scope.now) courses.now number node)) }
 {
-    match scope.component.activities.get(number) {
+    match scope.activities.get(number) {
         None => Ok(None),
         Some(head) => least_at(alloc, file, scope, courses, number, node, head),
     }
@@ -172,9 +175,9 @@ fn activity_at(alloc: Global, scope: &Scope, node: u32, head: &Head) -> Result<A
 }
 
 fn head_at<'a>(scope: &Scope<'a>, number: usize) -> Option<&'a Head>
-    ensures { option_copied result ≡ slice_get scope.now.component.now.activities.now number }
+    ensures { option_copied result ≡ slice_get scope.now.activities.now number }
 {
-    scope.component.activities.get(number)
+    scope.activities.get(number)
 }
 
 // Puts the activity of a number last, where it has a head.

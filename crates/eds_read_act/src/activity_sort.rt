@@ -1,11 +1,11 @@
-//! What the elements of activities and machines are, told by their names.
+//! What the elements of an activity are, told by their names.
 
 ghost use Rattle.std.specs.Prelude.{◌≡◌};
 ghost use Rattle.eds_read_act.specs.ActivitySorts.{sort_of, sort_at, is_operand};
 
 use eds_tree::Tree;
 
-/// What an element of an activity, a guard or an action is (CCSDS 876.0-B, activities and state machines).
+/// What an element of an activity, a guard or an action is (CCSDS 876.0-B, activities).
 #[derive(Clone, Copy, Debug, PartialEq, Eq)]
 pub(crate) enum ActivitySort {
     Value,
@@ -27,8 +27,6 @@ pub(crate) enum ActivitySort {
     Bound,
     Step,
     Call,
-    /// What a machine does: where a state is entered or left, or in a transition. Also the statements of an iteration.
-    Action,
     SendCommand,
     SendParameter,
     Other,
@@ -69,8 +67,6 @@ pub(crate) fn sort_of(name: &str) -> ActivitySort
         ActivitySort::Step
     } else if name == "Call" {
         ActivitySort::Call
-    } else if name == "OnEntry" || name == "OnExit" || name == "Do" {
-        ActivitySort::Action
     } else if name == "SendCommandPrimitive" {
         ActivitySort::SendCommand
     } else if name == "SendParameterPrimitive" {

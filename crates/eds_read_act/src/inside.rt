@@ -32,7 +32,8 @@ pub(crate) fn child_named(tree: &Tree, node: u32, name: &str) -> Option<u32>
     None
 }
 
-fn is_operand(tree: &Tree, node: u32) -> bool
+/// Whether an element is an operand.
+pub(crate) fn is_operand(tree: &Tree, node: u32) -> bool
     ensures { result ≡ is_operand_at tree.now node }
 {
     sort_at(tree, node).is_operand()

@@ -1,13 +1,14 @@
 //! What a reference to a variable or an argument finds.
 
-ghost use Rattle.std.specs.Prelude.{◌≡◌, ◌≤◌, [], ◌∷◌, Some, IfOk, length, option_map};
+ghost use Rattle.std.specs.Prelude.{◌≡◌, ◌≤◌, ◌∷◌, Some, IfOk, length, option_map};
 ghost use Rattle.std.specs.Option.{option_copied};
+ghost use Rattle.eds_read_act.specs.declared.variable.VariableHead.{VariableHead as variable_head};
+ghost use Rattle.eds_read_act.specs.Numbered.{numbered};
 ghost use Rattle.eds_types.specs.Fields.{part_at};
-ghost use Rattle.eds_read_act.specs.Naming.{names_in, names_after, octets_left, has_name as has_name_of, entry_type as entry_type_of, entry_at as entry_at_place, entry_among as entry_in, entry_named as entry_of, short as short_of, follow as follow_names, follow_if, field_named as field_of, found_in as found_by_text, fields_of};
+ghost use Rattle.eds_read_act.specs.Naming.{names_in, names_after, octets_left, has_name as has_name_of, entry_type as entry_type_of, entry_at as entry_at_place, entry_among as entry_in, entry_named as entry_of, short as short_of, follow as follow_names, follow_if, whole as whole_of, as_field as field_as, field_named as field_of, found_in as found_by_text, fields_of};
 
-use crate::component::Component;
-use crate::fields::Fields;
-use eds_base::{Items, Memory, TypeId};
+use crate::variable::VariableHead;
+use eds_base::{Items, Memory, Text, TypeId};
 use eds_types::{EntryPath, Part, TypeTable};
 use std::alloc::Global;
 
@@ -136,34 +137,75 @@ fn follow(
     Ok(Some(found))
 }
 
-// A whole variable or argument, by its position and type.
-fn whole(alloc: Global, at: usize, id: TypeId) -> Found
-    ensures { result ≡ record { at = short_of at; path = []; id = id } }
+fn whole(alloc: Global, field: (usize, TypeId)) -> Found
+    ensures { result ≡ whole_of field }
 {
     Found {
-        at: short(at),
+        at: short(field.0),
         path: Items::new(alloc),
-        id,
+        id: field.1,
     }
 }
 
-/// The variable of a name.
-pub(crate) fn variable_named(alloc: Global, component: &Component, name: &str) -> Option<Found>
-    ensures { result ≡ field_of (fields_of component.now.variables.now) name.now }
+fn as_field(name: &str, field: &(Text, TypeId)) -> Option<TypeId>
+    ensures { result ≡ field_as name.now field.now }
 {
-    match component.variable(name) {
+    if field.0.as_str() == name {
+        Some(field.1)
+    } else {
+        None
+    }
+}
+
+fn as_variable(name: &str, variable: &VariableHead) -> Option<TypeId>
+    ensures { result ≡ field_as name.now (variable.now.name, variable.now.id) }
+{
+    if variable.name.as_str() == name {
+        Some(variable.id)
+    } else {
+        None
+    }
+}
+
+fn variable_number(variables: &[VariableHead], name: &str) -> Option<(usize, TypeId)>
+    ensures { result ≡ numbered (λ (x : variable_head). field_as name.now (x.name, x.id)) 0 variables.now }
+{
+    for (at, variable) in variables.iter().enumerate() {
+        if let Some(id) = as_variable(name, variable) {
+            return Some((at, id));
+        }
+    }
+    None
+}
+
+fn field_number(fields: &[(Text, TypeId)], name: &str) -> Option<(usize, TypeId)>
+    ensures { result ≡ numbered (field_as name.now) 0 fields.now }
+{
+    for (at, field) in fields.iter().enumerate() {
+        if let Some(id) = as_field(name, field) {
+            return Some((at, id));
+        }
+    }
+    None
+}
+
+/// The variable of a name.
+pub(crate) fn variable_named(alloc: Global, variables: &[VariableHead], name: &str) -> Option<Found>
+    ensures { result ≡ field_of (fields_of variables.now) name.now }
+{
+    match variable_number(variables, name) {
         None => None,
-        Some((at, variable)) => Some(whole(alloc, at, variable.id)),
+        Some(field) => Some(whole(alloc, field)),
     }
 }
 
 /// The field of a name.
-pub(crate) fn field_named(alloc: Global, fields: &Fields, name: &str) -> Option<Found>
+pub(crate) fn field_named(alloc: Global, fields: &[(Text, TypeId)], name: &str) -> Option<Found>
     ensures { result ≡ field_of fields.now name.now }
 {
-    match fields.field(name) {
+    match field_number(fields, name) {
         None => None,
-        Some((at, field)) => Some(whole(alloc, at, field.1)),
+        Some(field) => Some(whole(alloc, field)),
     }
 }
 
@@ -188,13 +230,13 @@ fn found_behind(
 pub(crate) fn variable_in(
     alloc: Global,
     table: &TypeTable,
-    component: &Component,
+    variables: &[VariableHead],
     text: &str,
 ) -> Result<Option<Found>, Memory>
-    ensures { IfOk result (λ f. f ≡ found_by_text table.now (fields_of component.now.variables.now) text.now) }
+    ensures { IfOk result (λ f. f ≡ found_by_text table.now (fields_of variables.now) text.now) }
 {
     let (name, rest) = first_name(text);
-    let found = variable_named(alloc, component, name);
+    let found = variable_named(alloc, variables, name);
     found_behind(alloc, table, found, rest)
 }
 
@@ -202,7 +244,7 @@ pub(crate) fn variable_in(
 pub(crate) fn field_in(
     alloc: Global,
     table: &TypeTable,
-    fields: &Fields,
+    fields: &[(Text, TypeId)],
     text: &str,
 ) -> Result<Option<Found>, Memory>
     ensures { IfOk result (λ f. f ≡ found_by_text table.now fields.now text.now) }

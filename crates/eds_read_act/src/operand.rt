@@ -6,7 +6,7 @@ ghost use Rattle.eds_types.specs.Plain.{plain};
 ghost use Rattle.eds_types.specs.Rows.{chain, list_has};
 ghost use Rattle.eds_base.specs.declared.ids.TypeId.{TypeId as type_id};
 ghost use Rattle.eds_read_act.specs.Scopes.{scope_of};
-ghost use Rattle.eds_read_act.specs.Operands.{kind_of as kind_in_table, is_number as is_number_kind, are_alike as alike, fit_together as fit_in, literal as literal_of, found_at as found_in, type_of as type_in, type_fits as type_fits_in, found_fits as found_fits_in, operand_fits as fits_in, literal_operand as literal_as, variable_operand as variable_as, argument_operand as argument_as, operand_at as operand_in, operand_if as operand_in_if};
+ghost use Rattle.eds_read_act.specs.Operands.{kind_of as kind_in_table, is_number as is_number_kind, are_alike as alike, fit_together as fit_in, stored as stored_of, literal as literal_of, found_at as found_in, type_of as type_in, type_fits as type_fits_in, found_fits as found_fits_in, operand_fits as fits_in, literal_operand as literal_as, variable_operand as variable_as, argument_operand as argument_as, operand_at as operand_in, operand_if as operand_in_if};
 
 use crate::activity_sort::{ActivitySort, sort_at};
 use crate::inside::text_at;
@@ -14,7 +14,7 @@ use crate::naming::{Found, field_in, variable_in};
 use crate::scope::Scope;
 use eds_base::{Memory, TypeId, whole_number};
 use eds_plan::Operand;
-use eds_types::{Kind, TypeTable, Value, stored, text_value};
+use eds_types::{Kind, TypeTable, Value, text_value};
 use std::alloc::Global;
 
 /// What is wanted of an operand: a value of a type, or any number.
@@ -112,6 +112,21 @@ pub(crate) fn fit_together(table: &TypeTable, a: TypeId, b: TypeId) -> bool
     }
 }
 
+// A value that is no list of others, 0 in its place.
+fn stored(value: Value) -> Value
+    ensures { result ≡ stored_of (plain value) }
+{
+    match value {
+        Value::Num(n) => Value::Num(n),
+        Value::Label(label) => Value::Label(label),
+        Value::Bool(truth) => Value::Bool(truth),
+        Value::Text(text) => Value::Text(text),
+        Value::Bits(bits, octets) => Value::Bits(bits, octets),
+        Value::Items(_) => Value::Num(0),
+        Value::Fields(_, _) => Value::Num(0),
+    }
+}
+
 /// The value of what is wanted that a text stands for.
 pub(crate) fn literal(
     alloc: Global,
@@ -150,18 +165,15 @@ pub(crate) fn found_at(alloc: Global, scope: &Scope, node: u32) -> Result<Option
         ActivitySort::VariableRef => variable_in(
             alloc,
             scope.table,
-            scope.component,
+            scope.variables,
             text_at(scope.tree, node, "variableRef"),
         ),
-        ActivitySort::ArgumentRef => match scope.arguments {
-            None => Ok(None),
-            Some(fields) => field_in(
-                alloc,
-                scope.table,
-                fields,
-                text_at(scope.tree, node, "argumentRef"),
-            ),
-        },
+        ActivitySort::ArgumentRef => field_in(
+            alloc,
+            scope.table,
+            scope.arguments,
+            text_at(scope.tree, node, "argumentRef"),
+        ),
         _ => Ok(None),
     }
 }

@@ -1,34 +1,26 @@
 //! What the elements of an activity, a guard or an action may name.
 
-ghost use Rattle.std.specs.Prelude.{◌≡◌};
-ghost use Rattle.std.specs.Option.{option_copied};
-ghost use Rattle.eds_read_act.specs.Scopes.{scope_of, with_known};
-
-use crate::component::Component;
-use crate::fields::Fields;
+use crate::variable::VariableHead;
+use eds_base::{Text, TypeId};
+use eds_plan::{EndPlan, FieldList};
 use eds_tree::Tree;
 use eds_types::TypeTable;
 
-/// The tree that holds the elements, the types, and what the component has; and the arguments that an `ArgumentRef` may name, where
-/// these are known.
+/// The name and the arguments of an activity.
+#[derive(Debug, Drop)]
+pub struct Head {
+    pub name: Text,
+    pub arguments: FieldList,
+}
+
+/// The tree that holds the elements, the types, and what the component has; and the arguments that an `ArgumentRef` may name.
 #[derive(Clone, Copy)]
 pub struct Scope<'a> {
     pub tree: &'a Tree,
     pub table: &'a TypeTable,
-    pub component: &'a Component<'a>,
-    pub arguments: Option<&'a Fields>,
-}
-
-impl<'a> Scope<'a> {
-    /// The same scope with these arguments, where they are known.
-    pub(crate) fn with(&self, arguments: Option<&'a Fields>) -> Scope<'a>
-        ensures { scope_of result ≡ with_known (scope_of self.now) (option_copied arguments.entry) }
-    {
-        Scope {
-            tree: self.tree,
-            table: self.table,
-            component: self.component,
-            arguments,
-        }
-    }
+    pub ends: &'a [EndPlan],
+    pub variables: &'a [VariableHead],
+    pub activities: &'a [Head],
+    pub transactions: &'a [Text],
+    pub arguments: &'a [(Text, TypeId)],
 }

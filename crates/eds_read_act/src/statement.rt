@@ -1,14 +1,15 @@
 //! The statements that elements stand for.
 
-ghost use Rattle.std.specs.Prelude.{◌≡◌, codes, IfOk, map, filter};
+ghost use Rattle.std.specs.Prelude.{◌≡◌, codes, IfOk, map, filter, option_map};
 ghost use Rattle.eds_tree.specs.Trees.{children_at, attribute_at};
 ghost use Rattle.eds_plan.specs.Statements.{stmt, stmts, assign, calculate};
 ghost use Rattle.eds_read_act.specs.declared.activity_sort.ActivitySort.TheVariants.{Choice, Iteration};
+ghost use Rattle.eds_read_act.specs.Numbered.{numbered};
 ghost use Rattle.eds_read_act.specs.Inside.{operand_of as operand_inside};
 ghost use Rattle.eds_read_act.specs.Operands.{operand_if as operand_in_if};
 ghost use Rattle.eds_read_act.specs.BadReference.{output_of as output_in};
 ghost use Rattle.eds_read_act.specs.Scopes.{scope_of};
-ghost use Rattle.eds_read_act.specs.Bodies.{long as long_of, number_named, target_of as target_in, operator_of as operator_in, is_item_at as item_is_at, item_at as item_in, is_statement_at as statement_is_at, wanted_at as wanted_in, variable_at as variable_in, transaction_by, bound_in as bound_of, step_if as step_of, command_by, op_of as op_in, value_of as value_in, parameter_by, body_by, statement_at as statement_in, body_of as body_in, statement_as};
+ghost use Rattle.eds_read_act.specs.Bodies.{as_name as name_as, long as long_of, number_named, target_of as target_in, operator_of as operator_in, is_item_at as item_is_at, item_at as item_in, is_statement_at as statement_is_at, wanted_at as wanted_in, variable_at as variable_in, transaction_by, bound_in as bound_of, step_if as step_of, command_by, op_of as op_in, value_of as value_in, parameter_by, body_by, statement_at as statement_in, body_of as body_in, statement_as};
 
 use crate::action::{action_at, given_operands};
 use crate::activity_sort::{ActivitySort, sort_at};
@@ -20,8 +21,7 @@ use crate::operand::{Wanted, operand_at, operand_if};
 use crate::scope::Scope;
 use crate::sending::{Held, Taker, parameter_of, sent_command};
 use crate::type_mismatch::number_in;
-use eds_base::{Items, Memory};
-use eds_names::NameList;
+use eds_base::{Items, Memory, Text};
 use eds_plan::{MathItem, MathOp, Op, Operand, Statement, Target};
 use eds_tree::Tree;
 use std::alloc::Global;
@@ -154,6 +154,27 @@ fn step_in(scope: &Scope, step: Option<u32>) -> i128
 
 // ---- what is sent
 
+fn as_name<'a>(name: &str, own: &'a Text) -> Option<&'a str>
+    ensures { option_map (λ t. t.now) result ≡ name_as name.now own.now }
+{
+    if own.as_str() == name {
+        Some(own.as_str())
+    } else {
+        None
+    }
+}
+
+fn name_number(names: &[Text], name: &str) -> Option<usize>
+    ensures { result ≡ option_map (λ p. p.0) (numbered (name_as name.now) 0 names.now) }
+{
+    for (at, own) in names.iter().enumerate() {
+        if let Some(_) = as_name(name, own) {
+            return Some(at);
+        }
+    }
+    None
+}
+
 fn long(n: usize) -> u32
     ensures { result ≡ long_of n }
 {
@@ -164,10 +185,10 @@ fn long(n: usize) -> u32
     }
 }
 
-fn transaction_named(names: &NameList, name: &str) -> Option<u32>
+fn transaction_named(names: &[Text], name: &str) -> Option<u32>
     ensures { result ≡ number_named names.now name.now }
 {
-    match names.position(name) {
+    match name_number(names, name) {
         None => None,
         Some(at) => Some(long(at)),
     }
@@ -179,7 +200,7 @@ pub(crate) fn transaction_at(scope: &Scope, node: u32) -> Option<u32>
 {
     match scope.tree.attribute_at(node, "transaction") {
         None => None,
-        Some(name) => transaction_named(&scope.component.transactions, name),
+        Some(name) => transaction_named(scope.transactions, name),
     }
 }
 

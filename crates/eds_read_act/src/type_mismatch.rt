@@ -2,28 +2,24 @@
 
 ghost use Rattle.std.specs.Prelude.{◌≡◌, ◌++◌, ◌+◌, ◌<◌, ◌≤◌, ◌^◌, ◌&&◌, codes, IfOk, IfSome, OnOk};
 ghost use Rattle.std.specs.List.{flat_map};
-ghost use Rattle.std.specs.Option.{option_copied};
 ghost use Rattle.eds_base.specs.Refusals.{least};
 ghost use Rattle.eds_tree.specs.Trees.{children_at, children_of};
-ghost use Rattle.eds_read_act.specs.Given.{TellsGiven};
 ghost use Rattle.eds_read_act.specs.Scopes.{scope_of};
 ghost use Rattle.eds_read_act.specs.ActivitySorts.{sort_at as sort_at_in};
 ghost use Rattle.eds_read_act.specs.Inside.{text_at as text_of, operands_of as operands_in};
 ghost use Rattle.eds_read_act.specs.Operands.{type_of as type_in};
 ghost use Rattle.eds_read_act.specs.BadReference.{output_of as output_in};
-ghost use Rattle.eds_read_act.specs.TypeMismatch.{fits_if as fits_in_if, misfits_found as found_misfits, misfits_type as type_misfits, misfits_argument as argument_misfits, misfits_held as held_misfits, misfits_parameter as parameter_misfits, relation_of as relation_in, is_order as order_is, is_ordered as ordered_in, compares as compares_in, compares_as as compares_by, compares_both as both_compare, is_number_place as number_place, item_leaves as item_leaves_in, leaves as leaves_in, is_one, is_step as step_is, number_in as number_of, mismatches_as as mismatches_by, is_unsound_operand as unsound_operand_in, has_bad_operand as bad_operand_in, is_mismatch as mismatch_in, sound_from, mismatch_at, mismatches};
+ghost use Rattle.eds_read_act.specs.TypeMismatch.{fits_if as fits_in_if, misfits_found as found_misfits, field_type as type_of_field, misfits_type as type_misfits, misfits_argument as argument_misfits, misfits_held as held_misfits, misfits_parameter as parameter_misfits, relation_of as relation_in, is_order as order_is, is_ordered as ordered_in, compares as compares_in, compares_as as compares_by, compares_both as both_compare, is_number_place as number_place, item_leaves as item_leaves_in, leaves as leaves_in, is_one, is_step as step_is, number_in as number_of, mismatches_as as mismatches_by, has_bad_operand as bad_operand_in, is_mismatch as mismatch_in, sound_from, mismatch_at, mismatches};
 
 use crate::activity_sort::{ActivitySort, sort_at};
 use crate::bad_reference::{broken_if, is_bad, iterator_of, output_of};
-use crate::fields::Fields;
-use crate::given::Given;
-use crate::inside::{operand_of, operands_of, text_at};
+use crate::inside::{is_operand, operand_of, operands_of, text_at};
 use crate::naming::Found;
-use crate::operand::{Wanted, found_at, is_number, operand_fits, type_of};
+use crate::operand::{Wanted, is_number, operand_fits, type_of};
 use crate::scope::Scope;
 use crate::sending::{Held, parameter_of, taken_at};
-use eds_base::{Memory, Refusal, Rule, TypeId, whole_number};
-use eds_plan::Relation;
+use eds_base::{Memory, Refusal, Rule, Text, TypeId, whole_number};
+use eds_plan::{FieldList, Relation};
 use eds_tree::{Link, Tree, is_passed_over};
 use std::alloc::Global;
 
@@ -73,19 +69,33 @@ fn misfits_found(
     }
 }
 
+fn field_type(fields: &[(Text, TypeId)], name: &str) -> Option<TypeId>
+    ensures { result ≡ type_of_field fields.now name.now }
+{
+    let mut rest = fields;
+    while let [field, after @ ..] = rest {
+        if field.0.as_str() == name {
+            return Some(field.1);
+        }
+        rest = after;
+    }
+    None
+}
+
 fn misfits_argument(
     alloc: Global,
     scope: &Scope,
     link: Link,
-    taken: Option<&Fields>,
+    fields: Option<FieldList>,
 ) -> Result<bool, Memory>
-    ensures { IfOk result (λ b. b ≡ argument_misfits (scope_of scope.now) link (option_copied taken.entry)) }
+    ensures { IfOk result (λ b. b ≡ argument_misfits (scope_of scope.now) link fields) }
 {
-    match taken {
+    match fields {
         None => Ok(false),
         Some(fields) => {
             let name = text_at(scope.tree, link.node, "name");
-            misfits_type(alloc, scope, link.node, fields.type_of(name))
+            let id = field_type(fields.as_slice(), name);
+            misfits_type(alloc, scope, link.node, id)
         }
     }
 }
@@ -317,7 +327,8 @@ fn mismatches_here(alloc: Global, scope: &Scope, link: Link) -> Result<bool, Mem
             misfits_found(alloc, scope, node, output)
         }
         ActivitySort::ArgumentValue => {
-            misfits_argument(alloc, scope, link, taken_at(scope, link.parent))
+            let fields = taken_at(alloc, scope, link.parent)?;
+            misfits_argument(alloc, scope, link, fields)
         }
         ActivitySort::SendParameter => {
             misfits_parameter(alloc, scope, node, parameter_of(scope, node))
@@ -337,29 +348,20 @@ fn mismatches_here(alloc: Global, scope: &Scope, link: Link) -> Result<bool, Mem
     }
 }
 
-// Whether a child is an operand that breaks BadReference, or names an argument where it is not known which there are.
-fn is_unsound_operand(alloc: Global, scope: &Scope, node: u32, child: u32) -> Result<bool, Memory>
-    ensures { IfOk result (λ b. b ≡ unsound_operand_in (scope_of scope.now) node child) }
-{
-    match sort_at(scope.tree, child) {
-        ActivitySort::VariableRef => {
-            let found = found_at(alloc, scope, child)?;
-            Ok(found.is_none())
-        }
-        ActivitySort::ArgumentRef => {
-            let found = found_at(alloc, scope, child)?;
-            Ok(scope.arguments.is_none() || found.is_none())
-        }
-        _ => Ok(false),
-    }
-}
-
 fn has_bad_operand(alloc: Global, scope: &Scope, node: u32) -> Result<bool, Memory>
     ensures { IfOk result (λ b. b ≡ bad_operand_in (scope_of scope.now) node (children_at scope.now.tree.now node)) }
 {
     let mut rest = scope.tree.children_at(node);
     while let [child, after @ ..] = rest {
-        if is_unsound_operand(alloc, scope, node, *child)? {
+        let bad = is_bad(
+            alloc,
+            scope,
+            Link {
+                parent: node,
+                node: *child,
+            },
+        )?;
+        if is_operand(scope.tree, *child) && bad {
             return Ok(true);
         }
         rest = after;
@@ -375,24 +377,21 @@ fn is_mismatch(alloc: Global, scope: &Scope, link: Link) -> Result<bool, Memory>
     Ok(!bad && mismatch)
 }
 
-/// Puts an element and all below it last, but those that break BadReference with all below them; `given` has at hand what the
-/// children of one element give.
+/// Puts an element and all below it last, but those that break BadReference with all below them.
 #[cycle(push_sound)]
 pub(crate) fn push_sound(
     links: &mut Vec<Link>,
     alloc: Global,
     scope: &Scope,
-    given: &Given,
     depth: usize,
     link: Link,
 ) -> Result<(), Memory>
-    requires { TellsGiven scope.now.tree.now given.now }
     ensures { OnOk result (links.new.items ≡ links.old.items ++ sound_from (scope_of scope.now) depth link) }
 {
     if depth == 0 {
         return Ok(());
     }
-    if is_bad(alloc, scope, given, link)? {
+    if is_bad(alloc, scope, link)? {
         return Ok(());
     }
     links.push(link)?;
@@ -410,30 +409,12 @@ fn push_sound_children(
 ) -> Result<(), Memory>
     ensures { OnOk result (links.new.items ≡ links.old.items ++ flat_map (λ child. sound_from (scope_of scope.now) depth (record { parent = parent; node = child })) (children_of scope.now.tree.now parent)) }
 {
-    let given = Given::of(alloc, scope.tree, parent)?;
-    push_sound_each(links, alloc, scope, &given, depth, parent)
-}
-
-// The same, where it is at hand what the children give.
-#[cycle(push_sound)]
-fn push_sound_each(
-    links: &mut Vec<Link>,
-    alloc: Global,
-    scope: &Scope,
-    given: &Given,
-    depth: usize,
-    parent: u32,
-) -> Result<(), Memory>
-    requires { TellsGiven scope.now.tree.now given.now }
-    ensures { OnOk result (links.new.items ≡ links.old.items ++ flat_map (λ child. sound_from (scope_of scope.now) depth (record { parent = parent; node = child })) (children_of scope.now.tree.now parent)) }
-{
     for child in scope.tree.children_at(parent) {
         if !is_passed_over(scope.tree.name_at(*child)) {
             push_sound(
                 links,
                 alloc,
                 scope,
-                given,
                 depth,
                 Link {
                     parent,

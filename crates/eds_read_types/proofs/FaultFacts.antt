@@ -1,6 +1,6 @@
 -- Breaks of EmptyType by the types for which it is judged, and what types reach.
-use Rattle.std.proofs.Common.{◌≡◌, ℕ, zero, suc, ◌+◌, ◌≤◌, ◌||◌, ◌&&◌, not, Bool, true, false, List, [], ◌∷◌, length, drop, slice_get, Option, Some, None, Result, Ok, Err, refl, sym, ap, subst, ◌∙◌, inl, inr, arith}
-use Rattle.std.specs.Prelude.{nat_lt, option_to_list, IfOk}
+use Rattle.std.proofs.Common.{◌≡◌, ℕ, zero, suc, ◌+◌, ◌<◌, ◌≤◌, ◌||◌, ◌&&◌, not, Bool, true, false, List, [], ◌∷◌, ◌++◌, length, drop, slice_get, Option, Some, None, Result, Ok, Err, refl, sym, ap, subst, ◌∙◌, inl, inr, arith}
+use Rattle.std.specs.Prelude.{nat_lt, option_to_list, IfOk, if◌then◌else◌}
 use Rattle.std.specs.List.{list_any}
 use Rattle.std.proofs.lemmas.List.Folds.{list_any-append}
 use Rattle.std.proofs.lemmas.List.{length-map}
@@ -26,7 +26,7 @@ use Rattle.eds_read_types.specs.TableRows.{table_rows}
 use Rattle.eds_read_types.specs.Parts.{parts_in, judged_part_by, judged_part, judged_parts, at_parts, at_rows}
 use Rattle.eds_read_types.specs.Kin.{AreMarks, passes_near}
 use Rattle.eds_read_types.specs.Emptiness.{item_of, may_be_empty, is_empty_part}
-use Rattle.eds_read_types.specs.Faults.{is_faulty_if, is_faulty, types_at, passes_there, reaches_fault, is_judged, is_unmarked, passes_type}
+use Rattle.eds_read_types.specs.Faults.{is_faulty_if, is_faulty, types_on, types_at, passes_there, reaches_fault, is_judged, is_unmarked, passes_type}
 use Rattle.eds_read_types.specs.EmptyType.{empty_where, empty_part_at, empty_item_by, empty_item_at, empty_by, empty_word, empties, breaks_empty}
 use Rattle.eds_read_types.proofs.NoBreaks.{append-none}
 use Rattle.eds_read_types.proofs.Limits.{length-rows}

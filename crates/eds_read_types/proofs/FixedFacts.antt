@@ -1,6 +1,6 @@
 -- The values of fixed values.
-use Rattle.std.proofs.Common.{◌≡◌, ℕ, ℤ, zero, suc, ◌+◌, ◌<◌, ◌≤◌, Bool, true, false, ◌||◌, List, [], ◌∷◌, ◌++◌, length, drop, get_or, slice_get, option_map, is_some, Option, Some, None, Result, refl, sym, ap, subst, ◌∙◌, arith, drop-cons, add-one}
-use Rattle.std.specs.Prelude.{IfOk, IfSome}
+use Rattle.std.proofs.Common.{◌≡◌, ℕ, ℤ, zero, suc, ◌+◌, ◌<◌, ◌≤◌, Bool, true, false, ◌||◌, List, [], ◌∷◌, ◌++◌, length, map, drop, get_or, slice_get, option_map, is_some, Option, Some, None, Result, refl, sym, ap, subst, ◌∙◌, arith, drop-cons, add-one, string_bytes}
+use Rattle.std.specs.Prelude.{IfOk, IfSome, if◌then◌else◌}
 use Rattle.eds_base.specs.Reading.{same, ◌>>=◌}
 use Rattle.eds_names.specs.LookUp.{Names}
 use Rattle.eds_names.specs.Repeats.{is_among}

@@ -11,6 +11,7 @@ use Rattle.std.proofs.lemmas.List.Elements.{filter-append}
 use Rattle.eds_base.specs.Reading.{same}
 use Rattle.eds_base.specs.declared.ids.Place.{Place}
 use Rattle.eds_base.specs.declared.refusal.Refusal.{Refusal}
+use Rattle.eds_base.specs.declared.rule.Rule.TheVariants.{LengthField}
 use Rattle.eds_tree.specs.declared.tree.Node.{Node}
 use Rattle.eds_tree.specs.Trees.{node_name}
 use Rattle.eds_names.specs.LookUp.{Names}
@@ -25,6 +26,7 @@ use Rattle.eds_read_types.specs.declared.seat.Seat.{Seat}
 use Rattle.eds_read_types.specs.PartSorts.{part_sort_of}
 use Rattle.eds_read_types.specs.Places.{element, is_element, children}
 use Rattle.eds_read_types.specs.Entries.{sort_at, parts_held, is_part_list, entries_at, trailers_at, own_parts_at, parts_at}
+use Rattle.eds_read_types.specs.References.{broken}
 use Rattle.eds_read_types.specs.Calibrators.{c0_at, c1_at, is_scale, c0_or_plain, c1_or_plain}
 use Rattle.eds_read_types.specs.PartRows.{part_by, part_at}
 use Rattle.eds_read_types.specs.LengthField.{is_int_by, is_int_in, is_int, lengths_at}

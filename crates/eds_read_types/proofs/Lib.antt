@@ -18,7 +18,6 @@ pub mod NestingFacts
 mod Unbroken
 pub mod EmptyFacts
 pub mod FaultFacts
-pub mod BrokenFacts
 pub mod JudgedFacts
 pub mod ListPlaces
 mod LengthSteps
@@ -39,8 +38,6 @@ pub mod NumberFacts
 pub mod CheckFacts
 pub mod FixedFacts
 pub mod TableRules
-pub mod ReadRows
-pub mod SheetTableFacts
 pub mod Limits
 pub mod SequenceFacts
 pub mod FamilyFacts

@@ -13,8 +13,8 @@ use Rattle.eds_types.specs.declared.row.Kind.{Kind}
 use Rattle.eds_types.specs.declared.row.Kind.TheVariants as kind
 use Rattle.eds_types.specs.declared.row.Part.{Part}
 use Rattle.eds_types.specs.declared.row.Part.TheVariants as part
-use Rattle.eds_types.specs.Rows.{Table, base_of, container_of, entries_in, own_parts, Placed, placed_from, placed_entries, placed_trailers, sequence, chain, list_has, chain_before, chain_within}
-use Rattle.eds_types.specs.Rules.{IsIntBy, IsInt, IsBefore, IsCounted}
+use Rattle.eds_types.specs.Rows.{Table, base_of, container_of, entries_in, trailers_in, own_parts, Placed, placed_from, placed_entries, placed_trailers, sequence, chain, list_has, chain_before, chain_within}
+use Rattle.eds_types.specs.Rules.{IsIntBy, IsInt, HasKind, IsBefore, IsCounted}
 use Rattle.eds_read_types.specs.ListField.{has_negative, counts_by, counts_in, is_count, stands_before, may_tell, is_told}
 use Rattle.eds_read_types.specs.Parts.{parts_in}
 use Rattle.eds_read_types.proofs.PlainRules.{own_placed}

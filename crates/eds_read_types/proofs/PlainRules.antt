@@ -1,7 +1,7 @@
 -- Types whose rows keep the rules one by one make a table that keeps them all.
-use Rattle.std.proofs.Common.{◌≡◌, ℕ, zero, suc, ◌+◌, ◌<◌, ◌≤◌, false, List, [], ◌∷◌, ◌++◌, map, length, slice_get, Option, Some, None, refl, sym, ap, subst, ◌∙◌, inl, inr, arith}
-use Rattle.std.specs.Prelude.{is_some, IfSome, IsTrue}
-use Rattle.std.specs.List.{AllByRecursion}
+use Rattle.std.proofs.Common.{◌≡◌, ℕ, zero, suc, ◌+◌, ◌<◌, ◌≤◌, false, List, [], ◌∷◌, ◌++◌, map, length, reverse, slice_get, Option, Some, None, refl, sym, ap, subst, ◌∙◌, ◌⊎◌, inl, inr, arith, lit≤}
+use Rattle.std.specs.Prelude.{is_some, IsSome, IfSome, IsTrue}
+use Rattle.std.specs.List.{AllByRecursion, filter_map, flat_map}
 use Rattle.eds_bits.specs.Lists.{Has}
 use Rattle.eds_types.specs.declared.row.TypeRow.{TypeRow}
 use Rattle.eds_types.specs.declared.row.Container.{Container}
@@ -9,13 +9,13 @@ use Rattle.eds_types.specs.declared.row.Part.{Part}
 use Rattle.eds_types.specs.declared.row.Part.TheVariants as part
 use Rattle.eds_types.specs.declared.row.Kind.{Kind}
 use Rattle.eds_types.specs.declared.row.Kind.TheVariants as kind
-use Rattle.eds_types.specs.Fields.{type_by}
+use Rattle.eds_types.specs.Fields.{type_by, IsAtOrUnder}
 use Rattle.eds_types.specs.Plain.{plain}
 use Rattle.eds_types.specs.Sizes.{open_of}
-use Rattle.eds_types.specs.Rows.{Table, base_in, base_of, container_by, container_in, container_of, concrete_in, entries_in, trailers_in, constraints_in, constraints_of, own_parts, Placed, placed_from, chain_before, chain_within}
-use Rattle.eds_types.specs.Rules.{AreDistinct, KindKeeps, HasKind, IsContainer, IsHollow, IsValueOf, IsInt, IsScale, HoldsCheck, IsCounted, DerivesFrom, IsNested, ItemsNest, TailKeeps, PartKeeps, ConstraintKeeps, KeepsRules}
+use Rattle.eds_types.specs.Rows.{Table, base_in, base_of, container_by, container_in, container_of, concrete_in, entries_in, trailers_in, constraints_in, constraints_of, own_parts, Placed, placed_from, placed_entries, placed_trailers, chain, chain_before, chain_within}
+use Rattle.eds_types.specs.Rules.{AreDistinct, KindKeeps, HasKind, IsContainer, IsHollow, IsValueOf, IsInt, IsScale, HoldsCheck, IsCounted, DerivesFrom, IsNested, ItemsNest, TailKeeps, PartKeeps, name_of, is_length, ConstraintKeeps, KeepsRules}
 use Rattle.eds_nesting.specs.Families.{families, family, containers}
-use Rattle.eds_read_types.proofs.SequenceFacts.{OwnDiffer, name_mark, length_mark, has-parts}
+use Rattle.eds_read_types.proofs.SequenceFacts.{OwnDiffer, AreDisjoint, name_mark, length_mark, parts_above, has-cases, has-parts}
 use Rattle.eds_read_types.proofs.RowRules.{AreLeveled, AreRows, keeps_all}
 
 -- the type is spelled by some bits where it is a container

@@ -1,6 +1,6 @@
 -- The rows of a sheet that breaks no rule on types keep the rules of a table.
 use Rattle.std.proofs.Common.{◌≡◌, ℕ, zero, suc, ◌+◌, ◌<◌, ◌≤◌, Bool, true, false, ◌||◌, ◌&&◌, List, [], ◌∷◌, ◌++◌, length, map, filter, slice_get, option_map, Option, Some, None, refl, sym, ap, subst, ◌∙◌, ◌⊎◌, inl, inr, arith, lit≤}
-use Rattle.std.specs.Prelude.{nat_le, nat_lt, is_some, IsSome, IfSome, option_to_list, codes, not, Ok, if◌then◌else◌}
+use Rattle.std.specs.Prelude.{nat_le, nat_lt, is_some, IsSome, IfSome, unwrap_or, option_to_list, codes, not, Ok, if◌then◌else◌}
 use Rattle.std.specs.List.{AllByRecursion, filter_map, flat_map, list_all, list_any}
 use Rattle.std.proofs.Common.{leb-true}
 use Rattle.std.proofs.lemmas.Bool.{and_parts, leb-false, ltb-false, ltb-true}
@@ -30,7 +30,7 @@ use Rattle.eds_types.specs.declared.row.Kind.{Kind}
 use Rattle.eds_types.specs.declared.row.Kind.TheVariants as kind
 use Rattle.eds_types.specs.declared.row.Part.{Part}
 use Rattle.eds_types.specs.declared.row.Part.TheVariants as part
-use Rattle.eds_types.specs.Rows.{base_in, base_of, own_parts, placed_from, chain_before, chain_within, container_by, container_in, container_of, number_of_id, Placed}
+use Rattle.eds_types.specs.Rows.{Table, base_in, base_of, own_parts, placed_from, chain_before, chain_within, container_by, container_in, container_of, number_of_id, entries_in, Placed}
 use Rattle.eds_types.specs.Sizes.{open_by, open_in, open_of}
 use Rattle.eds_types.specs.Fields.{type_by}
 use Rattle.eds_types.specs.Plain.{plain}
@@ -48,11 +48,12 @@ use Rattle.eds_read_types.specs.Parts.{PartJudgement, at_parts, at_rows, parts_i
 use Rattle.eds_read_types.specs.Seats.{seats_of}
 use Rattle.eds_read_types.specs.ListFields.{field_seat, field_container, field_place}
 use Rattle.eds_read_types.specs.PartRows.{entry_id, id_or_first, padding_bits, unread, plain_part, fixed_part, list_part, length_part, check_part, part_by}
+use Rattle.eds_read_types.specs.Forms.{int_form_of, bool_form_of}
 use Rattle.eds_read_types.specs.Listings.{listing_of}
 use Rattle.eds_read_types.specs.Bases.{may_derive, base_named, base_found, bases_of, base_at, is_in_cycle}
 use Rattle.eds_read_types.specs.Numbers.{form_or_wide, numbers_of}
 use Rattle.eds_read_types.specs.Kinds.{scalar_kind_by, scalar_kind_in, scalar_at, scalar_if, scalar_of}
-use Rattle.eds_read_types.specs.TableRows.{part_in, container_at, array_kind, kind_of, table_row, rows_from, table_rows, has_few_entries, are_few}
+use Rattle.eds_read_types.specs.TableRows.{part_in, is_abstract, container_at, array_kind, kind_of, table_row, rows_from, table_rows, has_few_entries, are_few}
 use Rattle.eds_read_types.specs.TableBreaks.{table_breaks}
 use Rattle.eds_read_types.specs.DuplicateEntry.{repeats, names_above, duplicates_at}
 use Rattle.eds_read_types.specs.declared.sort.Sort.{Sort}
@@ -67,10 +68,8 @@ use Rattle.eds_read_types.specs.TypeCycle.{type_cycle_at}
 use Rattle.eds_read_types.specs.LimitChain.{is_long, chain_at}
 use Rattle.eds_read_types.specs.LimitNesting.{is_too_deep, nesting_at}
 use Rattle.eds_read_types.specs.Emptiness.{may_be_empty, is_empty_entry, is_empty_part, item_in}
-use Rattle.eds_read_types.specs.Faults.{part_breaks, is_constraint_broken, has_empty_part, is_faulty_at, is_faulty_if, is_faulty, reaches_fault, is_judged, passes_type}
+use Rattle.eds_read_types.specs.Faults.{part_breaks, has_empty_part, is_faulty_at, is_faulty_if, is_faulty, reaches_fault, is_judged, passes_type}
 use Rattle.eds_read_types.specs.EmptyType.{empty_part_at, empty_item_by, empty_item_at}
-use Rattle.eds_read_types.specs.ConstraintElements.{asked_lists}
-use Rattle.eds_read_types.proofs.BrokenFacts.{none-broken}
 use Rattle.eds_read_types.proofs.FaultFacts.{parts-same, items-same}
 use Rattle.eds_read_types.proofs.JudgedFacts.{NamesFault, reaches_none}
 use Rattle.eds_read_types.specs.Items.{items_at, row_items}
@@ -114,7 +113,7 @@ use Rattle.eds_read_types.proofs.ChainFacts.{each-none, over-none, unmet, level,
 use Rattle.eds_read_types.proofs.Circles.{depth, less_deep}
 use Rattle.eds_read_types.proofs.NumberFacts.{HasNumbers, IsNoContainer, known_bases, base_there, base_is_sub, domains, derives_from}
 
-pub all_there : (p : TypeRow → Bool) (rows : List TypeRow) → list_all p rows ≡ true → (k : ℕ) (row : TypeRow) → slice_get rows k ≡ Some row → p row ≡ true
+all_there : (p : TypeRow → Bool) (rows : List TypeRow) → list_all p rows ≡ true → (k : ℕ) (row : TypeRow) → slice_get rows k ≡ Some row → p row ≡ true
 all_there p [] h k row e = absurd cc
 all_there p (r ∷ rows) h zero row e = let is : r ≡ row = cc in subst (λ x. p x ≡ true) is (and_parts (p r) (list_all p rows) h).0
 all_there p (r ∷ rows) h (suc k) row e = all_there p rows (and_parts (p r) (list_all p rows) h).1 k row e
@@ -529,9 +528,7 @@ module _ (trees : List (List Node)) (names : Names) (word : Option (List ℕ)) (
       let at = place_of id lt in
       let other = declared_there (types names) id at.0 at.1 in
       let here : is_faulty_at trees names id at.0 ≡ true = sym (ap (is_faulty_if trees names id) at.1) ∙ faulty in
-      let posed : is_constraint_broken trees names id ≡ false = none-broken (table_rows trees names) (asked_lists trees names) u.constraint_targets u.constraint_values u.constraint_empties id lt in
-      let empty : has_empty_part (table_rows trees names) id ≡ true =
-      sym (ap (λ rs. is_some (least rs) || (is_constraint_broken trees names id || has_empty_part (table_rows trees names) id)) (no_part_breaks id at.0 at.1) ∙ ap (λ b. b || has_empty_part (table_rows trees names) id) posed) ∙ here in
+      let empty : has_empty_part (table_rows trees names) id ≡ true = sym (ap (λ rs. is_some (least rs) || has_empty_part (table_rows trees names) id) (no_part_breaks id at.0 at.1)) ∙ here in
       let one = found (is_empty_part (table_rows trees names)) (parts_in (container_of (table_rows trees names) id)) empty in
       by_container other.0 other.1 (place_there (types names) id other.0 other.1) one (is_container trees (other.0).place) refl
     where

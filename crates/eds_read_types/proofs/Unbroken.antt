@@ -4,7 +4,6 @@ use Rattle.std.specs.List.{AllByRecursion, flat_map}
 use Rattle.eds_base.specs.declared.refusal.Refusal.{Refusal}
 use Rattle.eds_tree.specs.declared.tree.Node.{Node}
 use Rattle.eds_names.specs.LookUp.{Names}
-use Rattle.eds_constraints.specs.Breaks.{breaks_target, breaks_value, breaks_empty}
 use Rattle.eds_read_types.specs.declared.reference_row.Wanted.TheVariants.{AnyType}
 use Rattle.eds_read_types.specs.Places.{elements}
 use Rattle.eds_read_types.specs.Judging.{judged_first, breaks_in_phase, breaks_by_phase}
@@ -29,8 +28,6 @@ use Rattle.eds_read_types.specs.PartElements.{at_part_elements}
 use Rattle.eds_read_types.specs.LengthField.{length_field_at, scale_at, second_length_at}
 use Rattle.eds_read_types.specs.FixedValue.{fixed_value_at}
 use Rattle.eds_read_types.specs.ErrorControl.{error_control_at}
-use Rattle.eds_read_types.specs.ConstraintElements.{asked_lists}
-use Rattle.eds_read_types.specs.TableRows.{table_rows}
 use Rattle.eds_read_types.specs.TableBreaks.{rules, table_breaks}
 use Rattle.eds_read_types.proofs.NoBreaks.{append-none}
 
@@ -78,9 +75,6 @@ pub record IsUnbroken (trees : List (List Node)) (names : Names) (word : Option 
   pub one_lengths : at_rows second_length_at trees names ≡ []
   pub fixed : at_part_elements fixed_value_at trees names ≡ []
   pub checks : at_part_elements error_control_at trees names ≡ []
-  pub constraint_targets : breaks_target (table_rows trees names) (asked_lists trees names) ≡ []
-  pub constraint_values : breaks_value (table_rows trees names) (asked_lists trees names) ≡ []
-  pub constraint_empties : breaks_empty (table_rows trees names) (asked_lists trees names) ≡ []
 
 pub unbroken : (trees : List (List Node)) (names : Names) (word : Option (List ℕ)) → table_breaks trees names word ≡ [] → IsUnbroken trees names word
 unbroken trees names word h =
@@ -94,8 +88,6 @@ unbroken trees names word h =
     let further = append-none (at_rows (empty_item_at (is_judged trees names)) trees names) _ with_bits.1 in
     let lengths = append-none (at_parts length_field_at trees names) _ containers.1.1.1.0 in
     let scales = append-none (at_part_elements scale_at trees names) _ lengths.1 in
-    let targets = append-none (breaks_target (table_rows trees names) (asked_lists trees names)) _ containers.1.1.1.1.1.1.0 in
-    let values = append-none (breaks_value (table_rows trees names) (asked_lists trees names)) _ targets.1 in
     record {
       resolved = found.1;
       sort = fitting.1;
@@ -120,7 +112,4 @@ unbroken trees names word h =
       one_lengths = scales.1;
       fixed = containers.1.1.1.1.0;
       checks = containers.1.1.1.1.1.0;
-      constraint_targets = targets.0;
-      constraint_values = values.0;
-      constraint_empties = values.1;
     }

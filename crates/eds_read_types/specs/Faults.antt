@@ -1,4 +1,4 @@
--- What the rules on parts and constraints find at one container, and the types from which no such fault is reached.
+-- What the rules on parts find at one container, and the types from which no such fault is reached.
 use Rattle.std.specs.Prelude.{ℕ, zero, suc, List, [], ◌++◌, length, Bool, false, not, is_some, ◌&&◌, ◌||◌, nat_lt, Option, Some, None, slice_get}
 use Rattle.std.specs.List.{list_any}
 use Rattle.eds_base.specs.declared.ids.Place.{Place}
@@ -8,11 +8,9 @@ use Rattle.eds_tree.specs.declared.tree.Node.{Node}
 use Rattle.eds_names.specs.LookUp.{Names}
 use Rattle.eds_types.specs.declared.row.TypeRow.{TypeRow}
 use Rattle.eds_types.specs.Rows.{Table, container_of}
-use Rattle.eds_constraints.specs.Broken.{is_broken}
 use Rattle.eds_graph.specs.Reaching.{mark}
 use Rattle.eds_nesting.specs.Families.{types_in}
 use Rattle.eds_read_types.specs.Places.{type_places}
-use Rattle.eds_read_types.specs.ConstraintElements.{asked_lists}
 use Rattle.eds_read_types.specs.TableRows.{table_rows}
 use Rattle.eds_read_types.specs.Parts.{parts_in, judged_parts}
 use Rattle.eds_read_types.specs.PartElements.{judged_elements}
@@ -47,15 +45,9 @@ part_breaks trees names id at =
 abbrev pub has_empty_part : Table → ℕ → Bool
 has_empty_part t id = list_any (is_empty_part t) (parts_in (container_of t id))
 
--- a constraint of a type breaks one of the rules on constraints
-abbrev pub is_constraint_broken : List (List Node) → Names → ℕ → Bool
-is_constraint_broken trees names id = is_broken (table_rows trees names) (asked_lists trees names) id
-
--- a part or a constraint of the type at a place breaks one of these rules, or a part breaks EmptyType where that is judged for each
--- type
+-- a part of the type at a place is broken by one of these rules, or by EmptyType where that is judged for each type
 abbrev pub is_faulty_at : List (List Node) → Names → ℕ → Place → Bool
-is_faulty_at trees names id at =
-    is_some (least (part_breaks trees names id at)) || (is_constraint_broken trees names id || has_empty_part (table_rows trees names) id)
+is_faulty_at trees names id at = is_some (least (part_breaks trees names id at)) || has_empty_part (table_rows trees names) id
 
 -- the same of the type at a place, if there is one
 abbrev pub is_faulty_if : List (List Node) → Names → ℕ → Option Place → Bool

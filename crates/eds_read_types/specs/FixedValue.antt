@@ -1,5 +1,5 @@
 -- The text of a fixed value stands for a value of its type, which is neither an array nor a container. Nothing is kept.
-use Rattle.std.specs.Prelude.{List, codes, not, ◌&&◌, is_some}
+use Rattle.std.specs.Prelude.{ℕ, List, codes, not, ◌&&◌, is_some}
 use Rattle.eds_base.specs.declared.refusal.Refusal.{Refusal}
 use Rattle.eds_base.specs.declared.rule.Rule.TheVariants.{FixedValue}
 use Rattle.eds_tree.specs.declared.tree.Node.{Node}

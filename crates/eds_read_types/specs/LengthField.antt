@@ -1,7 +1,7 @@
 -- A length entry has an integer type or a sub-range, and a scale: no exponent stands twice, c1 is at least 1, and neither
 -- coefficient is past 2^32 in size. It is the only one of its container's chain. An open binary takes its size from a length
 -- entry. Nothing is kept.
-use Rattle.std.specs.Prelude.{ℕ, ◌+◌, ◌==◌, List, ◌++◌, length, nat_lt, drop, map, filter, codes, Bool, true, false, not, ◌&&◌, is_some, if◌then◌else◌, Option, Some, None, slice_get}
+use Rattle.std.specs.Prelude.{ℕ, ◌+◌, ◌==◌, List, [], ◌++◌, length, nat_lt, drop, map, filter, codes, Bool, true, false, not, ◌&&◌, is_some, if◌then◌else◌, Option, Some, None, slice_get}
 use Rattle.std.specs.List.{list_any}
 use Rattle.eds_base.specs.declared.ids.Place.{Place}
 use Rattle.eds_base.specs.declared.refusal.Refusal.{Refusal}

@@ -31,7 +31,6 @@ pub mod Checks
 pub mod Kinds
 pub mod FixedValues
 pub mod PartRows
-pub mod ConstraintElements
 pub mod TableRows
 pub mod Used
 pub mod Parts
@@ -50,11 +49,9 @@ pub mod FixedValue
 pub mod ErrorControl
 pub mod Faults
 pub mod EmptyType
-pub mod ConstraintRules
 pub mod FaceReferences
 pub mod ComponentReferences
 pub mod InnerReferences
 pub mod FaceRules
 pub mod TableBreaks
-pub mod SheetTable
 pub mod TableRead

@@ -1,6 +1,7 @@
 -- An array has at most 65,536 items. The rule is judged where the sizes of all its dimensions are known: where no index type, and
 -- no base of one, is its own base or has no form.
-use Rattle.std.specs.Prelude.{List, [], ◌∷◌, codes, nat_lt, Bool, false, if◌then◌else◌, Option, Some, None, slice_get}
+use Rattle.std.specs.Prelude.{ℕ, List, [], ◌∷◌, codes, nat_lt, Bool, false, if◌then◌else◌, Option, Some, None, slice_get}
+use Rattle.eds_base.specs.declared.ids.Place.{Place}
 use Rattle.eds_base.specs.declared.refusal.Refusal.{Refusal}
 use Rattle.eds_base.specs.declared.rule.Rule.TheVariants.{Limit}
 use Rattle.eds_tree.specs.declared.tree.Node.{Node}

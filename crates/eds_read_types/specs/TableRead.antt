@@ -7,14 +7,14 @@ use Rattle.eds_names.specs.LookUp.{Names}
 use Rattle.eds_read_types.specs.declared.table.SheetTypes.{SheetTypes}
 use Rattle.eds_read_types.specs.ReadTypes.{word_type}
 use Rattle.eds_read_types.specs.InnerReferences.{inner_types}
-use Rattle.eds_read_types.specs.SheetTable.{sheet_table}
 use Rattle.eds_read_types.specs.TableBreaks.{table_breaks}
+use Rattle.eds_read_types.specs.TableRows.{table_rows}
 use Rattle.eds_read_types.specs.Used.{used_types}
 
 -- a row for each declared type in order, the types that are used, those that interfaces and components name last, and the type that the
 -- TYPE word names
 abbrev pub typed_of : List (List Node) → Names → Option (List ℕ) → SheetTypes
-typed_of trees names word = record { table = sheet_table trees names; used = used_types (sheet_table trees names) (word_type trees names word) ++ inner_types trees names; asked_type = word_type trees names word }
+typed_of trees names word = record { table = table_rows trees names; used = used_types (table_rows trees names) (word_type trees names word) ++ inner_types trees names; asked_type = word_type trees names word }
 
 -- the types of a sheet, or why it is refused
 abbrev pub unless : Option Refusal → SheetTypes → Result SheetTypes Refusal

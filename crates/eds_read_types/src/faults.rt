@@ -1,6 +1,6 @@
-//! What the rules on parts and constraints find at one container, and the types from which no such fault is reached.
+//! What the rules on parts find at one container, and the types from which no such fault is reached.
 
-ghost use Rattle.std.specs.Prelude.{◌≡◌, ◌≤◌, ◌<◌, ◌||◌, ℕ, suc, Bool, false, length, option_map, option_to_list, IfOk};
+ghost use Rattle.std.specs.Prelude.{◌≡◌, ◌≤◌, ◌||◌, ℕ, suc, Bool, false, length, option_map, option_to_list, IfOk};
 ghost use Rattle.std.specs.List.{list_any};
 ghost use Rattle.eds_base.specs.Refusals.{least};
 ghost use Rattle.eds_graph.specs.Reaching.{mark};
@@ -8,11 +8,10 @@ ghost use Rattle.eds_nesting.specs.Families.{types_of};
 ghost use Rattle.eds_base.specs.declared.ids.TypeId.{TypeId as type_id};
 ghost use Rattle.eds_read_types.specs.Kin.{AreMarks};
 ghost use Rattle.eds_read_types.specs.Emptiness.{is_empty_part as is_empty_part_of};
-ghost use Rattle.eds_read_types.specs.Faults.{length_breaks, element_breaks, part_breaks, is_constraint_broken, has_empty_part as has_empty_part_of, is_faulty_at, is_faulty as is_faulty_type, types_at, reaches_fault, is_unmarked, is_judged};
+ghost use Rattle.eds_read_types.specs.Faults.{length_breaks, element_breaks, part_breaks, has_empty_part as has_empty_part_of, is_faulty_at, is_faulty as is_faulty_type, types_at, reaches_fault, is_unmarked, is_judged};
 
 use crate::base_graph::type_at;
 use crate::breaks::PlaceRule;
-use crate::constraint_rules::broken_constraints;
 use crate::duplicate_entry::DuplicateEntry;
 use crate::emptiness::Emptiness;
 use crate::error_control::ErrorControl;
@@ -97,51 +96,32 @@ fn has_empty_part(all: &Emptiness, id: usize) -> bool
     has_empty(all, entries_of(all.rows, id)) || has_empty(all, trailers_of(all.rows, id))
 }
 
-/// Whether a constraint of a type breaks a rule, as `broken` tells of each type, or a part is of a type that may be empty.
-fn is_broken_otherwise(all: &Emptiness, broken: &[bool], id: usize) -> bool
-    ensures { result ≡ (mark broken.now id || has_empty_part_of all.now.rows.now id) }
-{
-    mark_at(broken, id) || has_empty_part(all, id)
-}
-
-/// Whether a part of the type at a place breaks one of these rules or is of a type that may be empty, or a constraint of it breaks
-/// one, as `broken` tells of each type.
+/// Whether a part of the type at a place breaks one of these rules, or is of a type that may be empty.
 fn is_faulty_there(
     alloc: Global,
     sheet: &SheetRows,
     all: &Emptiness,
-    broken: &[bool],
     id: usize,
     at: Place,
 ) -> Result<bool, Memory>
-    requires rows { all.now.rows.now ≡ sheet.now.rows.now }
-    requires told { AreMarks (length sheet.now.rows.now) (is_constraint_broken sheet.now.graph.now.sheet.now.trees.now sheet.now.graph.now.sheet.now.space.now) broken.now }
-    requires within { id < length sheet.now.rows.now }
+    requires { all.now.rows.now ≡ sheet.now.rows.now }
     ensures { IfOk result (λ b. b ≡ is_faulty_at sheet.now.graph.now.sheet.now.trees.now sheet.now.graph.now.sheet.now.space.now id at) }
 {
     let fault = least_fault(alloc, sheet, id, at)?;
     if fault.is_some() {
         return Ok(true);
     }
-    Ok(is_broken_otherwise(all, broken, id))
+    Ok(has_empty_part(all, id))
 }
 
 /// The same of the type of a number.
-fn is_faulty(
-    alloc: Global,
-    sheet: &SheetRows,
-    all: &Emptiness,
-    broken: &[bool],
-    id: usize,
-) -> Result<bool, Memory>
-    requires rows { all.now.rows.now ≡ sheet.now.rows.now }
-    requires told { AreMarks (length sheet.now.rows.now) (is_constraint_broken sheet.now.graph.now.sheet.now.trees.now sheet.now.graph.now.sheet.now.space.now) broken.now }
-    requires within { id < length sheet.now.rows.now }
+fn is_faulty(alloc: Global, sheet: &SheetRows, all: &Emptiness, id: usize) -> Result<bool, Memory>
+    requires { all.now.rows.now ≡ sheet.now.rows.now }
     ensures { IfOk result (λ b. b ≡ is_faulty_type sheet.now.graph.now.sheet.now.trees.now sheet.now.graph.now.sheet.now.space.now id) }
 {
     match type_at(sheet.graph, id) {
         None => Ok(false),
-        Some(at) => is_faulty_there(alloc, sheet, all, broken, id, at),
+        Some(at) => is_faulty_there(alloc, sheet, all, id, at),
     }
 }
 
@@ -150,10 +130,9 @@ fn all_faulty(alloc: Global, sheet: &SheetRows, all: &Emptiness) -> Result<Vec<b
     requires { all.now.rows.now ≡ sheet.now.rows.now }
     ensures { IfOk result (λ m. AreMarks (length sheet.now.rows.now) (is_faulty_type sheet.now.graph.now.sheet.now.trees.now sheet.now.graph.now.sheet.now.space.now) m.items) }
 {
-    let broken = broken_constraints(alloc, sheet)?;
     let mut marks = Vec::new(alloc);
     for id in 0..sheet.rows.len() {
-        let faulty = is_faulty(alloc, sheet, all, &broken, id)?;
+        let faulty = is_faulty(alloc, sheet, all, id)?;
         marks.push(faulty)?;
     }
     Ok(marks)

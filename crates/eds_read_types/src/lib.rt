@@ -9,8 +9,6 @@ mod base_graph;
 mod breaks;
 mod calibrator;
 mod component_reference;
-mod constraint_element;
-mod constraint_rules;
 mod duplicate_entry;
 mod element;
 mod emptiness;

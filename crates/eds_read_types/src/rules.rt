@@ -11,7 +11,6 @@ use crate::bad_encoding::BadEncoding;
 use crate::bad_enumeration::BadEnumeration;
 use crate::base_cycle::BaseCycle;
 use crate::breaks::{PlaceRule, TypeRule, least_over, least_over_types};
-use crate::constraint_rules::ConstraintRules;
 use crate::duplicate_entry::DuplicateEntry;
 use crate::empty_range::{EmptyRange, EmptySubRange};
 use crate::empty_type::EmptyType;
@@ -185,13 +184,7 @@ type Containers = And<
         AtRows<DuplicateEntry>,
         And<
             AtRows<AtParts<ListField>>,
-            And<
-                Lengths,
-                And<
-                    FixedValue,
-                    And<Checks, And<ConstraintRules, And<AtFaces<OpenInFace>, NoRule>>>,
-                >,
-            >,
+            And<Lengths, And<FixedValue, And<Checks, And<AtFaces<OpenInFace>, NoRule>>>>,
         >,
     >,
 >;

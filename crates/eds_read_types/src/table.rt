@@ -1,6 +1,6 @@
 //! The table of the types of a sheet.
 
-ghost use Rattle.std.specs.Prelude.{◌≡◌, ◌≤◌, ◌<◌, Ok, length, map, option_map, is_some, None, IfOk, IfSome};
+ghost use Rattle.std.specs.Prelude.{◌≡◌, ◌≤◌, ◌<◌, Ok, length, option_map, is_some, None, IfOk, IfSome};
 ghost use Rattle.eds_base.specs.Answering.{Answers};
 ghost use Rattle.eds_base.specs.Refusals.{least};
 ghost use Rattle.eds_tree.specs.ShapeCheck.{shape_verdict};
@@ -8,13 +8,9 @@ ghost use Rattle.eds_names.specs.LookUp.{names_in};
 ghost use Rattle.eds_read_types.specs.TableRows.{table_rows as table_rows_of};
 ghost use Rattle.eds_read_types.specs.TableBreaks.{table_breaks};
 ghost use Rattle.eds_nesting.specs.Families.{families as families_of, nesting as nesting_of, family_sizes as family_sizes_of, endless_met as endless_met_of};
-ghost use Rattle.eds_types.specs.Rows.{numbers};
-ghost use Rattle.eds_constraints.specs.ConstrainedRows.{AreRead, constraints_for};
-ghost use Rattle.eds_read_types.specs.SheetTable.{sheet_table};
 ghost use Rattle.eds_read_types.specs.TableRead.{typed_of, table_read};
 
 use crate::base_graph::{BaseGraph, bases_of, cycles_of};
-use crate::constraint_element::asked_lists;
 use crate::inner_reference::push_inner_types;
 use crate::named_trees::{NamedTrees, elements, type_places};
 use crate::reference::word_type;
@@ -23,13 +19,12 @@ use crate::sheet_rows::SheetRows;
 use crate::table_row::table_rows;
 use crate::used::used_types;
 use crate::value_kinds::{ValueKinds, value_kinds};
-use eds_base::{Fail, Items, Memory, Refusal, TypeId};
-use eds_constraints::{AskedOf, AskedRows, constrained_rows, constraints_of_all};
+use eds_base::{Fail, Memory, Refusal, TypeId};
 use eds_graph::Course;
 use eds_names::Space;
 use eds_nesting::{endless_met, families, family_sizes, nesting};
 use eds_tree::Trees;
-use eds_types::{Constraints, TypeRows, TypeTable, Used};
+use eds_types::{TypeRows, TypeTable, Used};
 use std::alloc::Global;
 
 /// What is read of the types of a sheet (CCSDS 876.0-B, data types).
@@ -44,37 +39,12 @@ pub struct SheetTypes {
     pub asked_type: Option<TypeId>,
 }
 
-/// For each type the constraints of its container, over the rows without them.
-fn constraints_in(
-    alloc: Global,
-    rows: &TypeRows,
-    lists: &[AskedOf],
-) -> Result<Items<Constraints>, Memory>
-    requires read { AreRead rows.now }
-    requires few { length lists.now ≤ length rows.now }
-    ensures { IfOk result (λ cs. cs ≡ map (constraints_for rows.now lists.now) (numbers rows.now)) }
-{
-    let asked = AskedRows::of(alloc, rows.as_slice(), lists)?;
-    constraints_of_all(alloc, &asked)
-}
-
-/// The rows of a sheet, with the constraints of their containers.
-fn with_constraints(alloc: Global, sheet: &NamedTrees, rows: TypeRows) -> Result<TypeRows, Memory>
-    requires { rows ≡ table_rows_of sheet.now.trees.now sheet.now.space.now }
-    ensures { IfOk result (λ t. t ≡ sheet_table sheet.now.trees.now sheet.now.space.now) }
-{
-    let lists = asked_lists(alloc, sheet)?;
-    let constraints = constraints_in(alloc, &rows, &lists)?;
-    constrained_rows(alloc, rows, constraints)
-}
-
 /// What is read of a sheet that breaks no rule, of which the rows are given.
 fn typed_of(alloc: Global, sheet: &NamedTrees, rows: TypeRows) -> Result<SheetTypes, Memory>
     requires read { rows ≡ table_rows_of sheet.now.trees.now sheet.now.space.now }
     requires unbroken { least (table_breaks sheet.now.trees.now sheet.now.space.now (option_map (λ w. w.now) sheet.now.asked)) ≡ None }
     ensures { IfOk result (λ t. t ≡ typed_of sheet.now.trees.now sheet.now.space.now (option_map (λ w. w.now) sheet.now.asked)) }
 {
-    let rows = with_constraints(alloc, sheet, rows)?;
     let asked_type = word_type(alloc, sheet)?;
     let mut used = used_types(alloc, &rows, asked_type)?;
     push_inner_types(alloc, &mut used, sheet)?;

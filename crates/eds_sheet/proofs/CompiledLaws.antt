@@ -9,7 +9,7 @@ use Rattle.eds_tree.specs.ShapeCheck.{shape_breaks, shape_verdict, unless_broken
 use Rattle.eds_names.specs.LookUp.{Names, names_in, names_of, duplicates, unless as names_unless}
 use Rattle.eds_read_types.specs.declared.table.SheetTypes.{SheetTypes}
 use Rattle.eds_read_types.specs.TableBreaks.{table_breaks}
-use Rattle.eds_read_types.specs.SheetTable.{sheet_table}
+use Rattle.eds_read_types.specs.TableRows.{table_rows}
 use Rattle.eds_read_comp.specs.Uses.{end_breaks, end_verdict}
 use Rattle.eds_read_types.specs.TableRead.{typed_of, unless as types_unless, table_read}
 use Rattle.eds_read_types.specs.Judging.{judged_first}
@@ -78,7 +78,7 @@ from-stop trees names typed =
 sheet-stop : (trees : List (List Node)) (names : Names) (word : Option (List ℕ)) → stop_of (table_read trees names word >>= λ typed. sheet_from trees names typed) ≡ least (typed_breaks trees names word)
 sheet-stop trees names word =
     let overlaps = overlap_breaks names (typed_of trees names word) in
-    let ends = end_breaks trees names (sheet_table trees names) in
+    let ends = end_breaks trees names (table_rows trees names) in
     stop_of-then (table_read trees names word) _ (or_then (least overlaps) (least ends))
     (λ typed h. subst (λ (s : SheetTypes). stop_of (sheet_from trees names s) ≡ or_then (least overlaps) (least ends)) (typed-is trees names word typed h) (from-stop trees names (typed_of trees names word)))
     ∙ ap (λ o. or_then o (or_then (least overlaps) (least ends))) (types-stop trees names word)

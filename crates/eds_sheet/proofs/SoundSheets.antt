@@ -13,8 +13,8 @@ use Rattle.eds_types.specs.Sizes.{open_of}
 use Rattle.eds_overlap.specs.Pairs.{Named}
 use Rattle.eds_read_types.specs.declared.table.SheetTypes.{SheetTypes}
 use Rattle.eds_read_types.specs.TableRead.{table_read}
-use Rattle.eds_read_types.proofs.TableFacts.{table_unbroken, table_word, table_closed, table_solid}
-use Rattle.eds_read_types.proofs.SheetTableFacts.{sheet_keeps}
+use Rattle.eds_read_types.proofs.TableFacts.{table_unbroken, table_word, table_closed}
+use Rattle.eds_read_types.proofs.TableRules.{table_keeps}
 use Rattle.eds_read_comp.specs.Uses.{end_verdict}
 use Rattle.eds_sheet.specs.declared.sheet.Sheet.{Sheet}
 use Rattle.eds_sheet.specs.Files.{trees_in}
@@ -34,12 +34,11 @@ typed-sound : (trees : List (List Node)) (word : Option (List ℕ)) (names : Nam
 typed-sound trees word names typed shaped named read apart =
     let unbroken = table_unbroken trees names word typed read in
     let known = table_word trees names word typed read in
-    let keeps : KeepsRules typed.table = subst (λ (t : SheetTypes). KeepsRules t.table) unbroken.1 (sheet_keeps trees names word shaped named unbroken.0) in
+    let keeps : KeepsRules typed.table = subst (λ (t : SheetTypes). KeepsRules t.table) unbroken.1 (table_keeps trees names word shaped named unbroken.0) in
     record {
       rules = keeps;
       named = known.0;
       clear = word_clear trees names word typed unbroken.1 keeps apart (table_closed trees names word named typed read);
-      solid = table_solid trees names word named typed read;
       asked = known.1;
     }
 

@@ -29,7 +29,7 @@ use Rattle.eds_read_types.specs.declared.table.SheetTypes.{SheetTypes}
 use Rattle.eds_read_types.specs.InnerReferences.{inner_types}
 use Rattle.eds_read_types.specs.ReadTypes.{word_type}
 use Rattle.eds_read_types.specs.TableRead.{typed_of}
-use Rattle.eds_read_types.specs.SheetTable.{sheet_table}
+use Rattle.eds_read_types.specs.TableRows.{table_rows}
 use Rattle.eds_read_types.specs.Used.{optional, part_type, part_types, types_named, is_open_id, used_types}
 use Rattle.eds_sheet.specs.Overlaps.{overlap_refused, broken_by, overlap_verdict}
 
@@ -74,7 +74,7 @@ has xs x h = let k = has_of_one (λ y. y ≡ x) xs h in subst (Has xs) k.2 k.1
 
 module _ (trees : List (List Node)) (names : Names) (word : Option (List ℕ)) where
   abbrev rows : Table
-  rows = sheet_table trees names
+  rows = table_rows trees names
 
   abbrev used : List TypeId
   used = (typed_of trees names word).used

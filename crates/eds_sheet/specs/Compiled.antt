@@ -12,7 +12,7 @@ use Rattle.eds_read_types.specs.declared.table.SheetTypes.{SheetTypes}
 use Rattle.eds_read_types.specs.Judging.{judged_first}
 use Rattle.eds_read_types.specs.TableBreaks.{table_breaks}
 use Rattle.eds_read_types.specs.TableRead.{typed_of, table_read}
-use Rattle.eds_read_types.specs.SheetTable.{sheet_table}
+use Rattle.eds_read_types.specs.TableRows.{table_rows}
 use Rattle.eds_read_comp.specs.Uses.{end_breaks, end_verdict}
 use Rattle.eds_sheet.specs.declared.sheet.Counts.{Counts}
 use Rattle.eds_sheet.specs.declared.sheet.Sheet.{Sheet}
@@ -28,7 +28,7 @@ use Rattle.eds_sheet.specs.Pending.{pending_breaks, pending_verdict}
 abbrev pub typed_breaks : List (List Node) → Names → (word : Option (List ℕ)) → List Refusal
 typed_breaks trees names word =
     judged_first (table_breaks trees names word)
-    (judged_first (overlap_breaks names (typed_of trees names word)) (end_breaks trees names (sheet_table trees names)))
+    (judged_first (overlap_breaks names (typed_of trees names word)) (end_breaks trees names (table_rows trees names)))
 
 -- All that some trees break, each stage judged only where the stages before it are not broken: the elements and their
 -- attributes, what is not compiled yet, the names, the references and the types, containers that overlap, and then the

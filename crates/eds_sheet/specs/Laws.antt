@@ -2,7 +2,7 @@
 use Rattle.std.specs.Prelude.{◌≡◌, ℕ, ◌<◌, List, length, Option, None, Ok, IfSome, is_some}
 use Rattle.eds_tree.specs.declared.tree.Node.{Node}
 use Rattle.eds_names.specs.LookUp.{Names, names_in}
-use Rattle.eds_types.specs.Rules.{IsHollow, KeepsRules}
+use Rattle.eds_types.specs.Rules.{KeepsRules}
 use Rattle.eds_types.specs.Overlap.{IsClear}
 use Rattle.eds_types.specs.Sizes.{open_of}
 use Rattle.eds_overlap.specs.Pairs.{Named}
@@ -12,13 +12,11 @@ use Rattle.eds_sheet.specs.declared.sheet.Sheet.{Sheet}
 use Rattle.eds_sheet.specs.Files.{trees_in}
 use Rattle.eds_sheet.specs.Compiled.{compiled}
 
--- The table keeps the rules on types; where a word was given, the type that it names is in the table, is clear, and has no
--- spelling of no bits.
+-- The table keeps the rules on types; where a word was given, the type that it names is in the table, and is clear.
 pub record IsSound (word : Option (List ℕ)) (sheet : Sheet) : Type 0 where
   pub rules : KeepsRules sheet.table
   pub named : IfSome sheet.asked_type (λ id. id.0 < length sheet.table)
   pub clear : IfSome sheet.asked_type (λ id. IsClear sheet.table id.0)
-  pub solid : IfSome sheet.asked_type (λ id. IsHollow sheet.table id.0 → ⊥)
   pub asked : is_some sheet.asked_type ≡ is_some word
 
 -- so is every sheet that is compiled

@@ -4,7 +4,6 @@ ghost use Rattle.std.specs.Prelude.{◌≡◌, ◌≤◌, ◌<◌, ◌^◌, leng
 ghost use Rattle.std.specs.List.{All};
 ghost use Rattle.eds_base.specs.Answering.{Answers};
 ghost use Rattle.eds_types.specs.Overlap.{IsClear};
-ghost use Rattle.eds_types.specs.Rules.{IsHollow};
 ghost use Rattle.eds_sheet.specs.Compiled.{is_container as container, counts_of as counted, compiled};
 
 use crate::files::{Files, read_trees};
@@ -113,7 +112,6 @@ pub fn compile(alloc: Global, files: &Files, extra: Option<&str>) -> Result<Shee
     ensures word { IfOk result (λ s. IfSome s.asked_type (λ id. id.0 < length s.table)) }
     ensures asked { IfOk result (λ s. is_some s.asked_type ≡ is_some extra.entry) }
     ensures clear { IfOk result (λ s. IfSome s.asked_type (λ id. IsClear s.table id.0)) }
-    ensures solid { IfOk result (λ s. IfSome s.asked_type (λ id. ¬ (IsHollow s.table id.0))) }
 {
     sheet_of(alloc, files, extra)
 }

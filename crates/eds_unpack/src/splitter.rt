@@ -16,6 +16,7 @@ use std::alloc::Global;
 use std::marker::Model;
 
 /// What became of a piece of octets.
+#[derive(Clone, Copy, Debug, PartialEq, Eq)]
 pub enum Fed {
     /// All of it is held.
     Took,

@@ -1,5 +1,6 @@
-use Rattle.std.proofs.Common.{arith, length}
+use Rattle.std.proofs.Common.{◌++◌, ◌∷◌, [], ◌-◌, ap, sym, ◌∙◌, append_assoc, arith, length, suc}
 use Rattle.eds_host.specs.Machines.{unstarted}
+use Rattle.eds_host.specs.Runs.{all_fresh}
 use Rattle.eds_host.specs.Systems.{state_now}
 use Rattle.eds_host.proofs.Beginnings.{fresh_next}
 use Rattle.eds_host.proofs.beginning.all_fresh.Goals as goal

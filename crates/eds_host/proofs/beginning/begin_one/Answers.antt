@@ -1,4 +1,4 @@
-use Rattle.std.proofs.Common.{◌∷◌, [], None, arith, ap, sym, subst, length, length-append, List}
+use Rattle.std.proofs.Common.{◌++◌, ◌∷◌, [], None, Option, ℕ, arith, ap, sym, subst, ◌∙◌, length, length-append, List}
 use Rattle.eds_host.specs.Plans.{AreBegun}
 use Rattle.eds_host.specs.Settings.{running}
 use Rattle.eds_host.specs.Systems.{StateNow, state_now}

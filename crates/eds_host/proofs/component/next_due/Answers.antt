@@ -1,3 +1,4 @@
+use Rattle.std.proofs.Common.{arith}
 use Rattle.eds_plan.specs.Plans.{component_at}
 use Rattle.eds_plan.specs.Fitting.{ComponentFits}
 use Rattle.eds_act.specs.Does.{Conforms}

@@ -1,6 +1,7 @@
-use Rattle.std.proofs.Common.{ap, sym, subst, ◌∙◌, [], List, refl}
+use Rattle.std.proofs.Common.{ap, sym, subst, map, ◌∙◌, [], List, refl}
 use Rattle.eds_types.specs.PackedSizes.{packs}
 use Rattle.eds_plan.specs.Plans.{component_at}
+use Rattle.eds_plan.specs.Sends.{sent}
 use Rattle.eds_plan.specs.Fitting.{ComponentFits}
 use Rattle.eds_plan.specs.declared.run.MachineState.{MachineState}
 use Rattle.eds_plan.specs.declared.run.Send.{Send}

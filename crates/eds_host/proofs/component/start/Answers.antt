@@ -1,8 +1,9 @@
-use Rattle.std.proofs.Common.{ap, arith, sym, subst, map, ◌∙◌, [], List}
+use Rattle.std.proofs.Common.{ap, arith, sym, subst, map, ◌∙◌, [], List, ◌^◌}
 use Rattle.eds_types.specs.PackedSizes.{packs}
 use Rattle.eds_plan.specs.Plans.{component_at}
 use Rattle.eds_plan.specs.Sends.{sent}
 use Rattle.eds_plan.specs.Fitting.{ComponentFits}
+use Rattle.eds_plan.specs.declared.machine.Machine.{Machine}
 use Rattle.eds_plan.specs.declared.run.MachineState.{MachineState}
 use Rattle.eds_plan.specs.declared.run.Send.{Send}
 use Rattle.eds_act.specs.Does.{Conforms}

@@ -1,3 +1,4 @@
+use Rattle.std.proofs.Common.{◌≡◌, Option, Some, None, sym, ap, subst, ◌∙◌, arith}
 use Rattle.eds_host.proofs.Dueness.{due_known, due_waits, due_later, due_states, due_before, due_rests, bound_late, weaker}
 use Rattle.eds_host.specs.Settings.{running, bound}
 use Rattle.eds_host.proofs.going.due_now.Goals as goal

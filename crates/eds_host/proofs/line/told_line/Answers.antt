@@ -1,4 +1,4 @@
-use Rattle.std.proofs.Common.{refl, sym, subst, ap, map}
+use Rattle.std.proofs.Common.{refl, sym, subst, ap, map, ◌∙◌, List, [], ◌≡◌}
 use Rattle.std.specs.Prelude.{IfOk}
 use Rattle.eds_plan.specs.Lines.{told}
 use Rattle.eds_plan.specs.Outs.{Signal, report, signal}

@@ -5,8 +5,6 @@ use Rattle.eds_read_act.specs.Scopes.{scope_of}
 use Rattle.eds_read_act.proofs.bad_reference.least_bad_reference.Goals as goal
 
 pub loop-link-preserved : goal.loop-link-preserved
-loop-link-preserved c = record {
-  given = c.in_ok-given.ensures;
-  least = least-next (bad_reference_at c.args.file (scope_of c.args.scope.now)) c.args.links.now c.loop-link.link-index _ c.loop-link.found c.in_ok-here.here c.first-found.result _ (omega arith)
-      c.in_ok-here.ensures c.first-found.ensures.first c.loop-link.invariant.least;
-}
+loop-link-preserved c =
+    least-next (bad_reference_at c.args.file (scope_of c.args.scope.now)) c.args.links.now c.loop-link.link-index _ c.loop-link.found c.in_ok-here.here c.first-found.result _ (omega arith)
+    c.in_ok-here.ensures c.first-found.ensures.first c.loop-link.invariant

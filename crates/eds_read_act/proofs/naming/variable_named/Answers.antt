@@ -1,17 +1,11 @@
-use Rattle.std.proofs.Common.{Some, ap, ◌∙◌, sym, option_map}
+use Rattle.std.proofs.Common.{Some, ap, ◌∙◌, option_map}
 use Rattle.eds_read_act.specs.declared.variable.VariableHead.{VariableHead}
-use Rattle.eds_read_act.specs.Naming.{whole}
-use Rattle.eds_read_act.proofs.Numbering.{item_named-map}
+use Rattle.eds_read_act.specs.Naming.{as_field, whole}
+use Rattle.eds_read_act.proofs.Numbering.{numbered-map}
 use Rattle.eds_read_act.proofs.naming.variable_named.Goals as goal
 
--- a variable is found as the field of its name and type
 pub returns-in-None : goal.returns-in-None
-returns-in-None c =
-    ap (λ o. option_map whole (option_map (λ p. (p.0, (p.1.name, p.1.id))) o)) c.in-None.ensures
-    ∙ sym (ap (option_map whole) (item_named-map (λ (x : VariableHead). (x.name, x.id)) (λ f. f.0) c.args.component.now.variables.now c.args.name.now))
+returns-in-None c = ap (option_map whole) (c.in-None.ensures ∙ numbered-map (λ (x : VariableHead). (x.name, x.id)) (as_field c.args.name.now) 0 c.args.variables.now)
 
 pub returns-in-Some : goal.returns-in-Some
-returns-in-Some c =
-    ap Some c.whole.ensures
-    ∙ ap (λ o. option_map whole (option_map (λ p. (p.0, (p.1.name, p.1.id))) o)) c.in-Some.ensures
-    ∙ sym (ap (option_map whole) (item_named-map (λ (x : VariableHead). (x.name, x.id)) (λ f. f.0) c.args.component.now.variables.now c.args.name.now))
+returns-in-Some c = ap Some c.whole.ensures ∙ ap (option_map whole) (c.in-Some.ensures ∙ numbered-map (λ (x : VariableHead). (x.name, x.id)) (as_field c.args.name.now) 0 c.args.variables.now)

@@ -1,4 +1,5 @@
-use Rattle.std.proofs.Common.{rules, ◌≡◌, ◌∙◌, ◌+◌, length, subst, suc, sym, arith}
+use Rattle.std.proofs.Common.{rules, ◌≡◌, ◌∙◌, ◌+◌, add-one, ap, length, subst, suc, sym, arith}
+use Rattle.eds_graph.specs.Reaching.{mark}
 use Rattle.eds_read_types.specs.Kin.{AreMarks}
 use Rattle.eds_read_types.specs.Faults.{reaches_fault}
 use Rattle.eds_read_types.proofs.KinFacts.{all-unmarked}

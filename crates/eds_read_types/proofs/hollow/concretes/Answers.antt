@@ -1,4 +1,5 @@
-use Rattle.std.proofs.Common.{◌≡◌, length, subst, arith}
+use Rattle.std.proofs.Common.{◌≡◌, ◌||◌, length, subst, arith}
+use Rattle.std.specs.List.{list_any}
 use Rattle.eds_types.specs.Rows.{is_concrete}
 use Rattle.eds_read_types.specs.Kin.{AreMarks}
 use Rattle.eds_read_types.proofs.KinFacts.{marks-none, marks-next}

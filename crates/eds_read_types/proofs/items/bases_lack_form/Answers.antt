@@ -1,4 +1,4 @@
-use Rattle.std.proofs.Common.{rules, ◌∙◌, sym, arith}
+use Rattle.std.proofs.Common.{rules, ℕ, Bool, ◌∙◌, sym, arith}
 use Rattle.eds_read_types.specs.Items.{lacks_own_form}
 use Rattle.eds_read_types.proofs.BaseSteps.{any-none, any-end, any-hit, any-skip}
 use Rattle.eds_read_types.proofs.items.bases_lack_form.Goals as goal

@@ -1,4 +1,4 @@
-use Rattle.std.proofs.Common.{rules, arith}
+use Rattle.std.proofs.Common.{rules, ◌∙◌, arith}
 use Rattle.eds_read_types.proofs.ItemFacts.{chain-end, chain-none, chain-next}
 use Rattle.eds_read_types.proofs.items.chain_above.Goals as goal
 

@@ -1,4 +1,4 @@
-use Rattle.std.proofs.Common.{◌≡◌, ◌++◌, ◌∷◌}
+use Rattle.std.proofs.Common.{◌≡◌, ◌++◌, ◌∷◌, ◌≤◌, length}
 use Rattle.eds_read_types.specs.Bases.{bases_within, all_bases}
 use Rattle.eds_read_types.proofs.items.chain_above.Given as goal
 

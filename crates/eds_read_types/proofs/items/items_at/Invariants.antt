@@ -1,4 +1,4 @@
-use Rattle.std.proofs.Common.{◌≡◌, map, drop, option_map}
+use Rattle.std.proofs.Common.{◌≡◌, ◌≤◌, map, drop, option_map}
 use Rattle.eds_read_types.specs.Items.{few, product_with, dimension_at}
 use Rattle.eds_read_types.proofs.items.items_at.Given as goal
 

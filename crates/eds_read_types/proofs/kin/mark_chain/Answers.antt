@@ -1,4 +1,4 @@
-use Rattle.std.proofs.Common.{◌-◌, ◌||◌, ◌&&◌, ◌==◌, ◌∙◌, ap, not, sym, arith}
+use Rattle.std.proofs.Common.{◌≡◌, ◌<◌, ◌-◌, ◌||◌, ◌&&◌, ◌==◌, ◌∙◌, ap, length, not, sym, arith}
 use Rattle.eds_graph.specs.Reaching.{mark}
 use Rattle.eds_types.specs.Rows.{number_of_id, chain_within, list_has}
 use Rattle.eds_read_types.proofs.KinFacts.{over-on, over-end, over-none}

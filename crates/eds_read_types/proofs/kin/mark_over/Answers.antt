@@ -1,4 +1,4 @@
-use Rattle.std.proofs.Common.{◌==◌, ◌∙◌, not}
+use Rattle.std.proofs.Common.{◌||◌, ◌==◌, ◌∙◌, not}
 use Rattle.std.proofs.lemmas.Bool.{eq-eqb}
 use Rattle.eds_graph.specs.Reaching.{mark}
 use Rattle.eds_read_types.proofs.KinFacts.{unlike, set-own, set-other, set-none}

@@ -2,7 +2,7 @@ use Rattle.std.proofs.Common.{rules, ◌≡◌, ◌&&◌, ◌∙◌, length, sub
 use Rattle.std.specs.List.{list_any, range_with_len}
 use Rattle.eds_graph.specs.Reaching.{mark}
 use Rattle.eds_read_types.specs.Kin.{AreMarks, is_over}
-use Rattle.eds_read_types.proofs.KinFacts.{all-unmarked, above-none, under-given}
+use Rattle.eds_read_types.proofs.KinFacts.{all-unmarked, above-none, above-next, under-given}
 use Rattle.eds_read_types.proofs.kin.marks_above.Goals as goal
 
 pub loop-id-init : goal.loop-id-init

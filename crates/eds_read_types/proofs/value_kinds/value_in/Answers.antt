@@ -1,4 +1,8 @@
+use Rattle.std.proofs.Common.{ap, sym, ◌∙◌}
+use Rattle.eds_base.specs.Reading.{◌>>=◌}
+use Rattle.eds_types.specs.TextValues.{text_value_of}
 use Rattle.eds_read_types.proofs.FixedFacts.{kind-known}
+use Rattle.eds_read_types.proofs.NumberSteps.{ok-is}
 use Rattle.eds_read_types.proofs.value_kinds.value_in.Goals as goal
 
 pub returns-in-Some : goal.returns-in-Some

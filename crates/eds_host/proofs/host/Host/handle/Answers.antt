@@ -1,3 +1,5 @@
+use Rattle.std.proofs.Common.{refl, subst, sym}
+use Rattle.eds_host.proofs.Handling.{fresh_told, rests_told}
 use Rattle.eds_host.proofs.host.Host.handle.Goals as goal
 
 -- the setting that `any_line` is handed

@@ -1,4 +1,4 @@
-use Rattle.std.proofs.Common.{refl, ap, ◌∙◌, length}
+use Rattle.std.proofs.Common.{refl, sym, ap, subst, ◌∙◌, length}
 use Rattle.std.specs.Prelude.{map}
 use Rattle.eds_host.specs.Hosts.{asked_by}
 use Rattle.eds_host.specs.Machines.{unstarted}

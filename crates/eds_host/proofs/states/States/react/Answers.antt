@@ -1,7 +1,8 @@
-use Rattle.std.proofs.Common.{arith, sym, ap, ◌∙◌, length}
+use Rattle.std.proofs.Common.{arith, subst, sym, ap, ◌∙◌, length}
 use Rattle.std.specs.Prelude.{slice_set}
 use Rattle.eds_host.specs.Comings.{coming}
-use Rattle.eds_host.specs.Machines.{reacted}
+use Rattle.eds_host.specs.Machines.{reacted, IsStateOf}
+use Rattle.eds_host.specs.Plans.{MayCome}
 use Rattle.eds_host.proofs.Standing.{reacted_state, reacted_sends, reacted_keeps, reacted_later, plain_length, set_length}
 use Rattle.eds_host.proofs.states.States.react.Goals as goal
 

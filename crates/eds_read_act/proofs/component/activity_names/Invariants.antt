@@ -1,6 +1,0 @@
-use Rattle.std.proofs.Common.{◌≡◌, ◌++◌, map, drop}
-use Rattle.eds_read_act.specs.declared.component.Head.{Head}
-use Rattle.eds_read_act.proofs.component.activity_names.Given as goal
-
-abbrev pub invariant-loop-activity : goal.invariant-loop-activity
-invariant-loop-activity l = l.names.items ++ map (λ (h : Head). h.name) (drop l.activity-index l.activities) ≡ map (λ (h : Head). h.name) l.activities
