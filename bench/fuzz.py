@@ -184,7 +184,7 @@ class Maker:
     def changed_value(self, value):
         dice = self.dice
         for _ in range(dice.choice([0, 1, 2])):
-            at = dice.choice(sorted(value))
+            at = dice.choice(sorted(value) or ["a"])
             value[at] = dice.choice([0, -1, 2**64, 2**64 - 1, 1.5, "", "ON", "00ff", True, None, [], [1, 2], {}, copy.copy(value)])
         return json.dumps(value).encode()
 
@@ -208,14 +208,14 @@ class Maker:
             if files:
                 name = self.dice.choice(sorted(files))
                 return words, {**files, name: self.changed(files[name])}
-        command = self.dice.choice(["check", "unpack", "pack"])
+        command = self.dice.choice(["check", "unpack", "pack", "split"])
         is_whole = command != "check" and self.dice.random() < 0.6
         sheets = [self.sheet(is_whole) for _ in range(self.dice.choice([1, 1, 1, 2]))]
         files = {f"s{at}": sheet for at, sheet in enumerate(sheets)}
         if command == "check":
             return ["check", *files], files
         words = [command, self.type_of(sheets).replace("\0", ""), "input", *files]
-        return words, {**files, "input": self.frame() if command == "unpack" else self.value()}
+        return words, {**files, "input": self.value() if command == "pack" else self.frame()}
 
 
 def run(program, words, room):
