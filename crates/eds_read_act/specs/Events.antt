@@ -51,6 +51,7 @@ carried_if s (Some e) = carried_at s e
 
 -- ---- what an event lacks
 
+-- an end, where there is one, is provided
 abbrev pub is_provided : Option (ℕ × EndPlan) → Bool
 is_provided None = false
 is_provided (Some e) = not (e.1).required
@@ -59,6 +60,7 @@ is_provided (Some e) = not (e.1).required
 abbrev pub lacks_operation : Scope → ℕ → Bool
 lacks_operation s e = is_named s.tree (codes "OnParameterPrimitive") e && (is_provided (end_of s e) && is_none (attribute_at s.tree e (codes "operation")))
 
+-- the same of an event that may be there
 abbrev pub lacks_operation_if : Scope → Option ℕ → Bool
 lacks_operation_if s None = false
 lacks_operation_if s (Some e) = lacks_operation s e
@@ -85,10 +87,12 @@ is_bad_timer t e = is_named t (codes "OnTimer") e && is_none (nanoseconds_at t e
 abbrev pub op_arriving : List ℕ → Held → Op
 op_arriving operation p = if p.required then op.Val else if same operation (codes "set") then op.Set else op.Get
 
+-- a command that arrives, by its end and its place among the members
 abbrev pub command_trigger : Option Taker → Trigger
 command_trigger None = trigger.Command 0 0
 command_trigger (Some c) = trigger.Command c.end c.member
 
+-- a parameter that arrives, by its end, its place and what is asked of it
 abbrev pub parameter_trigger : List ℕ → Option Held → Trigger
 parameter_trigger operation None = trigger.Param 0 0 op.Get
 parameter_trigger operation (Some p) = trigger.Param p.end p.member (op_arriving operation p)

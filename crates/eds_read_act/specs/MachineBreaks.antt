@@ -61,6 +61,7 @@ transition_breaks file s machine x =
 abbrev pub action_breaks : (file : ℕ) → Scope → ℕ → List Refusal
 action_breaks file s n = bad_references_in file (with_arguments s []) n ++ mismatches_in file (with_arguments s []) n
 
+-- the same of both actions of a state
 abbrev pub state_breaks : (file : ℕ) → Scope → (state : ℕ) → List Refusal
 state_breaks file s state = flat_map (action_breaks file s) (state_actions s.tree state)
 

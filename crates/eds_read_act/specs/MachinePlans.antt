@@ -19,6 +19,7 @@ use Rattle.eds_read_act.specs.Scopes.{Scope, with_arguments}
 
 -- ---- plain data: a guard is its condition
 
+-- a transition from a state to a state, the states by their places: what it waits for, when it is enabled, and what it does
 pub record PlannedTransition : Type 0 where
   pub from : ℕ
   pub to : ℕ
@@ -27,15 +28,18 @@ pub record PlannedTransition : Type 0 where
   pub guard : Option Condition
   pub action : Option Action
 
+-- a state machine: its states, the one that it begins in, and its transitions in document order
 pub record PlannedMachine : Type 0 where
   pub name : List ℕ
   pub states : List State
   pub entry : ℕ
   pub transitions : List PlannedTransition
 
+-- a transition of a plan, so seen
 abbrev pub planned_transition : Transition → PlannedTransition
 planned_transition x = record { from = x.from; to = x.to; event = x.event; transaction = x.transaction; guard = option_map condition x.guard; action = x.action }
 
+-- a state machine of a plan, so seen
 abbrev pub planned_machine : Machine → PlannedMachine
 planned_machine m = record { name = m.name; states = m.states; entry = m.entry; transitions = map planned_transition m.transitions }
 

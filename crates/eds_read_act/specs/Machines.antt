@@ -36,6 +36,7 @@ entry_states t machine = filter (is_named t (codes "EntryState")) (children_at t
 abbrev pub is_state_action : List Node → ℕ → Bool
 is_state_action t n = is_named t (codes "OnEntry") n || is_named t (codes "OnExit") n
 
+-- those of one state
 abbrev pub state_actions : List Node → (state : ℕ) → List ℕ
 state_actions t state = filter (is_state_action t) (children_at t state)
 
@@ -57,5 +58,6 @@ event_of t transition = first_where (is_event t) (children_at t transition)
 abbrev pub is_guard_or_do : List Node → ℕ → Bool
 is_guard_or_do t n = is_named t (codes "Guard") n || is_named t (codes "Do") n
 
+-- those of one transition
 abbrev pub guarded_and_done : List Node → (transition : ℕ) → List ℕ
 guarded_and_done t transition = filter (is_guard_or_do t) (children_at t transition)

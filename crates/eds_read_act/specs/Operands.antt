@@ -82,6 +82,7 @@ abbrev pub is_unknown_as : ActivitySort → Scope → Bool
 is_unknown_as sort.ArgumentRef s = is_none s.arguments
 is_unknown_as k s = false
 
+-- the same of an element, whatever it is
 abbrev pub is_unknown : Scope → ℕ → Bool
 is_unknown s n = is_unknown_as (sort_at s.tree n) s
 

@@ -38,5 +38,6 @@ abbrev pub AllDiffer : List (List ℕ) → Type 0
 AllDiffer [] = Unit {0}
 AllDiffer (x ∷ xs) = (is_among xs x ≡ false) × AllDiffer xs
 
+-- no transaction of a component is listed twice
 abbrev pub NoNameTwice : Type 0
 NoNameTwice = (t : List Node) (n : ℕ) → AllDiffer (transactions_of t n)

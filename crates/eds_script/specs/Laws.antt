@@ -36,6 +36,7 @@ MemberReads t l s None = Unit {0}
 MemberReads t l s (Some (member.Parameter name id read_only)) = (v : Plain) → slice_get s.arguments 0 ≡ Some v → value_in t id.0 (json_text t v) ≡ Ok v
 MemberReads t l s (Some (member.Command name args)) = ArgumentsRead (frame_type l (carried_fields s.way args)) t (carried_fields s.way args) s.arguments
 
+-- the same at the end where it was sent
 abbrev pub SentReads : Table → Signal → Option EndPlan → Type 0
 SentReads t s None = Unit {0}
 SentReads t s (Some e) = MemberReads t e.level s (member_in (Some e) s.member)

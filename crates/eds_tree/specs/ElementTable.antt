@@ -14,156 +14,207 @@ attribute name form = record { name = codes name; form = form }
 abbrev words : List String → TextForm
 words ws = Word (map codes ws)
 
+-- a container or an interface is only there to be derived from
 abbrev pub abstract : AttributeRow
 abstract = attribute "abstract" Flag
 
+-- the activity that is called, by its name in the component
 abbrev pub activity : AttributeRow
 activity = attribute "activity" Name
 
+-- an argument of the activity, or an entry within it
 abbrev pub argumentRef : AttributeRow
 argumentRef = attribute "argumentRef" Path
 
+-- the way that an argument goes: to the provider, back from it, or both
 abbrev pub argument_mode : AttributeRow
 argument_mode = attribute "mode" (words ("in" ∷ "out" ∷ "inout" ∷ "notify" ∷ []))
 
+-- the type that is derived from
 abbrev pub baseType : AttributeRow
 baseType = attribute "baseType" Reference
 
+-- the order of the octets of a number
 abbrev pub byteOrder : AttributeRow
 byteOrder = attribute "byteOrder" (words ("bigEndian" ∷ "littleEndian" ∷ []))
 
+-- what a term of a polynomial multiplies by
 abbrev pub coefficient : AttributeRow
 coefficient = attribute "coefficient" Whole
 
+-- a command of an interface
 abbrev pub command : AttributeRow
 command = attribute "command" Name
 
+-- the type of the items of an array
 abbrev pub dataTypeRef : AttributeRow
 dataTypeRef = attribute "dataTypeRef" Reference
 
+-- the entry that a constraint asks, within a container or the containers in it
 abbrev pub entry : AttributeRow
 entry = attribute "entry" Path
 
+-- how the error control of a packet is worked out
 abbrev pub errorControlType : AttributeRow
 errorControlType = attribute "errorControlType" (words ("CHECKSUM" ∷ "CHECKSUM_LONGITUDINAL" ∷ "CRC8" ∷ "CRC16_CCITT" ∷ []))
 
+-- the power in a term of a polynomial
 abbrev pub exponent : AttributeRow
 exponent = attribute "exponent" Whole
 
+-- whether a Boolean is false where its number is zero, or where it is another
 abbrev pub falseValue : AttributeRow
 falseValue = attribute "falseValue" (words ("zeroIsFalse" ∷ "nonZeroIsFalse" ∷ []))
 
+-- whether a text takes all its octets
 abbrev pub fixedLength : AttributeRow
 fixedLength = attribute "fixedLength" Flag
 
+-- whether a binary takes all its bits
 abbrev pub fixedSize : AttributeRow
 fixedSize = attribute "fixedSize" Flag
 
+-- the value of an entry that is always the same
 abbrev pub fixedValue : AttributeRow
 fixedValue = attribute "fixedValue" Text
 
+-- the state that a transition leaves
 abbrev pub fromState : AttributeRow
 fromState = attribute "fromState" Name
 
+-- the type whose values count the items of an array
 abbrev pub indexTypeRef : AttributeRow
 indexTypeRef = attribute "indexTypeRef" Reference
 
+-- what a variable begins with
 abbrev pub initialValue : AttributeRow
 initialValue = attribute "initialValue" Text
 
+-- how the bits of a number are written
 abbrev pub integer_encoding : AttributeRow
 integer_encoding = attribute "encoding" (words ("unsigned" ∷ "twosComplement" ∷ "signMagnitude" ∷ "onesComplement" ∷ "packedBCD" ∷ "BCD" ∷ []))
 
+-- an end of the component, by its name
 abbrev pub interface : AttributeRow
 interface = attribute "interface" Name
 
+-- the variable that an iteration counts with
 abbrev pub iteratorVariableRef : AttributeRow
 iteratorVariableRef = attribute "iteratorVariableRef" Name
 
+-- a word of an enumeration
 abbrev pub label : AttributeRow
 label = attribute "label" Text
 
+-- the most octets of a text
 abbrev pub length : AttributeRow
 length = attribute "length" (Between 1 65536)
 
+-- the layer of an interface: from the application down to the subnetwork
 abbrev pub level : AttributeRow
 level = attribute "level" (words ("application" ∷ "functional" ∷ "access" ∷ "subnetwork" ∷ []))
 
+-- the entry that tells how often a list repeats
 abbrev pub listLengthField : AttributeRow
 listLengthField = attribute "listLengthField" Name
 
+-- the upper end of a range
 abbrev pub max : AttributeRow
 max = attribute "max" Whole
 
+-- the lower end of a range
 abbrev pub min : AttributeRow
 min = attribute "min" Whole
 
+-- whether a command or parameter is asked for, or comes by itself
 abbrev pub mode : AttributeRow
 mode = attribute "mode" (words ("sync" ∷ "async" ∷ []))
 
+-- the name of what an element declares or gives a value to
 abbrev pub name : AttributeRow
 name = attribute "name" Name
 
+-- when a timer fires, counted from the moment the state was entered
 abbrev pub nanosecondsAfterEntry : AttributeRow
 nanosecondsAfterEntry = attribute "nanosecondsAfterEntry" Whole
 
+-- whether a parameter is asked for or set
 abbrev pub operation : AttributeRow
 operation = attribute "operation" (words ("get" ∷ "set" ∷ []))
 
+-- one step of a calculation on a stack of numbers
 abbrev pub operator : AttributeRow
 operator = attribute "operator" (words ("add" ∷ "subtract" ∷ "multiply" ∷ []))
 
+-- the variable, or the entry within it, that is written
 abbrev pub outputVariableRef : AttributeRow
 outputVariableRef = attribute "outputVariableRef" Path
 
+-- the name of a package, or of packages around it
 abbrev pub package_name : AttributeRow
 package_name = attribute "name" PackageName
 
+-- a parameter of an interface
 abbrev pub parameter : AttributeRow
 parameter = attribute "parameter" Name
 
+-- which ends a range has, and whether these lie in it
 abbrev pub rangeType : AttributeRow
 rangeType = attribute "rangeType" (words ("inclusiveMinInclusiveMax" ∷ "inclusiveMinExclusiveMax" ∷ "exclusiveMinInclusiveMax" ∷ "exclusiveMinExclusiveMax" ∷ "atLeast" ∷ "greaterThan" ∷ "atMost" ∷ "lessThan" ∷ []))
 
+-- whether a parameter or variable is never set
 abbrev pub readOnly : AttributeRow
 readOnly = attribute "readOnly" Flag
 
+-- how two operands are compared
 abbrev pub relation : AttributeRow
 relation = attribute "operator" (words ("==" ∷ "!=" ∷ "<" ∷ "<=" ∷ ">" ∷ ">=" ∷ []))
 
+-- how many items an array has
 abbrev pub size : AttributeRow
 size = attribute "size" (AtLeast 1)
 
+-- the bits that a number takes
 abbrev pub sizeInBits : AttributeRow
 sizeInBits = attribute "sizeInBits" Whole
 
+-- the octet behind a text that is shorter than its length
 abbrev pub terminationCharacter : AttributeRow
 terminationCharacter = attribute "terminationCharacter" (Between 0 127)
 
+-- the octets of a text's characters
 abbrev pub text_encoding : AttributeRow
 text_encoding = attribute "encoding" (words ("ASCII" ∷ "UTF-8" ∷ []))
 
+-- the state that a transition enters
 abbrev pub toState : AttributeRow
 toState = attribute "toState" Name
 
+-- the transaction that a primitive belongs to
 abbrev pub transaction : AttributeRow
 transaction = attribute "transaction" Name
 
+-- a type, by its name
 abbrev pub type_ : AttributeRow
 type_ = attribute "type" Reference
 
+-- a value, as a text
 abbrev pub value : AttributeRow
 value = attribute "value" Text
 
+-- a variable, or an entry within it
 abbrev pub variableRef : AttributeRow
 variableRef = attribute "variableRef" Path
 
+-- a variable that stands for a parameter
 abbrev pub variable_name : AttributeRow
 variable_name = attribute "variableRef" Name
 
+-- the bits of a binary, or of what is left between entries
 abbrev pub bounded_bits : AttributeRow
 bounded_bits = attribute "sizeInBits" (Between 1 524288)
 
+-- the number of a word of an enumeration
 abbrev pub whole_value : AttributeRow
 whole_value = attribute "value" Whole
 

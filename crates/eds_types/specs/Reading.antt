@@ -36,6 +36,7 @@ use Rattle.eds_types.specs.Sizes.{tail_of, trailers_size}
 abbrev pub Read : Type 0 → Type 0
 Read A = Result (A × Bits) Fault
 
+-- one reading after another, until a fault
 infixl 10 ◌>>=◌
 abbrev pub ◌>>=◌ : {A B : Type 0} → Result A Fault → (A → Result B Fault) → Result B Fault
 (Ok x) >>= f = f x
@@ -159,6 +160,7 @@ abbrev pub same_bool : Bool → Bool → Bool
 same_bool true b = b
 same_bool false b = not b
 
+-- two values are one, and so are two lists of values
 unfoldable mutual
   pub same : Plain → Plain → Bool
   same (num n) (num m) = int_eq n m

@@ -37,6 +37,7 @@ entries_along t k = filter_map (entry_at t) (map address (sequence t k))
 
 -- ---- arguments
 
+-- an argument of a name and a type, as an entry of an object
 abbrev pub argument : List ℕ × TypeId → Entry
 argument f = record { step = None; name = f.0; id = f.1.0; is_list = false }
 

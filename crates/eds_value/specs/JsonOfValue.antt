@@ -53,6 +53,7 @@ arguments_data t es vs = object (with_values es (map (json_of_value t) vs) no_me
 
 -- ---- texts: members in byte order, without spaces
 
+-- the text of a value
 abbrev pub json_text : Table → Plain → List ℕ
 json_text t v = compact_text (json_of_value t v)
 

@@ -51,6 +51,7 @@ scalar_by (kind.Con c) d = None
 
 -- ---- which container
 
+-- a row is that of a container
 abbrev pub is_container : TypeRow → Bool
 is_container row = is_some (container_in (Some row))
 
