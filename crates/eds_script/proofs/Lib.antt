@@ -1,6 +1,7 @@
 mod Among
 mod Carrying
 mod Digits
+mod Handing
 mod Knowing
 mod Packing
 mod Pieces

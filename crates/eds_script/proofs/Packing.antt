@@ -1,21 +1,49 @@
 -- Values that pack.
-use Rattle.std.proofs.Common.{◌≡◌, ℕ, zero, suc, ◌+◌, ◌<◌, ◌&&◌, subst, map, take, ◌++◌, Bool, true, false, List, [], ◌∷◌, drop, length, Some, None, slice_get, refl, sym, ap, ◌∙◌, arith}
+use Rattle.std.proofs.Common.{◌≡◌, ℕ, zero, suc, ◌+◌, ◌<◌, ◌≤◌, ◌==◌, ◌&&◌, subst, map, take, ◌++◌, Bool, true, false, List, [], ◌∷◌, drop, length, Some, None, slice_get, refl, sym, ap, ◌∙◌, arith}
 use Rattle.eds_base.specs.declared.ids.TypeId.{TypeId}
 use Rattle.eds_types.specs.PackedSizes.{packs}
 use Rattle.eds_types.specs.Plain.{Plain, plain}
 use Rattle.eds_types.specs.Rows.{Table}
+use Rattle.std.proofs.lemmas.Bool.Decides.{nat_tests}
 use Rattle.std.proofs.lemmas.List.{map-append}
 use Rattle.eds_types.specs.declared.value.Value.{Value}
 use Rattle.eds_script.specs.Given.{all_pack}
 use Rattle.eds_script.specs.Known.{AreFieldsKnown}
 
--- no value is left to pack
-pub all_pack-none : (t : Table) (fs : List (List ℕ × TypeId)) (i : ℕ) (vs : List Plain) → slice_get vs i ≡ None → all_pack t fs (drop i vs) ≡ true
-all_pack-none t [] i vs e = refl
-all_pack-none t (f ∷ fs) zero [] e = refl
-all_pack-none t (f ∷ fs) zero (v ∷ vs) e = cc
-all_pack-none t (f ∷ fs) (suc i) [] e = refl
-all_pack-none t (f ∷ fs) (suc i) (v ∷ vs) e = all_pack-none t (f ∷ fs) i vs e
+-- no value is left for a field
+pub all_pack-none : (t : Table) (f : List ℕ × TypeId) (rest fs : List (List ℕ × TypeId)) (i : ℕ) (vs : List Plain) → rest ≡ f ∷ fs → slice_get vs i ≡ None → all_pack t rest (drop i vs) ≡ false
+all_pack-none t f rest fs i vs is e = ap (λ xs. all_pack t xs (drop i vs)) is ∙ go i vs e
+  where
+    go : (i : ℕ) (vs : List Plain) → slice_get vs i ≡ None → all_pack t (f ∷ fs) (drop i vs) ≡ false
+    go zero [] e = refl
+    go zero (v ∷ vs) e = cc
+    go (suc i) [] e = refl
+    go (suc i) (v ∷ vs) e = go i vs e
+
+-- no field is left for a value
+left-over : (t : Table) (i : ℕ) (vs : List Plain) → i < length vs → all_pack t [] (drop i vs) ≡ false
+left-over t i [] lt = absurd (omega (arith, lt))
+left-over t zero (v ∷ vs) lt = refl
+left-over t (suc i) (v ∷ vs) lt = left-over t i vs (omega (arith, lt))
+
+none-over : (t : Table) (vs : List Plain) → all_pack t [] (drop (length vs) vs) ≡ true
+none-over t [] = refl
+none-over t (v ∷ vs) = none-over t vs
+
+pub all_pack-end : (t : Table) (rest : List (List ℕ × TypeId)) (i : ℕ) (vs : List Plain) (b : Bool) → length rest ≡ 0 → i ≤ length vs → b ≡ (i == length vs) → b ≡ all_pack t rest (drop i vs)
+all_pack-end t (f ∷ fs) i vs b none within is = absurd (omega (arith, none))
+all_pack-end t [] i vs b none within is = is ∙ test (i == length vs) refl
+  where
+    test : (x : Bool) → (i == length vs) ≡ x → (i == length vs) ≡ all_pack t [] (drop i vs)
+    test true e = let all : i ≡ length vs = grind (arith, nat_tests) in e ∙ sym (ap (λ k. all_pack t [] (drop k vs)) all ∙ none-over t vs)
+    test false e = let some : i < length vs = grind (arith, nat_tests) in e ∙ sym (left-over t i vs some)
+
+-- a value that is there is within
+pub there-within : (vs : List Plain) (i : ℕ) (v : Plain) → slice_get vs i ≡ Some v → i + 1 ≤ length vs
+there-within [] zero v e = cc
+there-within [] (suc i) v e = cc
+there-within (w ∷ vs) zero v e = omega arith
+there-within (w ∷ vs) (suc i) v e = omega (arith, there-within vs i v e)
 
 -- one value more
 pub all_pack-some : (t : Table) (f : List ℕ × TypeId) (fs : List (List ℕ × TypeId)) (i : ℕ) (vs : List Plain) (v : Plain) → slice_get vs i ≡ Some v → all_pack t (f ∷ fs) (drop i vs) ≡ (packs t f.1.0 v && all_pack t fs (drop (i + 1) vs))

@@ -1,5 +1,5 @@
 -- What is given behind the member's name: JSON, or hex.
-use Rattle.std.specs.Prelude.{ℕ, ◌&&◌, nat_le, List, [], ◌∷◌, length, Bool, true, Option, Result, Ok, Err}
+use Rattle.std.specs.Prelude.{ℕ, ◌&&◌, nat_le, List, [], ◌∷◌, length, Bool, true, false, Option, Result, Ok, Err}
 use Rattle.eds_base.specs.Answering.{◌>>=◌}
 use Rattle.eds_base.specs.Reading as reading
 use Rattle.eds_base.specs.Reading.{only}
@@ -29,10 +29,11 @@ abbrev pub or_why : {A : Type 0} → Result A ValueFail → Result A LineWhy
 or_why (Ok x) = Ok x
 or_why (Err fail) = Err (json_why fail)
 
--- each value packs as its type
+-- there is a value for each field, which packs as its type
 abbrev pub all_pack : Table → List (List ℕ × TypeId) → List Plain → Bool
-all_pack t [] vs = true
-all_pack t (f ∷ fs) [] = true
+all_pack t [] [] = true
+all_pack t [] (v ∷ vs) = false
+all_pack t (f ∷ fs) [] = false
 all_pack t (f ∷ fs) (v ∷ vs) = packs t f.1.0 v && all_pack t fs vs
 
 -- the values of the arguments of a JSON object, which pack as the arguments' types

@@ -16,3 +16,4 @@ pub mod Fitting
 pub mod Events
 pub mod States
 pub mod Laws
+pub mod Handing

@@ -60,7 +60,7 @@ fn packs(table: &TypeTable, id: TypeId, value: &Value) -> bool
     conforms(table, id, value)
 }
 
-// Whether each value packs as its type.
+// Whether there is a value for each field, which packs as its type.
 fn all_pack(table: &TypeTable, fields: &[(Text, TypeId)], values: &eds_types::Values) -> bool
     requires known { AreFieldsKnown table.now fields.now }
     ensures { result ≡ all_packed table.now fields.now values.now }
@@ -69,7 +69,7 @@ fn all_pack(table: &TypeTable, fields: &[(Text, TypeId)], values: &eds_types::Va
     let mut rest = fields;
     while let [(_, id), after @ ..] = rest {
         let Some(value) = values.get(place) else {
-            return true;
+            return false;
         };
         if !packs(table, *id, value) {
             return false;
@@ -77,7 +77,7 @@ fn all_pack(table: &TypeTable, fields: &[(Text, TypeId)], values: &eds_types::Va
         place += 1;
         rest = after;
     }
-    true
+    place == values.len()
 }
 
 // The same values, as those of a primitive.

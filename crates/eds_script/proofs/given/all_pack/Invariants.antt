@@ -8,6 +8,7 @@ invariant-loop-rest l = record {
   same : all_pack l.table l.rest (drop l.place l.values) ≡ all_pack l.table l.fields l.values;
   known : AreFieldsKnown l.table l.rest;
   within : l.place + length l.rest ≤ length l.fields;
+  behind : l.place ≤ length l.values;
 }
 
 abbrev pub decreases-loop-rest : goal.decreases-loop-rest
