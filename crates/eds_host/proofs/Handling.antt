@@ -1,5 +1,5 @@
 -- A line that may be handed to a host may be told to its components.
-use Rattle.std.proofs.Common.{◌≡◌, ◌<◌, ◌^◌, ℕ, List, Option, sym, subst}
+use Rattle.std.proofs.Common.{◌≡◌, ◌<◌, ◌^◌, ℕ, List, Option, Some, slice_get, sym, subst}
 use Rattle.std.specs.Prelude.{Result, Ok, Err, IfOk}
 use Rattle.std.specs.List.{AllByRecursion}
 use Rattle.eds_base.specs.declared.fail.Memory.{Memory}
@@ -8,7 +8,12 @@ use Rattle.eds_plan.specs.Lines as lines
 use Rattle.eds_plan.specs.Outs.{Report, Signal}
 use Rattle.eds_host.specs.declared.handled.Handled.{Handled}
 use Rattle.eds_host.specs.declared.handled.Handled.TheVariants.{Done, Storm}
+use Rattle.eds_host.specs.declared.host.Phase.{Phase}
 use Rattle.eds_host.specs.declared.host.Phase.TheVariants as phase
+use Rattle.eds_host.specs.declared.wiring.Tie.{Tie}
+use Rattle.eds_host.specs.Machines.{IsStateOf}
+use Rattle.eds_plan.specs.declared.component.ComponentPlan.{ComponentPlan}
+use Rattle.eds_types.specs.Rows.{Table}
 use Rattle.eds_host.specs.declared.setting.Setting.{Setting}
 use Rattle.eds_host.specs.Hosts.{MayGoOn, reading, standing_after}
 use Rattle.eds_host.specs.Mirrors.{dues_of}
@@ -27,7 +32,7 @@ module _ (s : Setting) (now : ℕ) (states : List StateNow) (queue : List Signal
   at_rest h = record { early = h.0; fit = h.1; before = h.2; tied = h.3; placed = h.4 }
 
   pub rests_told : (l : Told) → IsCalm phase.Rests s.table.now s.plan.now s.links.now now states queue dues
-      → MayGoOn (record { table = s.table.now; plan = s.plan.now; wires = s.links.now; world = world now states queue; phase = phase.Rests }) l → MayBeTold s l now states queue dues
+      → MayGoOn s.table.now s.plan.now s.links.now now l → MayBeTold s l now states queue dues
   rests_told starts h g = absurd g
   rests_told (passes n) h g = (at_rest h, g)
   rests_told (lines.arrives comp face member way o vs) h g = (at_rest h, g.1)
@@ -37,6 +42,14 @@ module _ (s : Setting) (now : ℕ) (states : List StateNow) (queue : List Signal
   pub calm_after : (done : Handled) → now < 2 ^ 63 → AreStates s.table.now s.plan.now now states → dues ≡ dues_of (running s) 0 states → AllByRecursion (Arrives s.table.now s.plan.now) queue → AtRest done now s.plan.now states → IsCalm (standing_after done) s.table.now s.plan.now s.links.now now states queue dues
   calm_after Done lt all tied placed rest = (lt, all, rest, tied, placed)
   calm_after Storm lt all tied placed rest = tt
+
+-- at rest the states of components fit
+pub calm_state : (t : Table) (plan : List ComponentPlan) (comp now : ℕ) (s : StateNow) (p : Phase) (ties : List Tie) (states : List StateNow) (queue : List Signal) (dues : List (Option (ℕ × ℕ)))
+    → IsCalm p t plan ties now states queue dues → p ≡ phase.Rests → slice_get states comp ≡ Some s → IsStateOf t plan comp now s
+calm_state t plan comp now s phase.Rests ties states queue dues h e is = h.1.each comp s is
+calm_state t plan comp now s phase.Fresh ties states queue dues h e is = absurd cc
+calm_state t plan comp now s phase.Storm ties states queue dues h e is = absurd cc
+calm_state t plan comp now s phase.Spent ties states queue dues h e is = absurd cc
 
 -- a call that had a course happen handled the line of which it is a course
 pub line_is : (s : Setting) (l : Told) (w v : World) (o q : List Report) (course : Course) (res : Result Handled Memory) → LineGoes (running s) (reading s.table.now s.plan.now) l w course → IfOk res (λ h. IsLine h course v o q) → IfOk res (λ h. LineIs s l w h v o q)

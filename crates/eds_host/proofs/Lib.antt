@@ -23,3 +23,5 @@ pub mod OneFrame
 pub mod FramedLines
 pub mod Once
 pub mod Outside
+pub mod Clock
+pub mod InTurn

@@ -1,5 +1,5 @@
 -- What is sent, one after another.
-use Rattle.std.proofs.Common.{◌≡◌, ℕ, List, [], ◌∷◌, ◌++◌, Option, Some, refl, sym, ap, ◌∙◌, append_assoc, map}
+use Rattle.std.proofs.Common.{◌≡◌, ℕ, List, [], ◌∷◌, ◌++◌, Option, Some, refl, sym, ap, subst, ◌∙◌, append_assoc, map}
 use Rattle.std.proofs.lemmas.List.{map-append}
 use Rattle.std.specs.List.{AllByRecursion}
 use Rattle.std.specs.Prelude.{slice_get}
@@ -7,10 +7,10 @@ use Rattle.eds_plan.specs.declared.component.ComponentPlan.{ComponentPlan}
 use Rattle.eds_plan.specs.declared.run.End.{End}
 use Rattle.eds_plan.specs.declared.run.Out.{Out}
 use Rattle.eds_plan.specs.Carried.{leaving as leaving_way}
-use Rattle.eds_plan.specs.Outs.{Signal, report, stopped}
+use Rattle.eds_plan.specs.Outs.{Signal, Report, report, stopped}
 use Rattle.eds_plan.specs.Sends.{Sent, primitive, halted}
 use Rattle.eds_types.specs.Rows.{Table}
-use Rattle.eds_host.specs.Plans.{Arrives, Leaves, AreTied, WiresFit}
+use Rattle.eds_host.specs.Plans.{Arrives, Leaves, AreTied, MayAllGoOut, MayGoOut, WiresFit}
 use Rattle.eds_host.specs.Systems.{queued, leaving, delivered_at, leaves_at, sent_at}
 
 some : {A : Type 0} {a b : A} → Some a ≡ Some b → a ≡ b
@@ -22,6 +22,10 @@ reported os o = map-append report os (o ∷ [])
 pub placed_last : {A : Type 0} (P : A → Type 0) (ps : List A) (p : A) → AllByRecursion P ps → P p → AllByRecursion P (ps ++ p ∷ [])
 placed_last P [] p h k = (k, tt)
 placed_last P (q ∷ qs) p h k = (h.0, placed_last P qs p h.1 k)
+
+-- one thing more leaves the run
+pub out_last : (t : Table) (plan : List ComponentPlan) (os qs : List Report) (r : Report) → qs ≡ os ++ r ∷ [] → MayGoOut t plan r → MayAllGoOut t plan os → MayAllGoOut t plan qs
+out_last t plan os qs r is fit all = subst (λ (xs : List Report). MayAllGoOut t plan xs) (sym is) (placed_last (MayGoOut t plan) os r all fit)
 
 pub queued_more : (tied : End → Option End) (xs ys : List Sent) → queued tied (xs ++ ys) ≡ queued tied xs ++ queued tied ys
 queued_more tied [] ys = refl

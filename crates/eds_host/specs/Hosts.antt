@@ -37,7 +37,7 @@ use Rattle.eds_host.specs.Laws.{IsPunctual, ReadsOne}
 use Rattle.eds_host.specs.Machines.{reacted}
 use Rattle.eds_host.specs.Plans.{Arrives, system}
 use Rattle.eds_machine.specs.Moments.{HasMoment}
-use Rattle.eds_host.specs.Runs.{Course, LineGoes, Reading, RunGoes}
+use Rattle.eds_host.specs.Runs.{Course, LineGoes, Reading, RunGoes, time_after}
 use Rattle.eds_host.specs.Steps.{IsLine}
 use Rattle.eds_host.specs.Systems.{StateNow, System, World, moment, sent_at}
 use Rattle.eds_host.specs.Wires.{other_end, ties_of}
@@ -91,8 +91,8 @@ ArgumentsAreClear t plan = AllByRecursion (λ (c : ComponentPlan). AllByRecursio
 -- ---- what may be handed to a host
 
 -- an end that no wire ties
-abbrev pub IsOutside : HostNow → (comp face : ℕ) → Type 0
-IsOutside h comp face = other_end h.wires (record { comp = record { 0 = comp }; face = face }) ≡ None
+abbrev pub IsOutside : List Tie → (comp face : ℕ) → Type 0
+IsOutside ties comp face = other_end ties (record { comp = record { 0 = comp }; face = face }) ≡ None
 
 -- an end that is there, and a command that carries exactly one argument where it arrives
 pub record BringsOne (plan : List ComponentPlan) (comp face number : ℕ) : Type 0 where
@@ -104,19 +104,41 @@ pub record BringsOne (plan : List ComponentPlan) (comp face number : ℕ) : Type
   pub id : ℕ
   pub one : brought_to (Some end) number ≡ id ∷ []
 
--- a line after the start: time stays below 2^63, and what arrives does so at an end that isn't wired, as the end asks
-abbrev pub MayGoOn : HostNow → Told → Type 0
-MayGoOn h starts = ⊥
-MayGoOn h (passes n) = h.world.now + n < 2 ^ 63
-MayGoOn h (lines.arrives comp face member way o vs) = IsOutside h comp face × Arrives h.table h.plan (sent_at comp face member way o vs)
-MayGoOn h (framed comp face member octets) = IsOutside h comp face × (length octets ≤ 65536) × BringsOne h.plan comp face member
+-- a line after the start, at a time: time stays below 2^63, and what arrives does so at an end that isn't wired, as the end
+-- asks
+abbrev pub MayGoOn : Table → List ComponentPlan → List Tie → (now : ℕ) → Told → Type 0
+MayGoOn t plan ties now starts = ⊥
+MayGoOn t plan ties now (passes n) = now + n < 2 ^ 63
+MayGoOn t plan ties now (lines.arrives comp face member way o vs) = IsOutside ties comp face × Arrives t plan (sent_at comp face member way o vs)
+MayGoOn t plan ties now (framed comp face member octets) = IsOutside ties comp face × (length octets ≤ 65536) × BringsOne plan comp face member
 
 -- a line that may be handed to a host that stands so: the start first and once; anything once it had a storm or is spent
 abbrev pub MayBeHandled : Phase → HostNow → Told → Type 0
 MayBeHandled Fresh h l = l ≡ starts
-MayBeHandled Rests h l = MayGoOn h l
+MayBeHandled Rests h l = MayGoOn h.table h.plan h.wires h.world.now l
 MayBeHandled Storm h l = Unit {0}
 MayBeHandled Spent h l = Unit {0}
+
+-- lines after the start, one after another: each at the time that those before it lead to
+abbrev pub MayAllGoOn : Table → List ComponentPlan → List Tie → (now : ℕ) → List Told → Type 0
+MayAllGoOn t plan ties now [] = Unit {0}
+MayAllGoOn t plan ties now (l ∷ ls) = MayGoOn t plan ties now l × MayAllGoOn t plan ties (time_after l now) ls
+
+-- lines that may be handed, one after another, to a host that hasn't started: the start is the first of them
+abbrev pub MayAllStart : HostNow → List Told → Type 0
+MayAllStart h [] = Unit {0}
+MayAllStart h (l ∷ ls) = (l ≡ starts) × MayAllGoOn h.table h.plan h.wires 0 ls
+
+-- lines that may be handed, one after another, to a host that stands so
+abbrev pub MayAllBeHandled : Phase → HostNow → List Told → Type 0
+MayAllBeHandled Fresh h ls = MayAllStart h ls
+MayAllBeHandled Rests h ls = MayAllGoOn h.table h.plan h.wires h.world.now ls
+MayAllBeHandled Storm h ls = Unit {0}
+MayAllBeHandled Spent h ls = Unit {0}
+
+-- where lines may be handed one after another, the first of them may be
+abbrev pub FirstMayBeHandled : Type 0
+FirstMayBeHandled = (phase : Phase) (h : HostNow) (l : Told) (ls : List Told) → MayAllBeHandled phase h (l ∷ ls) → MayBeHandled phase h l
 
 -- ---- what it makes of a line
 
@@ -177,6 +199,10 @@ abbrev pub RunsGoOn : Type 0
 RunsGoOn = (t : Table) (plan : List ComponentPlan) (tied : End → Option End) (ls : List Told) (l : Told) (w v : World) (outs : List (List Report)) (c : Course) →
     let sys = system t plan tied in let read = reading t plan in
     RunGoes sys read ls w outs (Some v) → LineGoes sys read l v c → RunGoes sys read (ls ++ l ∷ []) w (outs ++ c.outs ∷ []) c.end
+
+-- the time after a line that is no storm
+abbrev pub LinesTakeTheirTime : Type 0
+LinesTakeTheirTime = (t : Table) (plan : List ComponentPlan) (tied : End → Option End) (l : Told) (w v : World) (c : Course) → LineGoes (system t plan tied) (reading t plan) l w c → c.end ≡ Some v → v.now ≡ time_after l w.now
 
 -- lines have one outcome, where the plan fits and no two containers overlap under its commands' arguments
 abbrev pub RunsHaveOneOutcome : Type 0

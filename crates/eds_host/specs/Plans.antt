@@ -1,9 +1,10 @@
 -- The system of components that a plan describes, and what is asked of what comes to them.
 use Rattle.std.specs.Prelude.{◌≡◌, ℕ, List, length, Bool, Option, Some, slice_get}
+use Rattle.std.specs.List.{AllByRecursion}
 use Rattle.eds_types.specs.Rows.{Table}
 use Rattle.eds_plan.specs.Carried.{OpFits, arriving, carried, leaving}
 use Rattle.eds_plan.specs.Ends.{end_at}
-use Rattle.eds_plan.specs.Outs.{Signal}
+use Rattle.eds_plan.specs.Outs.{Signal, Report, left, stopped, refused}
 use Rattle.eds_plan.specs.Sends.{Sent, primitive, halted}
 use Rattle.eds_plan.specs.declared.component.ComponentPlan.{ComponentPlan}
 use Rattle.eds_plan.specs.declared.component.EndPlan.{EndPlan}
@@ -43,6 +44,16 @@ Leaves t plan s = Stands t plan leaving s
 abbrev pub IsSent : Table → List ComponentPlan → Sent → Type 0
 IsSent t plan (primitive c e m way o vs) = Leaves t plan (sent_at c e m way o vs)
 IsSent t plan (halted machine h) = Unit {0}
+
+-- what leaves a run fits the plan: a primitive may be sent at its end; a halt and a frame that is refused are always fine
+abbrev pub MayGoOut : Table → List ComponentPlan → Report → Type 0
+MayGoOut t plan (left time s) = Leaves t plan s
+MayGoOut t plan (stopped time component machine h) = Unit {0}
+MayGoOut t plan (refused time e member fault) = Unit {0}
+
+-- the same of all that leaves it
+abbrev pub MayAllGoOut : Table → List ComponentPlan → List Report → Type 0
+MayAllGoOut t plan outs = AllByRecursion (MayGoOut t plan) outs
 
 -- ---- wires
 

@@ -131,6 +131,13 @@ LineGoes sys reading (passes n) w c = c ≡ time_passes sys n w
 LineGoes sys reading (lines.arrives comp end member way o vs) w c = c ≡ follows sys (comes sys (sent_at comp end member way o vs) w)
 LineGoes sys reading (framed comp end member octets) w c = (r : Result Plain Fault) × reading.reads comp end member octets r × (c ≡ frame_goes sys (reading.way comp end) comp end member r w)
 
+-- the time after a line that was told at a time, unless it is a storm
+abbrev pub time_after : Told → (now : ℕ) → ℕ
+time_after starts now = 0
+time_after (passes n) now = now + n
+time_after (lines.arrives comp end member way o vs) now = now
+time_after (framed comp end member octets) now = now
+
 -- ---- many lines
 
 -- what is after a line: nothing, if it was a storm

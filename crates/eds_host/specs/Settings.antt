@@ -1,6 +1,6 @@
 -- What the host's functions are handed, and what holds of it.
 use Rattle.std.specs.Prelude.{◌≤◌, ◌+◌, ℕ, List, length, Option, Some, None, slice_get, unwrap_or}
-use Rattle.eds_plan.specs.Outs.{Signal}
+use Rattle.eds_plan.specs.Outs.{Signal, Report}
 use Rattle.eds_plan.specs.declared.component.ComponentPlan.{ComponentPlan}
 use Rattle.eds_host.specs.declared.setting.Setting.{Setting}
 use Rattle.eds_plan.specs.Fitting.{PlanFits}
@@ -11,7 +11,7 @@ use Rattle.eds_host.specs.declared.handled.Handled.{Handled}
 use Rattle.eds_host.specs.declared.handled.Handled.TheVariants.{Done, Storm}
 use Rattle.eds_host.specs.declared.step.Step.{Step}
 use Rattle.eds_host.specs.declared.step.Step.TheVariants as step
-use Rattle.eds_host.specs.Plans.{system, WiresFit, NoneBefore}
+use Rattle.eds_host.specs.Plans.{system, WiresFit, NoneBefore, MayAllGoOut}
 use Rattle.eds_host.specs.Systems.{System, World, StateNow, Coming, Reaction, no_state}
 
 -- the components that run
@@ -35,6 +35,10 @@ state_in states comp = unwrap_or (slice_get states comp) no_state
 -- what a component makes of an event
 abbrev pub reaction_in : Setting → (component : ℕ) → Coming → (now : ℕ) → List StateNow → Reaction
 reaction_in s comp e now states = (running s).reacts comp e now (state_in states comp)
+
+-- where all that had left the run fits the plan, all that has left it since does
+abbrev pub StillFit : Setting → (before after : List Report) → Type 0
+StillFit s before after = MayAllGoOut s.table.now s.plan.now before → MayAllGoOut s.table.now s.plan.now after
 
 -- ---- within a line
 

@@ -5,7 +5,7 @@ ghost use Rattle.std.specs.List.{AllByRecursion};
 ghost use Rattle.eds_host.specs.Comings.{coming};
 ghost use Rattle.eds_host.specs.Mirrors.{dues_of};
 ghost use Rattle.eds_host.specs.Plans.{AreStates, Arrives, MayCome, NoneBefore};
-ghost use Rattle.eds_host.specs.Settings.{IsSetting, running, state_in, world};
+ghost use Rattle.eds_host.specs.Settings.{IsSetting, StillFit, running, state_in, world};
 ghost use Rattle.eds_host.specs.Systems.{arrives as arrives_of};
 ghost use Rattle.eds_plan.specs.Outs.{report};
 
@@ -65,6 +65,7 @@ pub(crate) fn arrives(
     ensures placed { OnOk result (AllByRecursion (Arrives setting.now.table.now setting.now.plan.now) queue.new) }
     ensures ok { OnOk result (world now states.new queue.new ≡ (arrives_of (running setting.now) comp.0 (coming event.now) (world now states.old queue.old)).world) }
     ensures outs { OnOk result (map report out.new ≡ map report out.old ++ (arrives_of (running setting.now) comp.0 (coming event.now) (world now states.old queue.old)).outs) }
+    ensures fits { OnOk result (StillFit setting.now (map report out.old) (map report out.new)) }
 {
     let mut sends = Sends::new(alloc);
     states.react(alloc, setting, comp, event, now, &mut sends)?;

@@ -6,7 +6,7 @@ ghost use Rattle.eds_host.specs.Mirrors.{dues_of};
 ghost use Rattle.eds_host.specs.Plans.{AreBegun, AreStates, Arrives, NoneBefore};
 ghost use Rattle.eds_host.specs.Machines.{unstarted};
 ghost use Rattle.eds_host.specs.Runs.{all_fresh as all_fresh_of, all_start, begun, happening, nothing};
-ghost use Rattle.eds_host.specs.Settings.{IsSetting, running, world};
+ghost use Rattle.eds_host.specs.Settings.{IsSetting, StillFit, running, world};
 ghost use Rattle.eds_plan.specs.Outs.{report};
 
 use crate::component::{fresh, next_due, start};
@@ -53,6 +53,7 @@ fn begin_one(
     ensures tied { OnOk result (dues.new ≡ dues_of (running setting.now) 0 states.new) }
     ensures placed { OnOk result (AllByRecursion (Arrives setting.now.table.now setting.now.plan.now) queue.new) }
     ensures ok { OnOk result (happening (world 0 states.new queue.new) (map report out.new) ≡ begun (running setting.now) comp.0 ((running setting.now).starts comp.0) (happening (world 0 states.old queue.old) (map report out.old))) }
+    ensures fits { OnOk result (StillFit setting.now (map report out.old) (map report out.new)) }
 {
     let mut sends = Sends::new(alloc);
     let state = start(alloc, setting.table, setting.plan, comp, &mut sends)?;
@@ -82,6 +83,7 @@ fn each_begins(
     ensures tied { OnOk result (dues.new ≡ dues_of (running setting.now) 0 states.new) }
     ensures placed { OnOk result (AllByRecursion (Arrives setting.now.table.now setting.now.plan.now) queue.new) }
     ensures ok { OnOk result (happening (world 0 states.new queue.new) (map report out.new) ≡ all_start (running setting.now) 0 (length setting.now.plan.now) (happening (world 0 [] queue.old) (map report out.old))) }
+    ensures fits { OnOk result (StillFit setting.now (map report out.old) (map report out.new)) }
 {
     for i in 0..setting.plan.len() {
         begin_one(alloc, setting, CompId(i as u32), states, queue, dues, out)?;
@@ -108,6 +110,7 @@ pub(crate) fn begin_all(
     ensures placed { OnOk result (AllByRecursion (Arrives setting.now.table.now setting.now.plan.now) queue.new) }
     ensures ok { OnOk result (world 0 states.new queue.new ≡ (all_start (running setting.now) 0 (length setting.now.plan.now) (happening nothing [])).world) }
     ensures outs { OnOk result (map report out.new ≡ map report out.old ++ (all_start (running setting.now) 0 (length setting.now.plan.now) (happening nothing [])).outs) }
+    ensures fits { OnOk result (StillFit setting.now (map report out.old) (map report out.new)) }
 {
     each_begins(alloc, setting, states, queue, dues, out)?;
     Ok(())

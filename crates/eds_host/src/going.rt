@@ -5,7 +5,7 @@ ghost use Rattle.std.specs.List.{AllByRecursion};
 ghost use Rattle.eds_host.specs.Mirrors.{dues_of};
 ghost use Rattle.eds_host.specs.Plans.{AreStates, Arrives, NoneBefore};
 ghost use Rattle.eds_host.specs.Runs.{go_on as go_on_of};
-ghost use Rattle.eds_host.specs.Settings.{AtRest, IsSetting, RestsBy, bound, reaches, running, waits_here, world};
+ghost use Rattle.eds_host.specs.Settings.{AtRest, IsSetting, RestsBy, StillFit, bound, reaches, running, waits_here, world};
 ghost use Rattle.eds_host.specs.Steps.{IsLine, IsStep};
 ghost use Rattle.eds_host.specs.Systems.{first_due as first_due_of, has_come, next as next_of};
 ghost use Rattle.eds_plan.specs.Outs.{report};
@@ -101,6 +101,7 @@ fn happen(
     ensures placed { OnOk result (AllByRecursion (Arrives setting.now.table.now setting.now.plan.now) queue.new) }
     ensures rest { IfOk result (λ s. RestsBy s until now.new setting.now.plan.now states.new) }
     ensures ok { IfOk result (λ s. IsStep s more (next_of (running setting.now) until (world now.old states.old queue.old)) (world now.old states.old queue.old) (world now.new states.new queue.new) (map report out.old) (map report out.new)) }
+    ensures fits { OnOk result (StillFit setting.now (map report out.old) (map report out.new)) }
 {
     match queue.pop() {
         Some(p) => {
@@ -168,6 +169,7 @@ pub(crate) fn go_on(
     ensures placed { OnOk result (AllByRecursion (Arrives setting.now.table.now setting.now.plan.now) queue.new) }
     ensures rest { IfOk result (λ h. AtRest h (reaches until now.new) setting.now.plan.now states.new) }
     ensures ok { IfOk result (λ h. IsLine h (go_on_of (running setting.now) 10000 until (world now.old states.old queue.old)) (world now.new states.new queue.new) (map report out.old) (map report out.new)) }
+    ensures fits { OnOk result (StillFit setting.now (map report out.old) (map report out.new)) }
 {
     let mut more = MOST;
     loop {

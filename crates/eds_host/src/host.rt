@@ -104,16 +104,18 @@ fn links_of(alloc: Global, plan: &Plan, wires: &Wires) -> Result<Links, Fail<Hos
 }
 
 impl<'a> Host<'a> {
-    ghost use Rattle.std.specs.Prelude.{◌≡◌, ◌<◌, Ok, IfOk, IfErr, Some, length, map, slice_get};
+    ghost use Rattle.std.specs.Prelude.{◌≡◌, ◌<◌, ◌∷◌, List, Ok, IfOk, IfErr, Some, length, map, slice_get};
     ghost use Rattle.eds_act.specs.Does.{Conforms};
-    ghost use Rattle.eds_host.specs.Hosts.{ArgumentsAreClear, Handles, MayBeHandled, asked_by, components, standing_after};
+    ghost use Rattle.eds_host.specs.Hosts.{ArgumentsAreClear, Handles, MayAllBeHandled, MayBeHandled, asked_by, components, standing_after};
+    ghost use Rattle.eds_host.specs.Plans.{MayAllGoOut};
+    ghost use Rattle.eds_host.specs.Machines.{IsStateOf};
     ghost use Rattle.eds_host.specs.Links.{Stops};
-    ghost use Rattle.eds_host.specs.Runs.{unbegun};
+    ghost use Rattle.eds_host.specs.Runs.{time_after, unbegun};
     ghost use Rattle.eds_host.specs.Systems.{state_now};
     ghost use Rattle.eds_host.specs.Wires.{ties_of};
-    ghost use Rattle.eds_host.specs.declared.host.Phase.TheVariants.{Fresh, Spent};
+    ghost use Rattle.eds_host.specs.declared.host.Phase.TheVariants.{Fresh, Rests, Spent};
     ghost use Rattle.eds_plan.specs.Fitting.{PlanFits};
-    ghost use Rattle.eds_plan.specs.Lines.{told};
+    ghost use Rattle.eds_plan.specs.Lines.{Told, told};
     ghost use Rattle.eds_plan.specs.Outs.{report};
 
     /// A host of components with wires between their ends, before the start. The error is the first wire that ties nothing,
@@ -159,6 +161,9 @@ impl<'a> Host<'a> {
         ensures wires { self.new.wires ≡ self.old.wires }
         ensures goes { IfOk result (λ h. Handles self.old.phase (told line.now) self.old self.new h (map report out.old) (map report out.new)) }
         ensures phase { IfOk result (λ h. self.new.phase ≡ standing_after h) }
+        ensures time { self.new.phase ≡ Rests → self.new.world.now ≡ time_after (told line.now) self.old.world.now }
+        ensures more { (ls : List Told) → MayAllBeHandled self.old.phase self.old (told line.now ∷ ls) → MayAllBeHandled self.new.phase self.new ls }
+        ensures fits { IfOk result (λ h. MayAllGoOut self.old.table self.old.plan (map report out.old) → MayAllGoOut self.old.table self.old.plan (map report out.new)) }
         ensures spent { IfErr result (λ e. self.new.phase ≡ Spent) }
     {
         match self.phase {
@@ -186,9 +191,11 @@ impl<'a> Host<'a> {
     }
 
     /// The state of a component.
+    #[tactic(auto, using(crate::proofs::Handling::calm_state))]
     pub fn state_of(&self, comp: CompId) -> &CompState
         requires { comp.0 < length self.now.plan }
-        ensures { slice_get self.now.world.states comp.0 ≡ Some (state_now result.now) }
+        ensures state { slice_get self.now.world.states comp.0 ≡ Some (state_now result.now) }
+        ensures fits { self.now.phase ≡ Rests → IsStateOf self.now.table self.now.plan comp.0 self.now.world.now (state_now result.now) }
     {
         self.states.at(comp)
     }

@@ -1,6 +1,6 @@
 //! Laws of runs.
 
-ghost use Rattle.eds_host.specs.Hosts.{ComponentsArePunctual, FramesHaveOneOutcome, PlansReadOne, RunsGoOn, RunsHaveOneOutcome, RunsJoin, TimersFireOnce, UnnamedEndsAreOutside};
+ghost use Rattle.eds_host.specs.Hosts.{ComponentsArePunctual, FirstMayBeHandled, FramesHaveOneOutcome, LinesTakeTheirTime, PlansReadOne, RunsGoOn, RunsHaveOneOutcome, RunsJoin, TimersFireOnce, UnnamedEndsAreOutside};
 ghost use Rattle.eds_host.specs.Laws.{CoursesAreChains, CoursesGoOnOrStorm, EachIsDelivered, NoneIsLate, TicksAdd, TimeGoesOn, TimersAreOnTime};
 
 use eds_overlap::law::one_outcome;
@@ -41,6 +41,16 @@ pub fn timers_are_on_time()
 /// No timer fires twice: a machine that has fired waits for later moments alone.
 pub fn timers_fire_once()
     ensures { TimersFireOnce }
+{}
+
+/// Time goes on by ticks alone, and is 0 after the start.
+pub fn lines_take_their_time()
+    ensures { LinesTakeTheirTime }
+{}
+
+/// Where lines may be handed to a host one after another, the first of them may be handed to it now.
+pub fn first_may_be_handled()
+    ensures { FirstMayBeHandled }
 {}
 
 /// Where wires tie what they name, an end that none of them names is tied to none.

@@ -6,11 +6,11 @@ ghost use Rattle.eds_host.specs.Hosts.{ArgumentsAreClear, BringsOne, brought_to,
 ghost use Rattle.eds_host.specs.Mirrors.{dues_of};
 ghost use Rattle.eds_host.specs.Plans.{AreStates, Arrives, NoneBefore};
 ghost use Rattle.eds_host.specs.Resting.{IsCalm, LineIs, MayBeTold};
-ghost use Rattle.eds_host.specs.Runs.{all_start, comes, follows, happening, nothing, time_passes};
-ghost use Rattle.eds_host.specs.Settings.{AtRest, IsSetting, running, world};
+ghost use Rattle.eds_host.specs.Runs.{all_start, comes, follows, happening, nothing, time_after, time_passes};
+ghost use Rattle.eds_host.specs.Settings.{AtRest, IsSetting, StillFit, running, world};
 ghost use Rattle.eds_host.specs.Steps.{IsLine};
 ghost use Rattle.eds_host.specs.Systems.{sent_at};
-ghost use Rattle.eds_host.specs.declared.host.Phase.TheVariants.{Spent};
+ghost use Rattle.eds_host.specs.declared.host.Phase.TheVariants.{Rests, Spent};
 ghost use Rattle.eds_plan.specs.Carried.{arriving, carried_of, goes};
 ghost use Rattle.eds_plan.specs.Ends.{end_at};
 ghost use Rattle.eds_plan.specs.Lines as lines;
@@ -58,6 +58,7 @@ pub(crate) fn start_line(
     ensures placed { OnOk result (AllByRecursion (Arrives setting.now.table.now setting.now.plan.now) queue.new) }
     ensures rest { IfOk result (λ h. AtRest h now.new setting.now.plan.now states.new) }
     ensures ok { IfOk result (λ h. IsLine h (follows (running setting.now) (all_start (running setting.now) 0 (length setting.now.plan.now) (happening nothing []))) (world now.new states.new queue.new) (map report out.old) (map report out.new)) }
+    ensures fits { OnOk result (StillFit setting.now (map report out.old) (map report out.new)) }
 {
     begin_all(alloc, setting, states, queue, dues, out)?;
     let handled = go_on(alloc, setting, None, now, states, queue, dues, out)?;
@@ -88,6 +89,7 @@ pub(crate) fn tick_line(
     ensures placed { OnOk result (AllByRecursion (Arrives setting.now.table.now setting.now.plan.now) queue.new) }
     ensures rest { IfOk result (λ h. AtRest h now.new setting.now.plan.now states.new) }
     ensures ok { IfOk result (λ h. IsLine h (time_passes (running setting.now) n (world now.old states.old queue.old)) (world now.new states.new queue.new) (map report out.old) (map report out.new)) }
+    ensures fits { OnOk result (StillFit setting.now (map report out.old) (map report out.new)) }
 {
     let until = *now + n;
     let handled = go_on(alloc, setting, Some(until), now, states, queue, dues, out)?;
@@ -120,6 +122,7 @@ pub(crate) fn primitive_line(
     ensures placed { OnOk result (AllByRecursion (Arrives setting.now.table.now setting.now.plan.now) queue.new) }
     ensures rest { IfOk result (λ h. AtRest h now.new setting.now.plan.now states.new) }
     ensures ok { IfOk result (λ h. IsLine h (follows (running setting.now) (comes (running setting.now) (signal p) (world now.old states.old queue.old))) (world now.new states.new queue.new) (map report out.old) (map report out.new)) }
+    ensures fits { OnOk result (StillFit setting.now (map report out.old) (map report out.new)) }
 {
     let comp = p.end.comp;
     let event = Event::Prim(p);
@@ -245,6 +248,7 @@ pub(crate) fn frame_line(
     ensures placed { OnOk result (AllByRecursion (Arrives setting.now.table.now setting.now.plan.now) queue.new) }
     ensures rest { IfOk result (λ h. AtRest h now.new setting.now.plan.now states.new) }
     ensures ok { IfOk result (λ h. LineIs setting.now (lines.framed end.comp.0 end.face member octets.now) (world now.old states.old queue.old) h (world now.new states.new queue.new) (map report out.old) (map report out.new)) }
+    ensures fits { OnOk result (StillFit setting.now (map report out.old) (map report out.new)) }
 {
     setting.table.keeps_rules();
     let Some(id) = frame_type(setting.plan, end, member) else {
@@ -283,6 +287,7 @@ fn first_line(
     ensures placed { OnOk result (AllByRecursion (Arrives setting.now.table.now setting.now.plan.now) queue.new) }
     ensures rest { IfOk result (λ h. AtRest h now.new setting.now.plan.now states.new) }
     ensures ok { IfOk result (λ h. LineIs setting.now lines.starts (world now.old states.old queue.old) h (world now.new states.new queue.new) (map report out.old) (map report out.new)) }
+    ensures fits { OnOk result (StillFit setting.now (map report out.old) (map report out.new)) }
 {
     let mut begun = States::new(alloc);
     let mut sent = Queue::new(alloc);
@@ -324,6 +329,7 @@ fn told_line(
     ensures placed { OnOk result (AllByRecursion (Arrives setting.now.table.now setting.now.plan.now) queue.new) }
     ensures rest { IfOk result (λ h. AtRest h now.new setting.now.plan.now states.new) }
     ensures ok { IfOk result (λ h. LineIs setting.now (told line.now) (world now.old states.old queue.old) h (world now.new states.new queue.new) (map report out.old) (map report out.new)) }
+    ensures fits { OnOk result (StillFit setting.now (map report out.old) (map report out.new)) }
 {
     match line {
         Line::Start => first_line(alloc, setting, now, states, queue, dues, out),
@@ -357,8 +363,10 @@ pub(crate) fn any_line(
     ensures count { length states.new ≡ length states.old }
     ensures calm { IsCalm phase.new setting.now.table.now setting.now.plan.now setting.now.links.now now.new states.new queue.new dues.new }
     ensures phase { IfOk result (λ h. phase.new ≡ standing_after h) }
+    ensures time { phase.new ≡ Rests → now.new ≡ time_after (told line.now) now.old }
     ensures spent { IfErr result (λ e. phase.new ≡ Spent) }
     ensures ok { IfOk result (λ h. LineIs setting.now (told line.now) (world now.old states.old queue.old) h (world now.new states.new queue.new) (map report out.old) (map report out.new)) }
+    ensures fits { OnOk result (StillFit setting.now (map report out.old) (map report out.new)) }
 {
     *phase = Phase::Spent;
     let handled = told_line(alloc, setting, line, now, states, queue, dues, out)?;

@@ -3,7 +3,7 @@
 ghost use Rattle.std.specs.Prelude.{◌≡◌, ◌++◌, ◌∷◌, [], Some, OnOk, map};
 ghost use Rattle.std.specs.List.{AllByRecursion};
 ghost use Rattle.eds_host.specs.Plans.{Arrives, IsSent};
-ghost use Rattle.eds_host.specs.Settings.{IsSetting};
+ghost use Rattle.eds_host.specs.Settings.{IsSetting, StillFit};
 ghost use Rattle.eds_host.specs.Systems.{leaving, queued};
 ghost use Rattle.eds_host.specs.Wires.{other_end as other_end_of};
 ghost use Rattle.eds_plan.specs.Outs.{report, signal};
@@ -44,7 +44,7 @@ fn deliver(queue: &mut Queue, p: Primitive, end: End) -> Result<(), Memory>
 }
 
 // What is sent once goes to the queue, or leaves the run.
-#[tactic(auto, using(crate::proofs::Sent::placed_last, crate::proofs::Sent::arrives_tied))]
+#[tactic(auto, using(crate::proofs::Sent::placed_last, crate::proofs::Sent::arrives_tied, crate::proofs::Sent::out_last))]
 fn send_one(
     setting: &Setting<'_>,
     comp: CompId,
@@ -59,6 +59,7 @@ fn send_one(
     ensures placed { OnOk result (AllByRecursion (Arrives setting.now.table.now setting.now.plan.now) queue.new) }
     ensures queue { OnOk result (queue.new ≡ queue.old ++ queued (other_end_of setting.now.links.now) (sent what ∷ [])) }
     ensures out { OnOk result (map report out.new ≡ map report out.old ++ leaving (other_end_of setting.now.links.now) now comp.0 (sent what ∷ [])) }
+    ensures fits { OnOk result (StillFit setting.now (map report out.old) (map report out.new)) }
 {
     match what {
         Send::Prim(p) => match setting.links.other_end(p.end) {
@@ -87,6 +88,7 @@ pub(crate) fn send_all(
     ensures placed { OnOk result (AllByRecursion (Arrives setting.now.table.now setting.now.plan.now) queue.new) }
     ensures queue { OnOk result (queue.new ≡ queue.old ++ queued (other_end_of setting.now.links.now) (map sent sends)) }
     ensures out { OnOk result (map report out.new ≡ map report out.old ++ leaving (other_end_of setting.now.links.now) now comp.0 (map sent sends)) }
+    ensures fits { OnOk result (StillFit setting.now (map report out.old) (map report out.new)) }
 {
     for what in sends.into_vec() {
         send_one(setting, comp, now, what, queue, out)?;

@@ -13,5 +13,6 @@ loop-i-preserved c =
       states = c.in_ok-begin_one.ensures.states;
       tied = c.in_ok-begin_one.ensures.tied;
       placed = c.in_ok-begin_one.ensures.placed;
+      still = λ h. c.in_ok-begin_one.ensures.fits (l.invariant.still h);
       starts = start_next (running c.args.setting.now) l.i (length c.args.setting.now.plan.now) (happening (world 0 l.states l.queue) (map report l.out)) (happening (world 0 n.states n.queue) (map report n.out)) _ (omega arith) l.invariant.starts c.in_ok-begin_one.ensures.ok;
     }

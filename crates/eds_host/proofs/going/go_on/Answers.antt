@@ -22,5 +22,6 @@ loop-more-preserved c =
       before = c.in_ok-happen.ensures.before;
       tied = c.in_ok-happen.ensures.tied;
       placed = c.in_ok-happen.ensures.placed;
+      still = λ h. c.in_ok-happen.ensures.fits (l.invariant.still h);
       goes = gone sys until (go_on sys 10000 until (world c.args.now.now c.args.states.now c.args.queue.now)) l.more w v (map report c.args.out.now) (map report l.out) (map report n.out) l.invariant.goes went;
     }

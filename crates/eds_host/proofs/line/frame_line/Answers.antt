@@ -8,6 +8,7 @@ use Rattle.eds_host.specs.Frames.{FrameIs}
 use Rattle.eds_plan.specs.Ends.{end_at}
 use Rattle.eds_host.proofs.FramedLines.{fault_line, frame_packs, framed_arrives, value_line}
 use Rattle.eds_host.proofs.OneFrame.{brought_one, end_readable}
+use Rattle.eds_host.proofs.Sent.{out_last}
 use Rattle.eds_host.specs.Settings.{world}
 use Rattle.eds_plan.specs.Outs.{report, signal}
 use Rattle.eds_types.specs.Plain.{plain}
@@ -53,3 +54,8 @@ returns-in_ok-leave-in-Err-Named-clause-ok c =
     (subst (λ (os : List ℕ). FrameIs s.table.now id (bits_of os) (Err c.in-Err-Named.fault)) c.as_slice.ensures
     (subst (λ (f : Fail Fault). IfNamed (λ g. FrameIs s.table.now id (bits_of c.as_slice.result.now) (Err g)) f) c.in-Err-Named.field-0-is c.in-Err-Named.ensures.fault))
     refl (rw c.in-Err-Named.field-0-is at c.in_ok-leave-in-Err-Named.ensures)
+
+pub returns-in_ok-leave-in-Err-Named-clause-fits : goal.returns-in_ok-leave-in-Err-Named-clause-fits
+returns-in_ok-leave-in-Err-Named-clause-fits c =
+    let s = c.args.setting.now in
+    out_last s.table.now s.plan.now (map report c.args.out.now) (map report c.leave.new.out) _ c.in_ok-leave-in-Err-Named.ensures tt

@@ -24,6 +24,7 @@ loop-what-preserved c =
     record {
       placed = c.in_ok-send_one.ensures.placed;
       fits = fits.1;
+      still = λ h. c.in_ok-send_one.ensures.fits (c.loop-what.invariant.still h);
       queue = c.in_ok-send_one.ensures.queue ∙ ap (λ q. q ++ queued tied x) c.loop-what.invariant.queue ∙ append_assoc c.args.queue.now (queued tied ys) (queued tied x) ∙ ap (λ q. c.args.queue.now ++ q) (sym (queued_more tied ys x) ∙ ap (queued tied) (sym more));
       out = c.in_ok-send_one.ensures.out ∙ ap (λ q. q ++ leaving tied c.args.now c.args.comp.0 x) c.loop-what.invariant.out ∙ append_assoc (map report c.args.out.now) (leaving tied c.args.now c.args.comp.0 ys) (leaving tied c.args.now c.args.comp.0 x) ∙ ap (λ q. map report c.args.out.now ++ q) (sym (leaving_more tied c.args.now c.args.comp.0 ys x) ∙ ap (leaving tied c.args.now c.args.comp.0) (sym more));
     }
