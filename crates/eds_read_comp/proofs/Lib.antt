@@ -1,2 +1,11 @@
 pub mod MapLaws
 pub mod Judged
+pub mod Firsts
+pub mod Lists
+pub mod Growing
+pub mod EqualMaps
+pub mod SameMembers
+pub mod SameEnds
+pub mod Putting
+pub mod Scoping
+pub mod Staging

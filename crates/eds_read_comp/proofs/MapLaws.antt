@@ -10,7 +10,7 @@ use Rattle.eds_names.specs.Repeats.{is_among}
 use Rattle.eds_names.proofs.RepeatsLemmas.{SameNames}
 use Rattle.eds_plan.specs.declared.component.EndPlan.{EndPlan}
 use Rattle.eds_plan.specs.declared.instance.Member.{Member}
-use Rattle.eds_read_comp.specs.declared.variable.VariableHead.{VariableHead}
+use Rattle.eds_read_act.specs.declared.variable.VariableHead.{VariableHead}
 use Rattle.eds_read_comp.specs.declared.parameter_map.Mapping.{Mapping}
 use Rattle.eds_read_comp.specs.ParameterMaps.{is_parameter, parameter_from, mapping_at, mapped_name, map_breaks_by, map_breaks_from}
 

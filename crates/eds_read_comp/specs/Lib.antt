@@ -1,5 +1,9 @@
 pub mod Ends
 pub mod Uses
 pub mod Variables
+pub mod FirstValues
 pub mod EndPlans
 pub mod ParameterMaps
+pub mod Implementations
+pub mod Plans
+pub mod Together

@@ -14,7 +14,7 @@ use Rattle.eds_plan.specs.declared.component.MapPlan.{MapPlan}
 use Rattle.eds_plan.specs.declared.instance.Member.{Member}
 use Rattle.eds_plan.specs.declared.instance.Member.TheVariants as member
 use Rattle.eds_names.specs.Positions.{place_among}
-use Rattle.eds_read_comp.specs.declared.variable.VariableHead.{VariableHead}
+use Rattle.eds_read_act.specs.declared.variable.VariableHead.{VariableHead}
 use Rattle.eds_read_comp.specs.declared.parameter_map.Mapping.{Mapping}
 use Rattle.eds_read_comp.specs.Variables.{implemented, text_at}
 

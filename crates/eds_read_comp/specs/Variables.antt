@@ -5,7 +5,7 @@ use Rattle.eds_tree.specs.declared.tree.Node.{Node}
 use Rattle.eds_tree.specs.Trees.{attribute_at}
 use Rattle.eds_names.specs.LookUp.{Names}
 use Rattle.eds_generic.specs.Reading.{held, held_in, own_name, here, type_found, type_or_first, is_yes}
-use Rattle.eds_read_comp.specs.declared.variable.VariableHead.{VariableHead}
+use Rattle.eds_read_act.specs.declared.variable.VariableHead.{VariableHead}
 
 -- what the sets of a name hold in the implementation of a component
 abbrev pub implemented : List Node → (set name : List ℕ) → ℕ → List ℕ

@@ -77,7 +77,8 @@ fn face_at(alloc: Global, file: &File, node: u32) -> Result<FaceId, Memory>
     }
 }
 
-fn map_of(alloc: Global, file: &File, nodes: &[u32]) -> Result<TypeMap, Memory>
+/// The names of some elements, each with the type that the element names.
+pub(crate) fn typed_names(alloc: Global, file: &File, nodes: &[u32]) -> Result<TypeMap, Memory>
     ensures { IfOk result (λ m. m ≡ map (mapped_in file.now.tree.now file.now.space.now file.now.file) nodes.now) }
 {
     let mut mapped = Vec::new(alloc);
@@ -101,7 +102,7 @@ pub(crate) fn use_at(alloc: Global, file: &File, node: u32) -> Result<FaceUse, M
         "GenericTypeMap",
         node,
     )?;
-    let map = map_of(alloc, file, nodes.as_slice())?;
+    let map = typed_names(alloc, file, nodes.as_slice())?;
     Ok(FaceUse {
         place: place(file.file, node),
         face,

@@ -37,7 +37,8 @@ fn level_named(text: &str) -> Level
     }
 }
 
-fn tree_at(trees: &[Tree], file: u16) -> Option<&Tree>
+/// The tree of a file.
+pub(crate) fn tree_at(trees: &[Tree], file: u16) -> Option<&Tree>
     ensures { option_copied result ≡ slice_get trees.now file }
 {
     trees.get(file as usize)

@@ -1,11 +1,11 @@
 //! The interfaces of a sheet, under the maps of the ends that use them.
 
-ghost use Rattle.std.specs.Prelude.{◌≡◌, ◌++◌, slice_get, IfOk, OnOk};
-ghost use Rattle.std.specs.Option.{option_copied};
+ghost use Rattle.std.specs.Prelude.{◌≡◌, ◌++◌, IfOk, OnOk};
 ghost use Rattle.eds_base.specs.Answering.{Answers};
 ghost use Rattle.eds_read_comp.specs.Uses.{component_places as component_places_of, uses_at, all_uses as all_uses_of, end_verdict};
 
 use crate::end::push_uses;
+use crate::end_plan::tree_at;
 use crate::file::File;
 use eds_base::{Fail, Memory, Place, Refusal};
 use eds_generic::{FaceUse, bases_of, judge_uses, read_faces};
@@ -24,12 +24,6 @@ fn component_places(alloc: Global, space: &Space) -> Result<Vec<Place>, Memory>
         }
     }
     Ok(places)
-}
-
-fn tree_at(trees: &[Tree], file: u16) -> Option<&Tree>
-    ensures { option_copied result ≡ slice_get trees.now file }
-{
-    trees.get(file as usize)
 }
 
 fn push_uses_at(
@@ -55,7 +49,7 @@ fn push_uses_at(
 }
 
 /// What the ends of all components use, in document order.
-fn all_uses(alloc: Global, trees: &[Tree], space: &Space) -> Result<Vec<FaceUse>, Memory>
+pub(crate) fn all_uses(alloc: Global, trees: &[Tree], space: &Space) -> Result<Vec<FaceUse>, Memory>
     ensures { IfOk result (λ u. u.items ≡ all_uses_of trees.now space.now) }
 {
     let places = component_places(alloc, space)?;

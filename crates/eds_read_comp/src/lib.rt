@@ -1,11 +1,16 @@
-//! The components of a sheet (CCSDS 876.0-B, components): their ends, and the rules that they keep.
+//! The components of a sheet (CCSDS 876.0-B, components): their plan, and the rules that they keep.
 #![tactic(auto)]
 
+mod component;
 mod end;
 mod end_plan;
 mod faces;
 mod file;
+mod first_value;
+mod implementation;
 mod parameter_map;
+mod plan;
 mod variable;
 
 pub use faces::check_ends;
+pub use plan::read_components;

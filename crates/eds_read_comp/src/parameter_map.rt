@@ -5,14 +5,15 @@ ghost use Rattle.std.specs.Option.{option_copied};
 ghost use Rattle.eds_base.specs.Refusals.{least};
 ghost use Rattle.eds_names.specs.Repeats.{is_among};
 ghost use Rattle.eds_plan.specs.declared.component.EndPlan.{EndPlan as end_type};
-ghost use Rattle.eds_read_comp.specs.declared.variable.VariableHead.{VariableHead as head_type};
+ghost use Rattle.eds_read_act.specs.declared.variable.VariableHead.{VariableHead as head_type};
 ghost use Rattle.eds_read_comp.specs.ParameterMaps.{broken as broken_at, map_nodes as map_nodes_of, is_parameter as is_parameter_of, parameter_from, parameter_of as parameter_of_end, mapping_at as mapping_in, mapped_name as mapped_name_of, is_whole as is_whole_mapping, differs as differs_in, lacks_write as lacks_write_in, end_of as end_of_mapping, member_of as member_of_mapping, variable_of as variable_of_mapping, is_bad as is_bad_mapping, map_breaks_by, map_breaks_from, map_breaks as map_breaks_of, position as position_of, map_plan as map_plan_of, map_plans as map_plans_of};
 
-use crate::variable::{VariableHead, implemented};
+use crate::variable::implemented;
 use eds_base::{Kept, Memory, Place, Refusal, Rule, Text};
 use eds_generic::{place, text_of};
 use eds_names::NameList;
 use eds_plan::{EndPlan, MapPlan, Member};
+use eds_read_act::VariableHead;
 use eds_tree::Tree;
 use indexmap::IndexSet;
 use std::alloc::Global;

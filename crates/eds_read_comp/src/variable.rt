@@ -7,18 +7,11 @@ ghost use Rattle.eds_read_comp.specs.Variables.{implemented as implemented_in, v
 
 use crate::end::type_at;
 use crate::file::File;
-use eds_base::{Memory, Text, TypeId};
+use eds_base::{Memory, Text};
 use eds_generic::{held_by, held_in_sets, own_name, read_only};
+use eds_read_act::VariableHead;
 use eds_tree::Tree;
 use std::alloc::Global;
-
-/// A variable: its name, its type, and whether activities may not write it.
-#[derive(Drop)]
-pub(crate) struct VariableHead {
-    pub(crate) name: Text,
-    pub(crate) id: TypeId,
-    pub(crate) read_only: bool,
-}
 
 fn push_held_in(
     alloc: Global,
@@ -62,7 +55,8 @@ pub(crate) fn variable_nodes(alloc: Global, tree: &Tree, node: u32) -> Result<Ve
     implemented(alloc, tree, "VariableSet", "Variable", node)
 }
 
-fn variable_at(alloc: Global, file: &File, node: u32) -> Result<VariableHead, Memory>
+/// A variable as its element declares it.
+pub(crate) fn variable_at(alloc: Global, file: &File, node: u32) -> Result<VariableHead, Memory>
     ensures { IfOk result (λ v. v ≡ variable_in file.now.tree.now file.now.space.now file.now.file node) }
 {
     let name = Text::of(alloc, own_name(file.tree, node))?;

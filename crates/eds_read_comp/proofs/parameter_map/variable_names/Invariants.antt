@@ -1,5 +1,5 @@
 use Rattle.std.proofs.Common.{◌≡◌, ◌++◌, map, drop}
-use Rattle.eds_read_comp.specs.declared.variable.VariableHead.{VariableHead}
+use Rattle.eds_read_act.specs.declared.variable.VariableHead.{VariableHead}
 use Rattle.eds_read_comp.proofs.parameter_map.variable_names.Given as goal
 
 abbrev pub invariant-loop-variable : goal.invariant-loop-variable
