@@ -4,3 +4,4 @@ pub mod FilesLemmas
 pub mod CompiledLaws
 pub mod UsedTypes
 pub mod SoundSheets
+pub mod DefaultsFound

@@ -1,36 +1,46 @@
 -- An accepted sheet is sound.
-use Rattle.std.proofs.Common.{◌≡◌, ℕ, List, Option, None, Result, Ok, Err, refl, sym, ap, subst}
-use Rattle.std.specs.Prelude.{IfOk}
+use Rattle.std.proofs.Common.{◌≡◌, ℕ, ◌<◌, List, length, Option, None, Result, Ok, Err, refl, sym, ap, subst}
+use Rattle.std.specs.Prelude.{IfOk, IfSome, is_some}
 use Rattle.eds_base.specs.declared.fail.Fail.{Fail}
 use Rattle.eds_base.specs.declared.refusal.Refusal.{Refusal}
-use Rattle.eds_base.specs.Answering.{◌>>=◌, Answers}
+use Rattle.eds_base.specs.Answering.{Answers}
 use Rattle.eds_tree.specs.declared.tree.Node.{Node}
 use Rattle.eds_tree.specs.ShapeCheck.{shape_verdict}
 use Rattle.eds_names.specs.LookUp.{Names, names_in}
 use Rattle.eds_types.specs.Overlap.{IsClear}
-use Rattle.eds_types.specs.Rules.{KeepsRules}
+use Rattle.eds_types.specs.Rules.{IsHollow, KeepsRules}
 use Rattle.eds_types.specs.Sizes.{open_of}
 use Rattle.eds_overlap.specs.Pairs.{Named}
+use Rattle.eds_overlap.specs.Used.{HasAllNamed}
 use Rattle.eds_read_types.specs.declared.table.SheetTypes.{SheetTypes}
 use Rattle.eds_read_types.specs.TableRead.{table_read}
 use Rattle.eds_read_types.proofs.TableFacts.{table_unbroken, table_word, table_closed, table_solid}
 use Rattle.eds_read_types.proofs.SheetTableFacts.{sheet_keeps}
-use Rattle.eds_read_comp.specs.Uses.{end_verdict}
-use Rattle.eds_sheet.specs.declared.sheet.Sheet.{Sheet}
+use Rattle.eds_read_comp.specs.Plans.{plan_read}
+use Rattle.eds_sheet.specs.declared.judged.Judged.{Judged}
 use Rattle.eds_sheet.specs.Files.{trees_in}
-use Rattle.eds_sheet.specs.Pending.{pending_verdict}
-use Rattle.eds_sheet.specs.Compiled.{sheet_of, compiled_trees, compiled}
-use Rattle.eds_sheet.specs.Overlaps.{overlap_verdict}
-use Rattle.eds_sheet.proofs.UsedTypes.{used_clear, word_clear}
+use Rattle.eds_sheet.specs.Firsts.{Firsts}
+use Rattle.eds_sheet.specs.Compiled.{SeenSheet, sheet_of, judged_by, judged_trees, judged_files, with_plan, compiled}
+use Rattle.eds_sheet.specs.Overlaps.{AreClear, overlap_verdict}
 use Rattle.eds_sheet.specs.Laws.{IsSound, SheetsAreSound, UsedTypesAreClear}
+use Rattle.eds_sheet.proofs.Stages.{answered}
+use Rattle.eds_sheet.proofs.UsedTypes.{all_named, used_clear, word_clear}
 
--- where two steps give an answer, the first gives one too, and the second gives it from that
-answered : {A B : Type 0} (a : Result A Refusal) (f : A → Result B Refusal) (b : B) → (a >>= f) ≡ Ok b → (x : A) × (a ≡ Ok x) × (f x ≡ Ok b)
-answered (Ok x) f b h = (x, refl, h)
-answered (Err r) f b h = absurd cc
+-- ---- what was judged
+
+-- the types keep the rules; where a word was given, the type that it names is there, is clear, and has no spelling of no bits; and
+-- all types that are named are used, and are clear
+pub record IsSoundly (word : Option (List ℕ)) (typed : SheetTypes) : Type 0 where
+  pub rules : KeepsRules typed.table
+  pub named : IfSome typed.asked_type (λ id. id.0 < length typed.table)
+  pub clear : IfSome typed.asked_type (λ id. IsClear typed.table id.0)
+  pub solid : IfSome typed.asked_type (λ id. IsHollow typed.table id.0 → ⊥)
+  pub asked : is_some typed.asked_type ≡ is_some word
+  pub all : HasAllNamed typed.table typed.used
+  pub used : AreClear typed.table typed.used
 
 typed-sound : (trees : List (List Node)) (word : Option (List ℕ)) (names : Names) (typed : SheetTypes) → shape_verdict trees ≡ Ok tt → names_in trees ≡ Ok names → table_read trees names word ≡ Ok typed → overlap_verdict names typed ≡ Ok tt
-    → IsSound word (sheet_of names typed)
+    → IsSoundly word typed
 typed-sound trees word names typed shaped named read apart =
     let unbroken = table_unbroken trees names word typed read in
     let known = table_word trees names word typed read in
@@ -41,53 +51,92 @@ typed-sound trees word names typed shaped named read apart =
       clear = word_clear trees names word typed unbroken.1 keeps apart (table_closed trees names word named typed read);
       solid = table_solid trees names word named typed read;
       asked = known.1;
+      all = subst (λ (s : SheetTypes). HasAllNamed s.table s.used) unbroken.1 (all_named trees names word);
+      used = used_clear trees names word typed unbroken.1 keeps apart;
     }
 
-trees-sound : (trees : List (List Node)) (word : Option (List ℕ)) (sheet : Sheet) → compiled_trees trees word ≡ Ok sheet → IsSound word sheet
-trees-sound trees word sheet h =
-    let shaped = answered (shape_verdict trees) _ sheet h in
-    let built = answered (pending_verdict trees) _ sheet shaped.2 in
-    let named = answered (names_in trees) _ sheet built.2 in
-    let typed = answered (table_read trees named.0 word) _ sheet named.2 in
-    let apart = answered (overlap_verdict named.0 typed.0) _ sheet typed.2 in
-    let resolved = answered (end_verdict trees named.0 typed.0.table) _ sheet apart.2 in
-    let is : sheet_of named.0 typed.0 ≡ sheet = let made = resolved.2 in cc in
-    subst (IsSound word) is (typed-sound trees word named.0 typed.0 shaped.1 named.1 typed.1 apart.1)
+-- the steps of judging some trees
+pub record AreJudged (trees : List (List Node)) (word : Option (List ℕ)) (j : Judged) : Type 0 where
+  pub trees_are : j.trees ≡ trees
+  pub shaped : shape_verdict trees ≡ Ok tt
+  pub named : names_in trees ≡ Ok j.space
+  pub read : table_read trees j.space word ≡ Ok j.typed
+  pub apart : overlap_verdict j.space j.typed ≡ Ok tt
+
+pub trees-judged : (trees : List (List Node)) (word : Option (List ℕ)) (j : Judged) → judged_trees trees word ≡ Ok j → AreJudged trees word j
+trees-judged trees word j h =
+    let shaped = answered (shape_verdict trees) _ j h in
+    let named = answered (names_in trees) _ j shaped.2 in
+    let typed = answered (table_read trees named.0 word) _ j named.2 in
+    let apart = answered (overlap_verdict named.0 typed.0) _ j typed.2 in
+    let is : judged_by trees named.0 typed.0 ≡ j = let made = apart.2 in cc in
+    subst (AreJudged trees word) is (record { trees_are = refl; shaped = shaped.1; named = named.1; read = typed.1; apart = apart.1 })
+
+pub judged-sound : (files : List (List ℕ)) (word : Option (List ℕ)) (j : Judged) → judged_files files word ≡ Ok j → IsSoundly word j.typed
+unfolding judged_files
+judged-sound files word j h =
+    let trees = answered (trees_in files) _ j h in
+    let steps = trees-judged trees.0 word j trees.2 in
+    typed-sound trees.0 word j.space j.typed steps.shaped steps.named steps.read steps.apart
+
+-- what holds of all that may be judged so holds of what is answered
+pub answered_judged : (P : Judged → Type 0) (r : Result Judged (Fail Refusal)) (whole : Result Judged Refusal) → ((j : Judged) → whole ≡ Ok j → P j) → Answers (λ j. j) r whole → IfOk r P
+answered_judged P (Ok j) whole h a = h j a
+answered_judged P (Err e) whole h a = tt
+
+-- ---- sheets
+
+-- a sheet has the types that were judged
+sheet-judged : (firsts : Firsts) (files : List (List ℕ)) (word : Option (List ℕ)) (sheet : SeenSheet) → compiled firsts files word ≡ Ok sheet
+    → (j : Judged) × (judged_files files word ≡ Ok j) × (j.typed.table ≡ sheet.table) × (j.typed.asked_type ≡ sheet.asked_type)
+unfolding compiled
+sheet-judged firsts files word sheet h =
+    let judged = answered (judged_files files word) (with_plan firsts) sheet h in
+    let j = judged.0 in
+    let planned = answered (plan_read (firsts j.typed.table) j.trees j.space j.typed.table) _ sheet judged.2 in
+    let is : sheet_of j.space j.typed planned.0 ≡ sheet = let made = planned.2 in cc in
+    (j, judged.1, ap (λ (s : SeenSheet). s.table) is, ap (λ (s : SeenSheet). s.asked_type) is)
+
+same-sound : (word : Option (List ℕ)) (typed : SheetTypes) (sheet : SeenSheet) → typed.table ≡ sheet.table → typed.asked_type ≡ sheet.asked_type → IsSoundly word typed → IsSound word sheet
+same-sound word typed sheet t a s = record {
+  rules = subst KeepsRules t s.rules;
+  named = subst (λ rows. IfSome sheet.asked_type (λ id. id.0 < length rows)) t (subst (λ o. IfSome o (λ id. id.0 < length typed.table)) a s.named);
+  clear = subst (λ rows. IfSome sheet.asked_type (λ id. IsClear rows id.0)) t (subst (λ o. IfSome o (λ id. IsClear typed.table id.0)) a s.clear);
+  solid = subst (λ rows. IfSome sheet.asked_type (λ id. IsHollow rows id.0 → ⊥)) t (subst (λ o. IfSome o (λ id. IsHollow typed.table id.0 → ⊥)) a s.solid);
+  asked = subst (λ o. is_some o ≡ is_some word) a s.asked;
+}
 
 pub sheets-sound : SheetsAreSound
-unfolding compiled
-sheets-sound files word sheet h = let read = answered (trees_in files) _ sheet h in trees-sound read.0 word sheet read.2
+sheets-sound firsts files word sheet h =
+    let judged = sheet-judged firsts files word sheet h in
+    same-sound word judged.0.typed sheet judged.2 judged.3 (judged-sound files word judged.0 judged.1)
+
+-- ---- used types
 
 -- one step has one answer
 same_ok : {A : Type 0} (r : Result A Refusal) (a b : A) → r ≡ Ok a → r ≡ Ok b → a ≡ b
 same_ok r a b e f = cc
 
--- each used type is clear
-trees-clear : (trees : List (List Node)) (word : Option (List ℕ)) (sheet : Sheet) → compiled_trees trees word ≡ Ok sheet → (names : Names) (typed : SheetTypes) → names_in trees ≡ Ok names → table_read trees names word ≡ Ok typed
-    → (id : ℕ) → Named typed.used id → open_of sheet.table id ≡ None → IsClear sheet.table id
-trees-clear trees word sheet h names typed found types id used closed =
-    let shaped = answered (shape_verdict trees) _ sheet h in
-    let built = answered (pending_verdict trees) _ sheet shaped.2 in
-    let named = answered (names_in trees) _ sheet built.2 in
-    let read = answered (table_read trees named.0 word) _ sheet named.2 in
-    let apart = answered (overlap_verdict named.0 read.0) _ sheet read.2 in
-    let resolved = answered (end_verdict trees named.0 read.0.table) _ sheet apart.2 in
-    let is : sheet_of named.0 read.0 ≡ sheet = let made = resolved.2 in cc in
-    let table_is : read.0.table ≡ sheet.table = ap (λ (s : Sheet). s.table) is in
-    let same_names : names ≡ named.0 = same_ok (names_in trees) names named.0 found named.1 in
-    let same_typed : typed ≡ read.0 = same_ok (table_read trees named.0 word) typed read.0 (subst (λ n. table_read trees n word ≡ Ok typed) same_names types) read.1 in
-    let sound = typed-sound trees word named.0 read.0 shaped.1 named.1 read.1 apart.1 in
-    subst (λ t. IsClear t id) table_is
-    (used_clear trees named.0 word read.0 (table_unbroken trees named.0 word read.0 read.1).1 sound.rules apart.1 id (subst (λ (t : SheetTypes). Named t.used id) same_typed used) (subst (λ t. open_of t id ≡ None) (sym table_is) closed))
+-- each used type that was judged is clear
+judged-clear : (trees : List (List Node)) (word : Option (List ℕ)) (j : Judged) → judged_trees trees word ≡ Ok j → (names : Names) (typed : SheetTypes) → names_in trees ≡ Ok names → table_read trees names word ≡ Ok typed
+    → (id : ℕ) → Named typed.used id → open_of j.typed.table id ≡ None → IsClear j.typed.table id
+judged-clear trees word j h names typed found types id used closed =
+    let steps = trees-judged trees word j h in
+    let same_names : names ≡ j.space = same_ok (names_in trees) names j.space found steps.named in
+    let same_typed : typed ≡ j.typed = same_ok (table_read trees j.space word) typed j.typed (subst (λ n. table_read trees n word ≡ Ok typed) same_names types) steps.read in
+    let sound = typed-sound trees word j.space j.typed steps.shaped steps.named steps.read steps.apart in
+    used_clear trees j.space word j.typed (table_unbroken trees j.space word j.typed steps.read).1 sound.rules steps.apart id (subst (λ (t : SheetTypes). Named t.used id) same_typed used) closed
+
+files-clear : (files : List (List ℕ)) (word : Option (List ℕ)) (j : Judged) → judged_files files word ≡ Ok j → (trees : List (List Node)) (names : Names) (typed : SheetTypes) → trees_in files ≡ Ok trees → names_in trees ≡ Ok names → table_read trees names word ≡ Ok typed
+    → (id : ℕ) → Named typed.used id → open_of j.typed.table id ≡ None → IsClear j.typed.table id
+unfolding judged_files
+files-clear files word j h trees names typed read found types id used closed =
+    let own = answered (trees_in files) _ j h in
+    let same : own.0 ≡ trees = let a = own.1 in cc in
+    judged-clear trees word j (subst (λ ts. judged_trees ts word ≡ Ok j) same own.2) names typed found types id used closed
 
 pub used-types-clear : UsedTypesAreClear
-unfolding compiled
-used-types-clear files word sheet h trees names typed read found types id used closed =
-    let own = answered (trees_in files) _ sheet h in
-    let same : own.0 ≡ trees = let a = own.1 in cc in
-    trees-clear trees word sheet (subst (λ ts. compiled_trees ts word ≡ Ok sheet) same own.2) names typed found types id used closed
-
--- what holds of each sheet that is compiled holds of the one that is answered
-pub answered_sheet : (P : Sheet → Type 0) (r : Result Sheet (Fail Refusal)) (whole : Result Sheet Refusal) → ((sheet : Sheet) → whole ≡ Ok sheet → P sheet) → Answers (λ s. s) r whole → IfOk r P
-answered_sheet P (Ok sheet) whole h a = h sheet a
-answered_sheet P (Err e) whole h a = tt
+used-types-clear firsts files word sheet h trees names typed read found types id used closed =
+    let judged = sheet-judged firsts files word sheet h in
+    subst (λ t. IsClear t id) judged.2
+    (files-clear files word judged.0 judged.1 trees names typed read found types id used (subst (λ t. open_of t id ≡ None) (sym judged.2) closed))

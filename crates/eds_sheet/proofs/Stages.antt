@@ -55,3 +55,13 @@ stop_of-Err (Err q) r e = let same : q ≡ r = cc in rw same refl
 pub stop_of-then : {A B : Type 0} (a : Result A Refusal) (f : A → Result B Refusal) (o : Option Refusal) → ((x : A) → a ≡ Ok x → stop_of (f x) ≡ o) → stop_of (a >>= f) ≡ or_then (stop_of a) o
 stop_of-then (Ok x) f o h = h x refl
 stop_of-then (Err r) f o h = refl
+
+-- where two steps give an answer, the first gives one too, and the second gives it from that
+pub answered : {A B : Type 0} (a : Result A Refusal) (f : A → Result B Refusal) (b : B) → (a >>= f) ≡ Ok b → (x : A) × (a ≡ Ok x) × (f x ≡ Ok b)
+answered (Ok x) f b h = (x, refl, h)
+answered (Err r) f b h = absurd cc
+
+-- the first of three, where it is there
+pub or_then-assoc : (a b c : Option Refusal) → or_then (or_then a b) c ≡ or_then a (or_then b c)
+or_then-assoc None b c = refl
+or_then-assoc (Some r) b c = refl

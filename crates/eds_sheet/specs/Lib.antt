@@ -1,5 +1,5 @@
 pub mod Files
-pub mod Pending
+pub mod Firsts
 pub mod Overlaps
 pub mod Compiled
 pub mod Laws

@@ -1,16 +1,20 @@
 -- What a sheet breaks of which two containers overlap.
-use Rattle.std.specs.Prelude.{ℕ, ◌-◌, List, [], ◌∷◌, ◌==◌, if◌then◌else◌, Option, Some, None, option_map, Result}
+use Rattle.std.specs.Prelude.{◌≡◌, ℕ, ◌-◌, List, [], ◌∷◌, ◌==◌, if◌then◌else◌, Option, Some, None, option_map, Result}
 use Rattle.eds_base.specs.declared.ids.Place.{Place}
+use Rattle.eds_base.specs.declared.ids.TypeId.{TypeId}
 use Rattle.eds_base.specs.declared.refusal.Refusal.{Refusal}
 use Rattle.eds_base.specs.Refusals.{least}
 use Rattle.eds_tree.specs.ShapeCheck.{unless_broken}
 use Rattle.eds_names.specs.Declarations.{is_sort}
 use Rattle.eds_names.specs.LookUp.{Names}
 use Rattle.eds_names.specs.declared.declared.Declared.{Declared}
+use Rattle.eds_types.specs.Overlap.{IsClear}
 use Rattle.eds_types.specs.Rows.{Table}
+use Rattle.eds_types.specs.Sizes.{open_of}
 use Rattle.eds_overlap.specs.declared.find.Overlap.{Overlap}
 use Rattle.eds_overlap.specs.FirstOverlap.{first_overlap}
 use Rattle.eds_overlap.specs.Notes.{refusal_of}
+use Rattle.eds_overlap.specs.Pairs.{Named}
 use Rattle.eds_read_types.specs.declared.table.SheetTypes.{SheetTypes}
 
 -- the root of the first file
@@ -43,3 +47,7 @@ overlap_breaks names typed = broken_by (option_map (overlap_refused typed.table 
 -- nothing, unless two containers overlap
 abbrev pub overlap_verdict : Names → SheetTypes → Result (Unit {0}) Refusal
 overlap_verdict names typed = unless_broken (least (overlap_breaks names typed))
+
+-- no two containers overlap that are read through one of these types, open binaries excepted
+abbrev pub AreClear : Table → List TypeId → Type 0
+AreClear table used = (id : ℕ) → Named used id → open_of table id ≡ None → IsClear table id

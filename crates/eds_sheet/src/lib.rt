@@ -2,9 +2,9 @@
 #![tactic(auto)]
 
 mod files;
+mod judged;
 pub mod law;
 mod overlaps;
-mod pending;
 mod sheet;
 
 pub use files::Files;

@@ -7,6 +7,6 @@ returns c =
     let files = c.args.files.now in
     let word = option_map (λ w. w.now) c.args.word in
     record {
-      refused = λ r. (refused-by files word r, refused-for files word r);
-      accepted = (accepted-whole files word, whole-accepted files word);
+      refused = λ firsts r. (refused-by firsts files word r, refused-for firsts files word r);
+      accepted = λ firsts. (accepted-whole firsts files word, whole-accepted firsts files word);
     }
