@@ -3,7 +3,8 @@ use Rattle.std.proofs.Common.{◌≡◌, ℕ, ◌<◌, ◌≤◌, List, codes, l
 use Rattle.std.proofs.lemmas.Bool.{le-leb, lt-leb}
 use Rattle.std.specs.Fmt.{digits}
 use Rattle.eds_io.specs.Files.{Files}
-use Rattle.eds_sheet.specs.declared.sheet.Sheet.{Sheet}
+use Rattle.eds_sheet.specs.Compiled.{SeenSheet}
+use Rattle.eds_sheet.specs.Firsts.{Firsts}
 use Rattle.eds_types.specs.Plain.{Plain}
 use Rattle.eds_value.specs.declared.fail.ValueFail.{ValueFail}
 use Rattle.eds_value.specs.Json.{value_in}
@@ -27,8 +28,8 @@ use Rattle.eds_cmd.specs.Target.{TypeIn, type_of}
 use Rattle.eds_cmd.specs.Unpack.{UnpacksFrame, frame_for}
 
 -- the answer of a command of no more sheet files than there may be
-pub few_answer : (files : Files) (c : CommandWords) (status : Status) (report : List ℕ) → length c.sheets ≤ sheet_count → AnswersFew true c files status report → AnswersCommand (Some c) files status report
-few_answer files c status report few answer = rw (le-leb (length c.sheets) sheet_count few) answer
+pub few_answer : (firsts : Firsts) (files : Files) (c : CommandWords) (status : Status) (report : List ℕ) → length c.sheets ≤ sheet_count → AnswersFew firsts true c files status report → AnswersCommand firsts (Some c) files status report
+few_answer firsts files c status report few answer = rw (le-leb (length c.sheets) sheet_count few) answer
 
 -- ---- more sheet files than there may be
 
@@ -39,8 +40,8 @@ pub past_line_is : past_line ≡ limit_line what.Files sheet_count
 unfolding digits
 past_line_is = refl
 
-pub past_answer : (files : Files) (c : CommandWords) → sheet_count < length c.sheets → AnswersCommand (Some c) files (statuses.Limit what.Files sheet_count) past_line
-past_answer files c past = rw (lt-leb (length c.sheets) sheet_count past) (record { status_is = refl; report_is = past_line_is })
+pub past_answer : (firsts : Firsts) (files : Files) (c : CommandWords) → sheet_count < length c.sheets → AnswersCommand firsts (Some c) files (statuses.Limit what.Files sheet_count) past_line
+past_answer firsts files c past = rw (lt-leb (length c.sheets) sheet_count past) (record { status_is = refl; report_is = past_line_is })
 
 -- ---- the answer is no fault of the outside
 
@@ -72,18 +73,18 @@ work_end Pack type (Ok input) status report p = value_end type (value_in type.ta
 work_end Split type (Ok input) status report s = split_end type input status report s
 work_end verb type (Err stop) status report s = stop_end stop status report s
 
-does_end : (job : Option JobWords) (files : Files) (sheet : Sheet) (status : Status) (report : List ℕ) → DoesBy job files sheet status report → IsEnd status
+does_end : (job : Option JobWords) (files : Files) (sheet : SeenSheet) (status : Status) (report : List ℕ) → DoesBy job files sheet status report → IsEnd status
 does_end None files sheet status report d = inl d.status_is
 does_end (Some job) files sheet status report d = work_end job.verb (type_of sheet) (input_for files job) status report d
 
-by_end : (job : Option JobWords) (files : Files) (sheet : Result Sheet Stop) (status : Status) (report : List ℕ) → AnswersBy job files sheet status report → IsEnd status
+by_end : (job : Option JobWords) (files : Files) (sheet : Result SeenSheet Stop) (status : Status) (report : List ℕ) → AnswersBy job files sheet status report → IsEnd status
 by_end job files (Ok sheet) status report (inl w) = does_end job files sheet status report w.does
 by_end job files (Ok sheet) status report (inr p) = stop_end _ status report p.stop
 by_end job files (Err stop) status report s = stop_end stop status report s
 
-few_end : (few : Bool) (files : Files) (c : CommandWords) (status : Status) (report : List ℕ) → AnswersFew few c files status report → IsEnd status
-few_end true files c status report a = by_end c.job files (accepted files c) status report a
-few_end false files c status report s = stop_end _ status report s
+few_end : (firsts : Firsts) (few : Bool) (files : Files) (c : CommandWords) (status : Status) (report : List ℕ) → AnswersFew firsts few c files status report → IsEnd status
+few_end firsts true files c status report a = by_end c.job files (accepted firsts files c) status report a
+few_end firsts false files c status report s = stop_end _ status report s
 
 not_unread : (status : Status) (name : List ℕ) → IsEnd status → status ≡ statuses.ReadFault name → ⊥
 not_unread status name (inl done) e = cc (done, e)
@@ -96,11 +97,11 @@ not_unread status name (inr stop) e = by_cause stop.0 (sym stop.1 ∙ e)
     by_cause (causes.NoFile missing_name) h = cc h
 
 -- where a file of that name was not read, it is reached
-pub unread_reached : (Rises : List ℕ → Type 0) (files : Files) (c : CommandWords) (status : Status) (report name : List ℕ) → ComesTo Rises files c status report → status ≡ statuses.ReadFault name
-    → IsReached files c name
-unread_reached Rises files c status report name (inl answer) e = absurd (not_unread status name (few_end (nat_le (length c.sheets) sheet_count) files c status report answer) e)
-unread_reached Rises files c status report name (inr unread) e =
+pub unread_reached : (firsts : Firsts) (Rises : List ℕ → Type 0) (files : Files) (c : CommandWords) (status : Status) (report name : List ℕ) → ComesTo firsts Rises files c status report → status ≡ statuses.ReadFault name
+    → IsReached firsts files c name
+unread_reached firsts Rises files c status report name (inl answer) e = absurd (not_unread status name (few_end firsts (nat_le (length c.sheets) sheet_count) files c status report answer) e)
+unread_reached firsts Rises files c status report name (inr unread) e =
     let both : statuses.ReadFault unread.name ≡ statuses.ReadFault name = sym unread.status_is ∙ e in
     let one : unread.name ≡ name = cc both in
-    let P : List ℕ → Type 0 = λ n. IsReached files c n in
+    let P : List ℕ → Type 0 = λ n. IsReached firsts files c n in
     subst P one unread.reached

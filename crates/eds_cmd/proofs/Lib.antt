@@ -5,3 +5,4 @@ pub mod SheetFiles
 pub mod OneAnswer
 pub mod AnswerLemmas
 pub mod ValidLemmas
+pub mod Reporting

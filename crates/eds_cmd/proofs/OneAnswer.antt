@@ -12,8 +12,8 @@ use Rattle.eds_base.specs.declared.refusal.Refusal.{Refusal}
 use Rattle.eds_bits.specs.Bits.{Bits, bits_of}
 use Rattle.eds_io.specs.Files.{Files}
 use Rattle.eds_overlap.specs.Laws.{EmptyTypes, IsReadable, IsThere, OneCanonical, OneOutcome, PackingIsDecided}
-use Rattle.eds_sheet.specs.declared.sheet.Sheet.{Sheet}
-use Rattle.eds_sheet.specs.Compiled.{compiled}
+use Rattle.eds_sheet.specs.Compiled.{SeenSheet, compiled}
+use Rattle.eds_sheet.specs.Firsts.{Firsts}
 use Rattle.eds_sheet.specs.Laws.{IsSound, SheetsAreSound}
 use Rattle.eds_types.specs.Failing.{FailsAt, fault_at}
 use Rattle.eds_types.specs.Overlap.{IsClear}
@@ -183,7 +183,7 @@ module _ (laws : ValueLaws) (type : TypeIn) (is : IsReadable type.table type.id)
 -- ---- an accepted sheet
 
 -- the type that a word names in a sheet has no spelling of no bits
-word_solid : (word : List ℕ) (sheet : Sheet) → IsSound (Some word) sheet → IsHollow (type_of sheet).table (type_of sheet).id → ⊥
+word_solid : (word : List ℕ) (sheet : SeenSheet) → IsSound (Some word) sheet → IsHollow (type_of sheet).table (type_of sheet).id → ⊥
 word_solid word sheet s = go sheet.asked_type s.asked s.solid
   where
     go : (w : Option TypeId) → is_some w ≡ true → IfSome w (λ id. IsHollow sheet.table id.0 → ⊥) → IsHollow sheet.table (option_map_or (λ id. id.0) w 0) → ⊥
@@ -191,7 +191,7 @@ word_solid word sheet s = go sheet.asked_type s.asked s.solid
     go None asked solid = absurd (cc asked)
 
 -- the type that a word names in a sheet can be read
-word_readable : (word : List ℕ) (sheet : Sheet) → IsSound (Some word) sheet → IsReadable (type_of sheet).table (type_of sheet).id
+word_readable : (word : List ℕ) (sheet : SeenSheet) → IsSound (Some word) sheet → IsReadable (type_of sheet).table (type_of sheet).id
 word_readable word sheet s = go sheet.asked_type s.asked s.named s.clear
   where
     id_of : Option TypeId → ℕ
@@ -202,42 +202,42 @@ word_readable word sheet s = go sheet.asked_type s.asked s.named s.clear
     go None asked named clear = absurd (cc asked)
 
 -- an accepted sheet is sound
-accepted_sound : SheetsAreSound → (files : Files) (c : CommandWords) (sheet : Sheet) → accepted files c ≡ Ok sheet → IsSound (type_name_of c) sheet
-accepted_sound sound files c sheet is = go (sheet_files files 0 c.sheets) is
+accepted_sound : SheetsAreSound → (firsts : Firsts) (files : Files) (c : CommandWords) (sheet : SeenSheet) → accepted firsts files c ≡ Ok sheet → IsSound (type_name_of c) sheet
+accepted_sound sound firsts files c sheet is = go (sheet_files files 0 c.sheets) is
   where
-    unrefused : (r : Result Sheet Refusal) → or_refused r ≡ Ok sheet → r ≡ Ok sheet
+    unrefused : (r : Result SeenSheet Refusal) → or_refused r ≡ Ok sheet → r ≡ Ok sheet
     unrefused (Ok found) e = cc e
     unrefused (Err refusal) e = absurd (cc e)
 
-    go : (read : Result (List (List ℕ)) Stop) → (read >>= λ octets. or_refused (compiled octets (type_name_of c))) ≡ Ok sheet → IsSound (type_name_of c) sheet
-    go (Ok octets) e = sound octets (type_name_of c) sheet (unrefused (compiled octets (type_name_of c)) e)
+    go : (read : Result (List (List ℕ)) Stop) → (read >>= λ octets. or_refused (compiled firsts octets (type_name_of c))) ≡ Ok sheet → IsSound (type_name_of c) sheet
+    go (Ok octets) e = sound firsts octets (type_name_of c) sheet (unrefused (compiled firsts octets (type_name_of c)) e)
     go (Err stop) e = absurd (cc e)
 
 -- ---- the answer
 
 module _ (laws : ValueLaws) (files : Files) where
-  one_by_sheet : (job : Option JobWords) (sheet : Sheet) → IsSound (option_map (λ j. j.type_name) job) sheet → IsOfOne (DoesBy job files sheet)
+  one_by_sheet : (job : Option JobWords) (sheet : SeenSheet) → IsSound (option_map (λ j. j.type_name) job) sheet → IsOfOne (DoesBy job files sheet)
   one_by_sheet None sheet sound s o r l a b = (a.status_is ∙ sym b.status_is, a.report_is ∙ sym b.report_is)
   one_by_sheet (Some job) sheet sound s o r l a b = one_of_work laws (type_of sheet) (word_readable job.type_name sheet sound) (word_solid job.type_name sheet sound) job.verb (input_for files job) s o r l a b
 
-  some_by_sheet : (job : Option JobWords) (sheet : Sheet) → IsSound (option_map (λ j. j.type_name) job) sheet → IsOfSome (DoesBy job files sheet)
+  some_by_sheet : (job : Option JobWords) (sheet : SeenSheet) → IsSound (option_map (λ j. j.type_name) job) sheet → IsOfSome (DoesBy job files sheet)
   some_by_sheet None sheet sound = inl (counts_line sheet.counts, record { status_is = refl; report_is = refl })
   some_by_sheet (Some job) sheet sound = some_of_work laws (type_of sheet) (word_readable job.type_name sheet sound) (word_solid job.type_name sheet sound) job.verb (input_for files job)
 
   -- a report isn't both within its limit and past it
-  not_past : (job : Option JobWords) (sheet : Sheet) → IsSound (option_map (λ j. j.type_name) job) sheet → (s o : Status) (r l : List ℕ) → IsWithin job files sheet s r → IsPast job files sheet o l → ⊥
+  not_past : (job : Option JobWords) (sheet : SeenSheet) → IsSound (option_map (λ j. j.type_name) job) sheet → (s o : Status) (r l : List ℕ) → IsWithin job files sheet s r → IsPast job files sheet o l → ⊥
   not_past job sheet sound s o r l w p =
       let one = one_by_sheet job sheet sound s statuses.Done r p.whole w.does p.does in
       omega (arith, w.within one.0, p.past, ap length one.1)
 
-  one_by : (job : Option JobWords) (sheet : Result Sheet Stop) → ((found : Sheet) → sheet ≡ Ok found → IsSound (option_map (λ j. j.type_name) job) found) → IsOfOne (AnswersBy job files sheet)
+  one_by : (job : Option JobWords) (sheet : Result SeenSheet Stop) → ((found : SeenSheet) → sheet ≡ Ok found → IsSound (option_map (λ j. j.type_name) job) found) → IsOfOne (AnswersBy job files sheet)
   one_by job (Ok sheet) sound s o r l (inl w) (inl x) = one_by_sheet job sheet (sound sheet refl) s o r l w.does x.does
   one_by job (Ok sheet) sound s o r l (inl w) (inr p) = absurd (not_past job sheet (sound sheet refl) s o r l w p)
   one_by job (Ok sheet) sound s o r l (inr p) (inl w) = absurd (not_past job sheet (sound sheet refl) o s l r w p)
   one_by job (Ok sheet) sound s o r l (inr p) (inr q) = one_stop _ s o r l p.stop q.stop
   one_by job (Err stop) sound s o r l a b = one_stop stop s o r l a b
 
-  some_by : (job : Option JobWords) (sheet : Result Sheet Stop) → ((found : Sheet) → sheet ≡ Ok found → IsSound (option_map (λ j. j.type_name) job) found) → (status : Status) × (report : List ℕ) × AnswersBy job files sheet status report
+  some_by : (job : Option JobWords) (sheet : Result SeenSheet Stop) → ((found : SeenSheet) → sheet ≡ Ok found → IsSound (option_map (λ j. j.type_name) job) found) → (status : Status) × (report : List ℕ) × AnswersBy job files sheet status report
   some_by job (Ok sheet) sound = go (some_by_sheet job sheet (sound sheet refl))
     where
       go : IsOfSome (DoesBy job files sheet) → (status : Status) × (report : List ℕ) × AnswersBy job files (Ok sheet) status report
@@ -249,25 +249,26 @@ module _ (laws : ValueLaws) (files : Files) where
       go (inr k) = (status_of k.0.cause, k.0.report, inl (record { does = k.1; within = λ e. absurd (not_done k.0.cause e) }))
   some_by job (Err stop) sound = (status_of stop.cause, stop.report, itself stop)
 
-module _ (laws : ValueLaws) (sound : SheetsAreSound) where
-  one_of_few : (few : Bool) (c : CommandWords) (files : Files) → IsOfOne (AnswersFew few c files)
-  one_of_few true c files = one_by laws files c.job (accepted files c) (accepted_sound sound files c)
+module _ (laws : ValueLaws) (sound : SheetsAreSound) (firsts : Firsts) where
+  one_of_few : (few : Bool) (c : CommandWords) (files : Files) → IsOfOne (AnswersFew firsts few c files)
+  one_of_few true c files = one_by laws files c.job (accepted firsts files c) (accepted_sound sound firsts files c)
   one_of_few false c files = one_stop _
 
-  some_of_few : (few : Bool) (c : CommandWords) (files : Files) → (status : Status) × (report : List ℕ) × AnswersFew few c files status report
-  some_of_few true c files = some_by laws files c.job (accepted files c) (accepted_sound sound files c)
+  some_of_few : (few : Bool) (c : CommandWords) (files : Files) → (status : Status) × (report : List ℕ) × AnswersFew firsts few c files status report
+  some_of_few true c files = some_by laws files c.job (accepted firsts files c) (accepted_sound sound firsts files c)
   some_of_few false c files = let stop = limited what.Files sheet_count in (status_of stop.cause, stop.report, itself stop)
 
-  one_of_command : (c : Option CommandWords) (files : Files) → IsOfOne (AnswersCommand c files)
+  one_of_command : (c : Option CommandWords) (files : Files) → IsOfOne (AnswersCommand firsts c files)
   one_of_command None files s o r l a b = (a.0 ∙ sym b.0, a.1 ∙ sym b.1)
   one_of_command (Some c) files s o r l a b = one_of_few (nat_le (length c.sheets) sheet_count) c files s o r l a b
 
-  some_of_command : (c : Option CommandWords) (files : Files) → (status : Status) × (report : List ℕ) × AnswersCommand c files status report
+  some_of_command : (c : Option CommandWords) (files : Files) → (status : Status) × (report : List ℕ) × AnswersCommand firsts c files status report
   some_of_command None files = (statuses.Usage, usage_line, (refl, refl))
   some_of_command (Some c) files = some_of_few (nat_le (length c.sheets) sheet_count) c files
 
+module _ (laws : ValueLaws) (sound : SheetsAreSound) where
   pub one_answer : OneAnswer
-  one_answer words files s o r l a b = one_of_command (command_of words) files s o r l a b
+  one_answer firsts words files s o r l a b = one_of_command laws sound firsts (command_of words) files s o r l a b
 
   pub some_answer : SomeAnswer
-  some_answer words files = some_of_command (command_of words) files
+  some_answer firsts words files = some_of_command laws sound firsts (command_of words) files

@@ -5,6 +5,7 @@ use Rattle.std.proofs.lemmas.List.{drop_more, take-append-drop, take_more}
 use Rattle.std.proofs.lemmas.List.Sums.{sum_by-cons}
 use Rattle.eds_base.specs.Answering.{◌>>=◌}
 use Rattle.eds_io.specs.Files.{Files}
+use Rattle.eds_sheet.specs.Firsts.{Firsts}
 use Rattle.eds_cmd.specs.declared.stop.Stop.{Stop}
 use Rattle.std.specs.Result.{IsErrAnd}
 use Rattle.eds_cmd.specs.declared.ended.Ended.{Ended}
@@ -119,10 +120,10 @@ ended_reached files names name (Stopped stop) Risen reached h = h
 ended_reached files names name (Unread n) Risen reached h = rw (h.0) reached
 ended_reached files names name Memory Risen reached h = h
 
-pub ended_by_sheets : (files : Files) (c : CommandWords) (ended : Ended) → length c.sheets ≤ sheet_count → OnUnread ended (IsReachedSheet files c.sheets) → OnUnread ended (IsReached files c)
-ended_by_sheets files c (Stopped stop) few h = h
-ended_by_sheets files c (Unread n) few h = record { few = few; reached = inl h }
-ended_by_sheets files c Memory few h = h
+pub ended_by_sheets : (firsts : Firsts) (files : Files) (c : CommandWords) (ended : Ended) → length c.sheets ≤ sheet_count → OnUnread ended (IsReachedSheet files c.sheets) → OnUnread ended (IsReached firsts files c)
+ended_by_sheets firsts files c (Stopped stop) few h = h
+ended_by_sheets firsts files c (Unread n) few h = record { few = few; reached = inl h }
+ended_by_sheets firsts files c Memory few h = h
 
 -- an error that is handed on
 pub handed_on : {X : Type 0} (r : Result X Ended) (ended : Ended) → IsErrAnd r (λ e. e ≡ ended) → r ≡ Err ended

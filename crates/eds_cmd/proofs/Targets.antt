@@ -5,11 +5,11 @@ use Rattle.std.specs.Option.{option_map_or}
 use Rattle.eds_base.specs.declared.ids.TypeId.{TypeId}
 use Rattle.eds_types.specs.Overlap.{IsClear}
 use Rattle.eds_types.specs.Rules.{IsHollow}
-use Rattle.eds_sheet.specs.declared.sheet.Sheet.{Sheet}
+use Rattle.eds_sheet.specs.Compiled.{SeenSheet}
 use Rattle.eds_cmd.specs.Target.{IsKnown, MayBeRead, type_of}
 
 -- what is clear and has no spelling of no bits may be read
-pub may_be_read : (sheet : Sheet) → IfSome sheet.asked_type (λ id. IsClear sheet.table id.0) → IfSome sheet.asked_type (λ id. IsHollow sheet.table id.0 → ⊥) → MayBeRead sheet
+pub may_be_read : (sheet : SeenSheet) → IfSome sheet.asked_type (λ id. IsClear sheet.table id.0) → IfSome sheet.asked_type (λ id. IsHollow sheet.table id.0 → ⊥) → MayBeRead sheet
 unfolding MayBeRead
 may_be_read sheet clear solid = go sheet.asked_type clear solid
   where
@@ -18,7 +18,7 @@ may_be_read sheet clear solid = go sheet.asked_type clear solid
     go (Some id) c s = (c, s)
 
 -- a type that is there and may be read is known
-pub known_by : (sheet : Sheet) → IsSomeAnd sheet.asked_type (λ id. id.0 < length sheet.table) → MayBeRead sheet → IsKnown (type_of sheet)
+pub known_by : (sheet : SeenSheet) → IsSomeAnd sheet.asked_type (λ id. id.0 < length sheet.table) → MayBeRead sheet → IsKnown (type_of sheet)
 unfolding MayBeRead
 known_by sheet there readable = go sheet.asked_type there readable
   where

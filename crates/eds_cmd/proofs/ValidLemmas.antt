@@ -2,7 +2,8 @@
 use Rattle.std.proofs.Common.{◌≡◌, ◌++◌, ℕ, List, length, true, nat_le, inl, Option, Some, None, Result, Ok, refl, arith}
 use Rattle.std.proofs.lemmas.Bool.{le-leb}
 use Rattle.eds_io.specs.Files.{Files}
-use Rattle.eds_sheet.specs.declared.sheet.Sheet.{Sheet}
+use Rattle.eds_sheet.specs.Compiled.{SeenSheet}
+use Rattle.eds_sheet.specs.Firsts.{Firsts}
 use Rattle.eds_value.specs.JsonOfValue.{json_text}
 use Rattle.eds_cmd.specs.declared.command.Verb.{Verb}
 use Rattle.eds_cmd.specs.declared.command.Verb.TheVariants.{Unpack, Pack, Split}
@@ -39,7 +40,7 @@ valid_work Split type octets v = (
   inl (record { packets = v.0; cut = v.1; status_is = refl; report_is = refl }),
 )
 
-valid_does : (files : Files) (job : Option JobWords) (sheet : Sheet) → IsValidFor files job sheet → (report : List ℕ) × DoesBy job files sheet statuses.Done report
+valid_does : (files : Files) (job : Option JobWords) (sheet : SeenSheet) → IsValidFor files job sheet → (report : List ℕ) × DoesBy job files sheet statuses.Done report
 valid_does files None sheet v = (counts_line sheet.counts, record { status_is = refl; report_is = refl })
 valid_does files (Some job) sheet v =
     let work = valid_work job.verb (type_of sheet) v.input v.valid in
@@ -47,16 +48,16 @@ valid_does files (Some job) sheet v =
     (work.0, rw (v.there, within) work.1)
 
 -- the answer of a valid command is that it is done
-valid_answer : (files : Files) (c : CommandWords) → IsValid files c → (report : List ℕ) × AnswersCommand (Some c) files statuses.Done report
-valid_answer files c v =
+valid_answer : (firsts : Firsts) (files : Files) (c : CommandWords) → IsValid firsts files c → (report : List ℕ) × AnswersCommand firsts (Some c) files statuses.Done report
+valid_answer firsts files c v =
     let does = valid_does files c.job v.sheet v.input_valid in
     let few : nat_le (length c.sheets) sheet_count ≡ true = le-leb (length c.sheets) sheet_count v.few in
     let sheets = there_read files 0 c.sheets v.octets v.there (omega (arith, v.within)) in
     (does.0, rw (few, sheets, v.sheet_accepted) (inl (record { does = does.1; within = λ e. v.short does.0 does.1 })))
 
 -- and it has no other answer
-pub valid_done : OneAnswer → (words : List (List ℕ)) (files : Files) (c : CommandWords) (status : Status) (report : List ℕ) → command_of words ≡ Some c → IsValid files c → AnswersCommand (Some c) files status report
+pub valid_done : OneAnswer → (firsts : Firsts) (words : List (List ℕ)) (files : Files) (c : CommandWords) (status : Status) (report : List ℕ) → command_of words ≡ Some c → IsValid firsts files c → AnswersCommand firsts (Some c) files status report
     → status ≡ statuses.Done
-valid_done one words files c status report is v answer =
-    let valid = valid_answer files c v in
-    (one words files status statuses.Done report valid.0 (rw is answer) (rw is valid.1)).0
+valid_done one firsts words files c status report is v answer =
+    let valid = valid_answer firsts files c v in
+    (one firsts words files status statuses.Done report valid.0 (rw is answer) (rw is valid.1)).0

@@ -9,8 +9,8 @@ use Rattle.eds_types.specs.Plain.{Plain}
 use Rattle.eds_types.specs.Spelling.{Canon}
 use Rattle.eds_unpack.specs.Packets.{AreCut, Packet}
 use Rattle.eds_value.specs.Json.{value_in}
-use Rattle.eds_sheet.specs.declared.sheet.Sheet.{Sheet}
-use Rattle.eds_sheet.specs.Compiled.{compiled}
+use Rattle.eds_sheet.specs.Firsts.{Firsts}
+use Rattle.eds_sheet.specs.Compiled.{SeenSheet, compiled}
 use Rattle.eds_cmd.specs.declared.command.Verb.{Verb}
 use Rattle.eds_cmd.specs.declared.command.Verb.TheVariants.{Unpack, Pack, Split}
 use Rattle.eds_cmd.specs.Limits.{frame_octets, report_octets, sheet_count, sheet_octets, sheets_octets}
@@ -56,13 +56,13 @@ sheet_files files before (name ∷ names) = do
   Ok (octets ∷ others)
 
 -- a compiled sheet, or the stop for its refusal
-abbrev pub or_refused : Result Sheet Refusal → Result Sheet Stop
+abbrev pub or_refused : Result SeenSheet Refusal → Result SeenSheet Stop
 or_refused (Ok sheet) = Ok sheet
 or_refused (Err refusal) = Err (refused refusal)
 
--- the sheet of a command, with the type that the command names
-abbrev pub accepted : Files → CommandWords → Result Sheet Stop
-accepted files c = sheet_files files 0 c.sheets >>= λ octets. or_refused (compiled octets (type_name_of c))
+-- the sheet of a command, with the type that the command names, where a function tells what variables start with
+abbrev pub accepted : Firsts → Files → CommandWords → Result SeenSheet Stop
+accepted firsts files c = sheet_files files 0 c.sheets >>= λ octets. or_refused (compiled firsts octets (type_name_of c))
 
 -- the octets of the input file
 abbrev pub input_for : Files → JobWords → Result (List ℕ) Stop
@@ -86,45 +86,45 @@ WorksOn verb type (Ok input) status report = Works verb type input status report
 WorksOn verb type (Err stop) status report = IsStop stop status report
 
 -- the counts of an accepted sheet are reported
-pub record IsCounted (sheet : Sheet) (status : Status) (report : List ℕ) : Type 0 where
+pub record IsCounted (sheet : SeenSheet) (status : Status) (report : List ℕ) : Type 0 where
   pub status_is : status ≡ statuses.Done
   pub report_is : report ≡ counts_line sheet.counts
 
 -- what is done by an accepted sheet comes to this status and report
-abbrev pub DoesBy : Option JobWords → Files → Sheet → Status → List ℕ → Type 0
+abbrev pub DoesBy : Option JobWords → Files → SeenSheet → Status → List ℕ → Type 0
 DoesBy None files sheet status report = IsCounted sheet status report
 DoesBy (Some job) files sheet status report = WorksOn job.verb (type_of sheet) (input_for files job) status report
 
 -- what is done by an accepted sheet comes to this status and report, and the report is no longer than a report may be
-pub record IsWithin (job : Option JobWords) (files : Files) (sheet : Sheet) (status : Status) (report : List ℕ) : Type 0 where
+pub record IsWithin (job : Option JobWords) (files : Files) (sheet : SeenSheet) (status : Status) (report : List ℕ) : Type 0 where
   pub does : DoesBy job files sheet status report
   pub within : status ≡ statuses.Done → length report ≤ report_octets
 
 -- what is done by an accepted sheet comes to a report that is longer than a report may be, so that limit is passed
-pub record IsPast (job : Option JobWords) (files : Files) (sheet : Sheet) (status : Status) (report : List ℕ) : Type 0 where
+pub record IsPast (job : Option JobWords) (files : Files) (sheet : SeenSheet) (status : Status) (report : List ℕ) : Type 0 where
   pub whole : List ℕ
   pub does : DoesBy job files sheet statuses.Done whole
   pub past : report_octets < length whole
   pub stop : IsStop (limited what.Report report_octets) status report
 
 -- what a command comes to by its sheet, which may have ended it
-abbrev pub AnswersBy : Option JobWords → Files → Result Sheet Stop → Status → List ℕ → Type 0
+abbrev pub AnswersBy : Option JobWords → Files → Result SeenSheet Stop → Status → List ℕ → Type 0
 AnswersBy job files (Ok sheet) status report = IsWithin job files sheet status report ⊎ IsPast job files sheet status report
 AnswersBy job files (Err stop) status report = IsStop stop status report
 
 -- what a command comes to, given whether its sheet files are no more than there may be
-abbrev pub AnswersFew : Bool → CommandWords → Files → Status → List ℕ → Type 0
-AnswersFew true c files status report = AnswersBy c.job files (accepted files c) status report
-AnswersFew false c files status report = IsStop (limited what.Files sheet_count) status report
+abbrev pub AnswersFew : Firsts → Bool → CommandWords → Files → Status → List ℕ → Type 0
+AnswersFew firsts true c files status report = AnswersBy c.job files (accepted firsts files c) status report
+AnswersFew firsts false c files status report = IsStop (limited what.Files sheet_count) status report
 
 -- what the command comes to that words are, where they are one
-abbrev pub AnswersCommand : Option CommandWords → Files → Status → List ℕ → Type 0
-AnswersCommand None files status report = (status ≡ statuses.Usage) × (report ≡ usage_line)
-AnswersCommand (Some c) files status report = AnswersFew (nat_le (length c.sheets) sheet_count) c files status report
+abbrev pub AnswersCommand : Firsts → Option CommandWords → Files → Status → List ℕ → Type 0
+AnswersCommand firsts None files status report = (status ≡ statuses.Usage) × (report ≡ usage_line)
+AnswersCommand firsts (Some c) files status report = AnswersFew firsts (nat_le (length c.sheets) sheet_count) c files status report
 
--- the answer to words over files is this status and report
-abbrev pub Answer : List (List ℕ) → Files → Status → List ℕ → Type 0
-Answer words files status report = AnswersCommand (command_of words) files status report
+-- The answer to words over files is this status and report, where a function tells what the variables of sheets start with.
+abbrev pub Answer : Firsts → List (List ℕ) → Files → Status → List ℕ → Type 0
+Answer firsts words files status report = AnswersCommand firsts (command_of words) files status report
 
 -- ---- a read fault, and a command that is done
 
@@ -136,16 +136,16 @@ pub record IsReachedSheet (files : Files) (names : List (List ℕ)) (name : List
   pub are_read : IsOk (sheet_files files 0 before)
 
 -- the input file has the name, and the sheet is accepted
-pub record IsReachedInput (files : Files) (c : CommandWords) (name : List ℕ) : Type 0 where
+pub record IsReachedInput (firsts : Firsts) (files : Files) (c : CommandWords) (name : List ℕ) : Type 0 where
   pub job : JobWords
   pub job_is : c.job ≡ Some job
   pub name_is : name ≡ job.input
-  pub is_accepted : IsOk (accepted files c)
+  pub is_accepted : IsOk (accepted firsts files c)
 
 -- no case of the answer stands before the reading of a file of that name
-pub record IsReached (files : Files) (c : CommandWords) (name : List ℕ) : Type 0 where
+pub record IsReached (firsts : Firsts) (files : Files) (c : CommandWords) (name : List ℕ) : Type 0 where
   pub few : length c.sheets ≤ sheet_count
-  pub reached : IsReachedSheet files c.sheets name ⊎ IsReachedInput files c name
+  pub reached : IsReachedSheet files c.sheets name ⊎ IsReachedInput firsts files c name
 
 -- the text is hex of a frame that isn't too long, whose bits begin with a spelling and have at most 7 bits after it
 pub record IsValidFrame (type : TypeIn) (text : List ℕ) : Type 0 where
@@ -180,7 +180,7 @@ pub record IsValidJob (files : Files) (job : JobWords) (type : TypeIn) : Type 0 
   pub valid : IsValidInput job.verb type input
 
 -- a sheet that is only checked has no input
-abbrev pub IsValidFor : Files → Option JobWords → Sheet → Type 0
+abbrev pub IsValidFor : Files → Option JobWords → SeenSheet → Type 0
 IsValidFor files None sheet = ⊤
 IsValidFor files (Some job) sheet = IsValidJob files job (type_of sheet)
 
@@ -193,12 +193,12 @@ AreThere files (name ∷ names) (octets ∷ others) = (file_named name files ≡
 
 -- The files of the command are there and within their limits, the sheet is accepted, the input is valid, and the report
 -- of what is done is within its limit.
-pub record IsValid (files : Files) (c : CommandWords) : Type 0 where
+pub record IsValid (firsts : Firsts) (files : Files) (c : CommandWords) : Type 0 where
   pub few : length c.sheets ≤ sheet_count
   pub octets : List (List ℕ)
   pub there : AreThere files c.sheets octets
   pub within : sum_by length octets ≤ sheets_octets
-  pub sheet : Sheet
-  pub sheet_accepted : compiled octets (type_name_of c) ≡ Ok sheet
+  pub sheet : SeenSheet
+  pub sheet_accepted : compiled firsts octets (type_name_of c) ≡ Ok sheet
   pub input_valid : IsValidFor files c.job sheet
   pub short : (report : List ℕ) → DoesBy c.job files sheet statuses.Done report → length report ≤ report_octets

@@ -1,6 +1,7 @@
 -- The status and the report of a command over a shelf, some of whose reads may fail.
 use Rattle.std.specs.Prelude.{◌≡◌, ℕ, List, Bool, true, false, Some, IsSomeAnd, ⊤, ◌⊎◌}
 use Rattle.eds_io.specs.Files.{Files}
+use Rattle.eds_sheet.specs.Firsts.{Firsts}
 use Rattle.eds_cmd.specs.declared.status.Status.{Status}
 use Rattle.eds_cmd.specs.declared.status.Status.TheVariants.{Done, Sheet, Usage, Data, ReadFault, WriteFault, Memory, Limit, NoFile}
 use Rattle.eds_cmd.specs.Answer.{Answer, AnswersCommand, IsReached}
@@ -44,17 +45,17 @@ is_usage (Limit what most) = false
 is_usage (NoFile name) = false
 
 -- a read of a file of the command failed: no case of the answer stands before that file, and the report is its line
-pub record IsUnread (Rises : List ℕ → Type 0) (files : Files) (c : CommandWords) (status : Status) (report : List ℕ) : Type 0 where
+pub record IsUnread (firsts : Firsts) (Rises : List ℕ → Type 0) (files : Files) (c : CommandWords) (status : Status) (report : List ℕ) : Type 0 where
   pub name : List ℕ
   pub status_is : status ≡ ReadFault name
   pub report_is : report ≡ read_fault_line name
   pub risen : Rises name
-  pub reached : IsReached files c name
+  pub reached : IsReached firsts files c name
 
 -- over told files, a command comes to its answer, or to a read fault
-abbrev pub ComesTo : (List ℕ → Type 0) → Files → CommandWords → Status → List ℕ → Type 0
-ComesTo Rises files c status report = AnswersCommand (Some c) files status report ⊎ IsUnread Rises files c status report
+abbrev pub ComesTo : Firsts → (List ℕ → Type 0) → Files → CommandWords → Status → List ℕ → Type 0
+ComesTo firsts Rises files c status report = AnswersCommand firsts (Some c) files status report ⊎ IsUnread firsts Rises files c status report
 
 -- what is to be written for the words: the report of the answer, or the line of a read fault
-abbrev pub IsReport : (List ℕ → Type 0) → List (List ℕ) → Files → List ℕ → Type 0
-IsReport Rises words files report = (status : Status) × (Answer words files status report ⊎ IsSomeAnd (command_of words) (λ c. IsUnread Rises files c status report))
+abbrev pub IsReport : Firsts → (List ℕ → Type 0) → List (List ℕ) → Files → List ℕ → Type 0
+IsReport firsts Rises words files report = (status : Status) × (Answer firsts words files status report ⊎ IsSomeAnd (command_of words) (λ c. IsUnread firsts Rises files c status report))

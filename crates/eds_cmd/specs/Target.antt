@@ -4,7 +4,7 @@ use Rattle.std.specs.Option.{option_map_or}
 use Rattle.eds_types.specs.Rows.{Table}
 use Rattle.eds_types.specs.Overlap.{IsClear}
 use Rattle.eds_types.specs.Rules.{IsHollow}
-use Rattle.eds_sheet.specs.declared.sheet.Sheet.{Sheet}
+use Rattle.eds_sheet.specs.Compiled.{SeenSheet}
 use Rattle.eds_cmd.specs.declared.target.Target.{Target}
 
 -- a type by its number in a table
@@ -17,11 +17,11 @@ abbrev pub type_in : Target → TypeIn
 type_in t = record { table = t.table.now; id = t.id.0 }
 
 -- the type that a command names, which compiling a sheet has found; the first one where it names none
-abbrev pub type_of : Sheet → TypeIn
+abbrev pub type_of : SeenSheet → TypeIn
 type_of sheet = record { table = sheet.table; id = option_map_or (λ id. id.0) sheet.asked_type 0 }
 
 -- no two containers overlap under the type that a command names, and it has no spelling of no bits, where it names one
-unfoldable pub MayBeRead : Sheet → Type 0
+unfoldable pub MayBeRead : SeenSheet → Type 0
 MayBeRead sheet = IfSome sheet.asked_type (λ id. IsClear sheet.table id.0 × (IsHollow sheet.table id.0 → ⊥))
 
 -- the type is there, clear, and has no spelling of no bits

@@ -5,7 +5,8 @@ ghost use Rattle.std.specs.List.{Contains};
 ghost use Rattle.eds_base.specs.Answering.{Answers};
 ghost use Rattle.eds_io.specs.Counts.{HasRisen};
 ghost use Rattle.eds_io.specs.Files.{Files};
-ghost use Rattle.eds_sheet.specs.Compiled.{compiled};
+ghost use Rattle.eds_sheet.specs.Compiled.{compiled, seen_sheet};
+ghost use Rattle.eds_sheet.specs.Firsts.{WhereFirstsAreTold};
 ghost use Rattle.eds_cmd.specs.Answer.{AnswersFew, DoesBy, IsReached, IsReachedSheet, Works, accepted, input_for as input_of, or_refused, sheet_file as sheet_of_name, sheet_files as sheets_of_names, whole_file as whole, within_report as within_limit};
 ghost use Rattle.eds_cmd.specs.Command.{ReadsFile, job_words, words_of};
 ghost use Rattle.eds_cmd.specs.Endings.{Comes, CommandEndsAs, EndsAs, OnUnread};
@@ -113,9 +114,9 @@ fn sheet_by(
 ) -> Result<Sheet, Fail<Stop>>
     requires few { length files.now ≤ SHEETS }
     requires short { All (λ file. length file < 2 ^ 32) files.now }
-    ensures answer { Answers (λ s. s) result (or_refused (compiled files.now (option_map (λ w. w.now) type_name.entry))) }
+    ensures answer { WhereFirstsAreTold (λ firsts. Answers seen_sheet result (or_refused (compiled firsts files.now (option_map (λ w. w.now) type_name.entry)))) }
     ensures word { IfOk result (λ s. IfSome s.asked_type (λ id. id.0 < length s.table)) }
-    ensures readable { IfOk result MayBeRead }
+    ensures readable { IfOk result (λ s. MayBeRead (seen_sheet s)) }
     ensures given { IfOk result (λ s. is_some s.asked_type ≡ is_some type_name.entry) }
 {
     match compile(alloc, files, type_name) {
@@ -128,10 +129,10 @@ fn sheet_by(
 // The sheet of a command, with the type that it names.
 fn sheet_for<S: Shelf>(alloc: Global, command: &Command<'_>, shelf: &mut S) -> Result<Sheet, Ended>
     requires { length command.now.sheets.now ≤ SHEETS }
-    ensures told { (files : Files) → S.files shelf.old ≡ Some files
-        → Comes (λ s. s) result (accepted files (words_of command.now)) }
+    ensures told { WhereFirstsAreTold (λ firsts. (files : Files) → S.files shelf.old ≡ Some files
+        → Comes seen_sheet result (accepted firsts files (words_of command.now))) }
     ensures word { IfOk result (λ s. IfSome s.asked_type (λ id. id.0 < length s.table)) }
-    ensures readable { IfOk result MayBeRead }
+    ensures readable { IfOk result (λ s. MayBeRead (seen_sheet s)) }
     ensures given { IfOk result (λ s. is_some s.asked_type ≡ is_some command.now.job) }
     ensures files { S.files shelf.new ≡ S.files shelf.old }
     ensures calm { (other : List ℕ) → S.faults shelf.old other ≤ S.faults shelf.new other }
@@ -183,9 +184,9 @@ fn run_job<S: Shelf>(
     shelf: &mut S,
 ) -> Result<String, Ended>
     requires word { IsSomeAnd sheet.now.asked_type (λ id. id.0 < length sheet.now.table) }
-    requires readable { MayBeRead sheet.now }
+    requires readable { MayBeRead (seen_sheet sheet.now) }
     ensures told { (files : Files) → S.files shelf.old ≡ Some files
-        → CommandEndsAs string_bytes (DoesBy (Some (job_words job.now)) files sheet.now) result }
+        → CommandEndsAs string_bytes (DoesBy (Some (job_words job.now)) files (seen_sheet sheet.now)) result }
     ensures calm { (other : List ℕ) → S.faults shelf.old other ≤ S.faults shelf.new other }
     ensures unread { IfErr result (λ ended. OnUnread ended
         (λ n. (n ≡ job.now.input.now) × HasRisen (S.faults shelf.old n) (S.faults shelf.new n))) }
@@ -203,10 +204,10 @@ fn report_for<S: Shelf>(
     shelf: &mut S,
 ) -> Result<String, Ended>
     requires word { IfSome sheet.now.asked_type (λ id. id.0 < length sheet.now.table) }
-    requires readable { MayBeRead sheet.now }
+    requires readable { MayBeRead (seen_sheet sheet.now) }
     requires given { is_some sheet.now.asked_type ≡ is_some job }
     ensures told { (files : Files) → S.files shelf.old ≡ Some files
-        → CommandEndsAs string_bytes (DoesBy (option_map job_words job.entry) files sheet.now) result }
+        → CommandEndsAs string_bytes (DoesBy (option_map job_words job.entry) files (seen_sheet sheet.now)) result }
     ensures calm { (other : List ℕ) → S.faults shelf.old other ≤ S.faults shelf.new other }
     ensures cause { IfErr result (λ ended. OnUnread ended
         (λ n. HasRisen (S.faults shelf.old n) (S.faults shelf.new n))) }
@@ -236,14 +237,14 @@ pub fn perform<S: Shelf>(
     shelf: &mut S,
 ) -> Result<String, Ended>
     requires { length command.now.sheets.now ≤ SHEETS }
-    ensures told { (files : Files) → S.files shelf.old ≡ Some files
-        → CommandEndsAs string_bytes (AnswersFew true (words_of command.now) files) result }
+    ensures told { WhereFirstsAreTold (λ firsts. (files : Files) → S.files shelf.old ≡ Some files
+        → CommandEndsAs string_bytes (AnswersFew firsts true (words_of command.now) files) result) }
     ensures calm { (other : List ℕ) → S.faults shelf.old other ≤ S.faults shelf.new other }
     ensures cause { IfErr result (λ ended. OnUnread ended
         (λ n. HasRisen (S.faults shelf.old n) (S.faults shelf.new n))) }
     ensures file { IfErr result (λ ended. OnUnread ended (ReadsFile (words_of command.now))) }
-    ensures reached { (files : Files) → S.files shelf.old ≡ Some files
-        → IfErr result (λ ended. OnUnread ended (IsReached files (words_of command.now))) }
+    ensures reached { WhereFirstsAreTold (λ firsts. (files : Files) → S.files shelf.old ≡ Some files
+        → IfErr result (λ ended. OnUnread ended (IsReached firsts files (words_of command.now)))) }
 {
     let sheet = sheet_for(alloc, command, shelf)?;
     let report = report_for(alloc, command.job, &sheet, shelf)?;

@@ -3,6 +3,7 @@
 ghost use Rattle.std.specs.Prelude.{◌≡◌, ◌≢◌, ◌≤◌, ◌<◌, ◌++◌, ◌⊎◌, ℕ, List, Some, length, take, true, false, string_bytes, IfOk, IfSome, IsNone, IsSomeAnd};
 ghost use Rattle.eds_io.specs.Counts.{HasRisen};
 ghost use Rattle.eds_io.specs.Files.{Files};
+ghost use Rattle.eds_sheet.specs.Firsts.{WhereFirstsAreTold};
 ghost use Rattle.eds_cmd.specs.Answer.{Answer, IsReached, IsValid};
 ghost use Rattle.eds_cmd.specs.Command.{CommandWords, ReadsFile, command_of as command_in, words_of};
 ghost use Rattle.eds_cmd.specs.Outcome.{ComesTo, IsFault, IsReport, has_report, is_usage};
@@ -51,8 +52,8 @@ fn run_command<S: Shelf>(
     shelf: &mut S,
 ) -> Result<Outcome, Memory>
     requires { length command.now.sheets.now ≤ SHEETS }
-    ensures told { (files : Files) → S.files shelf.old ≡ Some files → IfOk result (λ o.
-        ComesTo (λ n. HasRisen (S.faults shelf.old n) (S.faults shelf.new n)) files (words_of command.now) o.status o.report) }
+    ensures told { WhereFirstsAreTold (λ firsts. (files : Files) → S.files shelf.old ≡ Some files → IfOk result (λ o.
+        ComesTo firsts (λ n. HasRisen (S.faults shelf.old n) (S.faults shelf.new n)) files (words_of command.now) o.status o.report)) }
     ensures cause { IfOk result (λ o. (name : List ℕ) → o.status ≡ Status.ReadFault name
         → HasRisen (S.faults shelf.old name) (S.faults shelf.new name)) }
     ensures file { IfOk result (λ o. (name : List ℕ) → o.status ≡ Status.ReadFault name
@@ -91,13 +92,15 @@ fn finish<K: Sink>(sink: &mut K, status: Status, report: &str) -> Status
     }
 }
 
-/// Runs a command on the files of a shelf, and writes its report to a sink.
+/// Runs a command on the files of a shelf, and writes its report to a sink. What depends on a sheet is said of every function that
+/// tells what the variables of sheets start with, and there is one (`answer_is_one`), so none of it is empty.
 pub fn eds<S: Shelf, K: Sink>(alloc: Global, words: &Words, shelf: &mut S, sink: &mut K) -> Status
     // Where the shelf tells its files, and nothing fails, the status is that of the answer. Where the sink tells what is
     // written, that is the report of the answer.
-    ensures status { (files : Files) → S.files shelf.old ≡ Some files → ¬ (IsFault result) → (report : List ℕ) × Answer words.now files result report }
-    ensures answer { (files : Files) (before : List ℕ) → S.files shelf.old ≡ Some files → K.written sink.old ≡ Some before → ¬ (IsFault result)
-        → (report : List ℕ) × Answer words.now files result report × (K.written sink.new ≡ Some (before ++ report)) }
+    ensures status { WhereFirstsAreTold (λ firsts. (files : Files) → S.files shelf.old ≡ Some files → ¬ (IsFault result)
+        → (report : List ℕ) × Answer firsts words.now files result report) }
+    ensures answer { WhereFirstsAreTold (λ firsts. (files : Files) (before : List ℕ) → S.files shelf.old ≡ Some files → K.written sink.old ≡ Some before → ¬ (IsFault result)
+        → (report : List ℕ) × Answer firsts words.now files result report × (K.written sink.new ≡ Some (before ++ report))) }
 
     // Over any shelf, usage comes exactly where the words are no command, and its line is written.
     ensures usage { IsNone (command_in words.now) → ¬ (IsFault result) → result ≡ Status.Usage }
@@ -113,26 +116,26 @@ pub fn eds<S: Shelf, K: Sink>(alloc: Global, words: &Words, shelf: &mut S, sink:
     // of the answer stands before that file, and its line is written.
     ensures read_cause { (name : List ℕ) → result ≡ Status.ReadFault name → HasRisen (S.faults shelf.old name) (S.faults shelf.new name) }
     ensures read_file { (name : List ℕ) → result ≡ Status.ReadFault name → IsSomeAnd (command_in words.now) (λ c. ReadsFile c name) }
-    ensures read_first { (files : Files) (name : List ℕ) → S.files shelf.old ≡ Some files → result ≡ Status.ReadFault name
-        → IsSomeAnd (command_in words.now) (λ c. IsReached files c name) }
+    ensures read_first { WhereFirstsAreTold (λ firsts. (files : Files) (name : List ℕ) → S.files shelf.old ≡ Some files → result ≡ Status.ReadFault name
+        → IsSomeAnd (command_in words.now) (λ c. IsReached firsts files c name)) }
     ensures read_line { (before name : List ℕ) → K.written sink.old ≡ Some before → result ≡ Status.ReadFault name
         → K.written sink.new ≡ Some (before ++ line_of_read_fault name) }
 
     // A write fault comes only where the count of faults has risen or stands at its end. What was written is
     // a front of the report, or of a read fault's line.
     ensures write_cause { result ≡ Status.WriteFault → HasRisen (K.faults sink.old) (K.faults sink.new) }
-    ensures write_prefix { (files : Files) (before : List ℕ) → S.files shelf.old ≡ Some files → K.written sink.old ≡ Some before → result ≡ Status.WriteFault
-        → (report : List ℕ) × (n : ℕ) × IsReport (λ name. HasRisen (S.faults shelf.old name) (S.faults shelf.new name)) words.now files report
-        × (K.written sink.new ≡ Some (before ++ take n report)) }
+    ensures write_prefix { WhereFirstsAreTold (λ firsts. (files : Files) (before : List ℕ) → S.files shelf.old ≡ Some files → K.written sink.old ≡ Some before → result ≡ Status.WriteFault
+        → (report : List ℕ) × (n : ℕ) × IsReport firsts (λ name. HasRisen (S.faults shelf.old name) (S.faults shelf.new name)) words.now files report
+        × (K.written sink.new ≡ Some (before ++ take n report))) }
 
     // Where memory is refused, the words are a command of no more sheet files than there may be, and nothing is written.
     ensures memory_command { result ≡ Status.Memory → IsSomeAnd (command_in words.now) (λ c. length c.sheets ≤ sheet_count) }
     ensures memory_nothing { result ≡ Status.Memory → K.written sink.new ≡ K.written sink.old }
 
     // A valid command over told files is done, where no fault is counted.
-    ensures complete { (files : Files) (c : CommandWords) → S.files shelf.old ≡ Some files → command_in words.now ≡ Some c → IsValid files c
+    ensures complete { WhereFirstsAreTold (λ firsts. (files : Files) (c : CommandWords) → S.files shelf.old ≡ Some files → command_in words.now ≡ Some c → IsValid firsts files c
         → ((name : List ℕ) → ¬ (HasRisen (S.faults shelf.old name) (S.faults shelf.new name))) → ¬ (HasRisen (K.faults sink.old) (K.faults sink.new))
-        → (result ≡ Status.Done) ⊎ (result ≡ Status.Memory) }
+        → (result ≡ Status.Done) ⊎ (result ≡ Status.Memory)) }
 {
     let Some(command) = command_of(words.as_slice()) else {
         return finish(sink, Status::Usage, USAGE);
