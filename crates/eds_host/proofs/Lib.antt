@@ -26,3 +26,4 @@ pub mod Outside
 pub mod Clock
 pub mod InTurn
 pub mod Marked
+pub mod Sounding

@@ -13,3 +13,4 @@ pub mod Steps
 pub mod Hosts
 pub mod Resting
 pub mod Arguments
+pub mod Worlds
