@@ -6,3 +6,8 @@ pub mod OneAnswer
 pub mod AnswerLemmas
 pub mod ValidLemmas
 pub mod Reporting
+pub mod Printing
+pub mod Handing
+pub mod Running
+pub mod OneRun
+pub mod SomeRun

@@ -2,8 +2,11 @@
 
 ghost use Rattle.eds_sheet.specs.Laws.{FirstsAreTold};
 ghost use Rattle.eds_cmd.specs.Laws.{OneAnswer, SomeAnswer};
+ghost use Rattle.eds_cmd.specs.RunLaws.{OneRun, OutsMayBePrinted, PlansKnowTypes, ScriptsMayBeHandled, SomeRun, StatesMayBePrinted, ValidScriptsRun};
 
+use eds_host::law::{lines_keep_sound, lines_take_their_time, runs_join, unnamed_ends_are_outside};
 use eds_overlap::law::{canonical_spelling, empty_types, one_outcome, packing_is_decided};
+use eds_script::law::{one_line, scripts_may_run};
 use eds_sheet::law::{firsts_are_told, sheets_are_sound};
 use eds_unpack::law::one_cut;
 
@@ -21,4 +24,41 @@ pub fn answer_is_one()
     one_cut();
     sheets_are_sound();
     firsts_are_told();
+}
+
+/// A plan that fits its table has members of types of that table, as reading a script asks.
+pub fn plans_know_types()
+    ensures { PlansKnowTypes }
+{}
+
+/// The lines that a text stands for may be handed, one after another, to a new host over the wires that the text asks for.
+pub fn scripts_may_be_handled()
+    ensures { ScriptsMayBeHandled }
+{
+    scripts_may_run();
+    unnamed_ends_are_outside();
+}
+
+/// What leaves a run of a host has a line.
+pub fn outs_may_be_printed()
+    ensures { OutsMayBePrinted }
+{}
+
+/// The state of a component of a host at rest has its lines.
+pub fn states_may_be_printed()
+    ensures { StatesMayBePrinted }
+{}
+
+/// Running a script over components whose plan fits comes to exactly one thing, a status and a report; and a valid script is run
+/// to its end.
+pub fn run_is_one()
+    ensures one { OneRun }
+    ensures some { SomeRun }
+    ensures valid { ValidScriptsRun }
+{
+    runs_join();
+    lines_take_their_time();
+    lines_keep_sound();
+    one_line();
+    scripts_may_be_handled();
 }

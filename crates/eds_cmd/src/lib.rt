@@ -9,6 +9,7 @@ mod limits;
 mod pack;
 mod perform;
 mod report;
+mod run;
 mod split;
 mod status;
 mod stop;
@@ -17,7 +18,11 @@ mod top;
 mod unpack;
 mod words;
 
-pub use law::answer_is_one;
+pub use law::{
+    answer_is_one, outs_may_be_printed, plans_know_types, run_is_one, scripts_may_be_handled,
+    states_may_be_printed,
+};
+pub use run::{Components, run_script};
 pub use status::{DataFault, Status, What};
 pub use top::eds;
 pub use words::Words;
