@@ -23,3 +23,4 @@ pub mod OneFrame
 pub mod FramedLines
 pub mod Once
 pub mod Outside
+pub mod Sounding

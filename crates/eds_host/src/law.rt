@@ -1,9 +1,11 @@
 //! Laws of runs.
 
 ghost use Rattle.eds_host.specs.Hosts.{ComponentsArePunctual, FramesHaveOneOutcome, PlansReadOne, RunsGoOn, RunsHaveOneOutcome, RunsJoin, TimersFireOnce, UnnamedEndsAreOutside};
+ghost use Rattle.eds_host.specs.Worlds.{LinesHaveCourses, LinesKeepSound};
 ghost use Rattle.eds_host.specs.Laws.{CoursesAreChains, CoursesGoOnOrStorm, EachIsDelivered, NoneIsLate, TicksAdd, TimeGoesOn, TimersAreOnTime};
 
 use eds_overlap::law::one_outcome;
+use eds_types::packs::packed_sizes;
 
 /// A tick is two ticks of the same time together, unless it is a storm.
 pub fn ticks_add()
@@ -63,5 +65,16 @@ pub fn frames_have_one_outcome()
     ensures frame { FramesHaveOneOutcome }
     ensures plan { PlansReadOne }
 {
+    one_outcome();
+}
+
+/// Where a plan fits, each line that may come has a course. After it all variables have values that pack, what is still to be
+/// delivered may arrive, and it is the time that the line tells; and each primitive that left the run goes the way that leaves
+/// at its end, with the values that its member carries so.
+pub fn lines_keep_sound()
+    ensures sound { LinesKeepSound }
+    ensures some { LinesHaveCourses }
+{
+    packed_sizes();
     one_outcome();
 }
