@@ -5,3 +5,6 @@ pub mod SheetFiles
 pub mod OneAnswer
 pub mod AnswerLemmas
 pub mod ValidLemmas
+pub mod Bridging
+pub mod Running
+pub mod OneRun

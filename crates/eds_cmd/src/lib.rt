@@ -2,6 +2,7 @@
 #![tactic(auto)]
 
 mod command;
+mod demonstration;
 mod ended;
 mod hex_text;
 mod law;
@@ -9,6 +10,7 @@ mod limits;
 mod pack;
 mod perform;
 mod report;
+mod run;
 mod split;
 mod status;
 mod stop;
@@ -17,7 +19,9 @@ mod top;
 mod unpack;
 mod words;
 
-pub use law::answer_is_one;
+pub use demonstration::demo;
+pub use law::{answer_is_one, run_is_one};
+pub use run::{Components, run_script};
 pub use status::{DataFault, Status, What};
 pub use top::eds;
 pub use words::Words;

@@ -15,7 +15,7 @@ use crate::command::{Command, Job, Verb, input_most};
 use crate::ended::Ended;
 use crate::limits::{PACKETS_OCTETS, REPORT_OCTETS, SHEET_OCTETS, SHEETS, SHEETS_OCTETS};
 use crate::pack::packed;
-use crate::report::counts_line;
+use crate::report::{counts_line, octets_of};
 use crate::split::split;
 use crate::status::What;
 use crate::stop::{Stop, limited, missing, refused};
@@ -145,8 +145,8 @@ fn sheet_for<S: Shelf>(alloc: Global, command: &Command<'_>, shelf: &mut S) -> R
     Ok(sheet_by(alloc, &files, command.type_name())?)
 }
 
-// What is done with the octets of an input file by a type.
-fn run_verb(
+// The text that is told of an input file by a type.
+fn text_by(
     alloc: Global,
     verb: Verb,
     target: &Target<'_>,
@@ -160,6 +160,23 @@ fn run_verb(
         Verb::Unpack => unpacked(alloc, target, input),
         Verb::Pack => packed(alloc, target, input),
         Verb::Split => split(alloc, target, input),
+    }
+}
+
+// What is done with the octets of an input file by a type.
+fn run_verb(
+    alloc: Global,
+    verb: Verb,
+    target: &Target<'_>,
+    input: &[u8],
+) -> Result<Octets, Fail<Stop>>
+    requires known { IsKnown (type_in target.now) }
+    requires few { length input.now ≤ PACKETS_OCTETS }
+    ensures { EndsAs (λ o. o) (Works verb (type_in target.now) input.now) result }
+{
+    match text_by(alloc, verb, target, input) {
+        Ok(text) => Ok(octets_of(text)),
+        Err(fail) => Err(fail),
     }
 }
 
@@ -181,11 +198,11 @@ fn run_job<S: Shelf>(
     job: &Job<'_>,
     sheet: &Sheet,
     shelf: &mut S,
-) -> Result<String, Ended>
+) -> Result<Octets, Ended>
     requires word { IsSomeAnd sheet.now.asked_type (λ id. id.0 < length sheet.now.table) }
     requires readable { MayBeRead sheet.now }
     ensures told { (files : Files) → S.files shelf.old ≡ Some files
-        → CommandEndsAs string_bytes (DoesBy (Some (job_words job.now)) files sheet.now) result }
+        → CommandEndsAs (λ o. o) (DoesBy (Some (job_words job.now)) files sheet.now) result }
     ensures calm { (other : List ℕ) → S.faults shelf.old other ≤ S.faults shelf.new other }
     ensures unread { IfErr result (λ ended. OnUnread ended
         (λ n. (n ≡ job.now.input.now) × HasRisen (S.faults shelf.old n) (S.faults shelf.new n))) }
@@ -201,12 +218,12 @@ fn report_for<S: Shelf>(
     job: Option<Job<'_>>,
     sheet: &Sheet,
     shelf: &mut S,
-) -> Result<String, Ended>
+) -> Result<Octets, Ended>
     requires word { IfSome sheet.now.asked_type (λ id. id.0 < length sheet.now.table) }
     requires readable { MayBeRead sheet.now }
     requires given { is_some sheet.now.asked_type ≡ is_some job }
     ensures told { (files : Files) → S.files shelf.old ≡ Some files
-        → CommandEndsAs string_bytes (DoesBy (option_map job_words job.entry) files sheet.now) result }
+        → CommandEndsAs (λ o. o) (DoesBy (option_map job_words job.entry) files sheet.now) result }
     ensures calm { (other : List ℕ) → S.faults shelf.old other ≤ S.faults shelf.new other }
     ensures cause { IfErr result (λ ended. OnUnread ended
         (λ n. HasRisen (S.faults shelf.old n) (S.faults shelf.new n))) }
@@ -214,13 +231,13 @@ fn report_for<S: Shelf>(
 {
     match job {
         Some(job) => run_job(alloc, &job, sheet, shelf),
-        None => Ok(counts_line(alloc, sheet.counts)?),
+        None => Ok(octets_of(counts_line(alloc, sheet.counts)?)),
     }
 }
 
 // A report that is no longer than a report may be.
-fn within_report(alloc: Global, report: String) -> Result<String, Fail<Stop>>
-    ensures { Answers string_bytes result (within_limit (string_bytes report)) }
+fn within_report(alloc: Global, report: Octets) -> Result<Octets, Fail<Stop>>
+    ensures { Answers (λ o. o) result (within_limit report) }
 {
     if report.len() as u64 <= REPORT_OCTETS {
         Ok(report)
@@ -234,10 +251,10 @@ pub fn perform<S: Shelf>(
     alloc: Global,
     command: &Command<'_>,
     shelf: &mut S,
-) -> Result<String, Ended>
+) -> Result<Octets, Ended>
     requires { length command.now.sheets.now ≤ SHEETS }
     ensures told { (files : Files) → S.files shelf.old ≡ Some files
-        → CommandEndsAs string_bytes (AnswersFew true (words_of command.now) files) result }
+        → CommandEndsAs (λ o. o) (AnswersFew true (words_of command.now) files) result }
     ensures calm { (other : List ℕ) → S.faults shelf.old other ≤ S.faults shelf.new other }
     ensures cause { IfErr result (λ ended. OnUnread ended
         (λ n. HasRisen (S.faults shelf.old n) (S.faults shelf.new n))) }
