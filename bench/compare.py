@@ -1,18 +1,21 @@
 #!/usr/bin/env python3
-"""Compares the program with bench/model, a second reading of the rules, on random sheets, frames and values.
+"""Compares the program with bench/model, a second reading of the rules, on random sheets, frames, values and scripts.
 
   bench/compare.py [--runs N] [--seed S] [--stage WORDS] [--jobs J] [PROGRAM]
 
 PROGRAM is a built program (by default crates/eds_prog/out/eds_prog), or `-` for the model alone. A run is one sheet: it is
-checked, and where it is accepted, frames and values of its types are read and packed, and packets are split. WORDS say what sheets may hold: `built`,
-`whole`, `scalars`, or words of `EVERYTHING` in bench/model/run_model.py with commas between them. Each difference is printed
-with its words and files. The last lines count the answers, and the differences. The same seed makes the same inputs.
+checked, and where it is accepted, frames and values of its types are read and packed, and packets are split. WORDS say what
+sheets may hold: `built`, `whole`, `scalars`, or words of `EVERYTHING` in bench/model/run_model.py with commas between them.
+With `runs` sheets have components, and where they are accepted, scripts are run over them. Each difference is printed with
+its words and files. The last lines count the answers, of scripts what their runs show, and the differences. The same seed
+makes the same inputs.
 """
 
 import argparse
 import collections
 import os
 import random
+import signal
 import subprocess
 import sys
 import tempfile
@@ -23,9 +26,33 @@ TOP = os.path.dirname(os.path.dirname(os.path.abspath(__file__)))
 sys.dont_write_bytecode = True
 sys.path.insert(0, os.path.join(TOP, "bench/model"))
 import gen  # noqa: E402
+import gen_components  # noqa: E402
+import gen_scripts  # noqa: E402
 import run_model  # noqa: E402
+import runs  # noqa: E402
 
-TYPES, INPUTS = 4, 3
+TYPES, INPUTS, SCRIPTS = 4, 3, 4
+PATIENCE = 5  # seconds for one answer of the model: 10,000 firings of 100,000 statements would take days
+
+
+class Slow(Exception):
+    """The model has no answer in time."""
+
+
+def lose_patience(*_):
+    raise Slow
+
+
+def answer(words, files, stage):
+    """The model's answer, or None where it takes too long."""
+    signal.signal(signal.SIGALRM, lose_patience)
+    signal.setitimer(signal.ITIMER_REAL, PATIENCE)
+    try:
+        return run_model.answer(words, files, stage)
+    except Slow:
+        return None
+    finally:
+        signal.setitimer(signal.ITIMER_REAL, 0)
 
 
 def run(program, words, files):
@@ -54,26 +81,61 @@ def inputs(dice, sheet, stage):
         yield ["split", word], gen.packets(dice, judge, judge.word)
 
 
-def compare(asked):
-    """The differences of a run, and its answers by their kinds."""
-    program, seed, stage = asked
-    dice, found, kinds = random.Random(seed), [], collections.Counter()
-
-    def both(words, files):
-        want = run_model.answer(words, files, stage)
-        kinds[want[1].split("\n")[0].split(" at ")[0] if want[0] else words[0] + " done"] += 1
-        got = want if program == "-" else run(program, words, files)
-        if got != want:
-            found.append((words, files, want, got))
-        return want[0] == 0
-
-    sheet = {f"sheet{at}": octets for at, octets in enumerate(gen.case(dice, stage))}
+def accepted(sheet, stage):
+    """The model's judge of a sheet, or None where it is refused."""
     try:
-        if both(["check", *sheet], sheet):
-            for words, octets in inputs(dice, sheet, stage):
-                both([*words, "input", *sheet], {**sheet, "input": octets})
+        return run_model.judged(list(sheet.values()), None, stage)
+    except run_model.m.Refused:
+        return None
+
+
+def of_values(seed, stage):
+    """The words and files of one run: a check, and frames and values where the sheet is accepted."""
+    dice = random.Random(seed)
+    sheet = {f"sheet{at}": octets for at, octets in enumerate(gen.case(dice, stage))}
+    yield ["check", *sheet], sheet
+    if accepted(sheet, stage):
+        for words, octets in inputs(dice, sheet, stage):
+            yield [*words, "input", *sheet], {**sheet, "input": octets}
+
+
+def of_scripts(seed, stage):
+    """The words and files of one run: a check, and scripts where the sheet is accepted."""
+    dice = random.Random(seed)
+    sheet = {"sheet": gen_components.octets(gen_components.case(seed))}
+    yield ["check", "sheet"], sheet
+    judge = accepted(sheet, stage)
+    for _ in range(SCRIPTS if judge else 0):
+        yield ["run", "script", "sheet"], {**sheet, "script": gen_scripts.script(dice, judge)}
+
+
+def shown_by(words, status, report):
+    """What an answer shows: of a run its events too."""
+    if words[0] != "run" or status not in (0, 7):
+        first = report.split("\n")[0]
+        return {"bad line " + first.split(" ")[3] if first.startswith("bad line") else first.split(" at ")[0] if status else words[0] + " done"}
+    events = [line.split(" ") for line in report.splitlines() if line[0].isdigit()]
+    shown = {"run with " + " ".join(it[1:2] + it[4:5] * (it[1] in ("halt", "reject"))) for it in events}
+    return shown | {"run with " + it for it, times in runs.SEEN.items() if times} | {"run done" if status == 0 else "limit deliveries"}
+
+
+def compare(asked):
+    """The differences of a run, and what its answers show."""
+    program, seed, stage, makes = asked
+    found, kinds, words, files = [], collections.Counter(), ["none"], {}
+    try:
+        for words, files in makes(seed, stage):
+            runs.SEEN.clear()
+            want = answer(words, files, stage)
+            if want is None:
+                kinds["passed over, too slow for the model"] += 1
+                continue
+            kinds.update(shown_by(words, *want) | {"answers"})
+            got = want if program == "-" else run(program, words, files)
+            if got != want:
+                found.append((words, files, want, got))
     except Exception:  # the model itself fails
-        found.append((["model"], sheet, traceback.format_exc(), None))
+        found.append((["model", *words], files, traceback.format_exc(), None))
     return seed, found, kinds
 
 
@@ -86,8 +148,10 @@ def main():
     asked.add_argument("program", nargs="?", default=os.path.join(TOP, "crates/eds_prog/out/eds_prog"))
     asked = asked.parse_args()
     program = asked.program if asked.program == "-" else os.path.abspath(asked.program)
-    stage = run_model.STAGES.get(asked.stage) or set(asked.stage.split(",")) - {"scalars"}
-    work = [(program, asked.seed * 10**9 + at, stage) for at in range(asked.runs)]
+    stage, makes = run_model.STAGES.get(asked.stage) or set(asked.stage.split(",")) - {"scalars"}, of_values
+    if asked.stage == "runs":
+        stage, makes = run_model.EVERYTHING, of_scripts
+    work = [(program, asked.seed * 10**9 + at, stage, makes) for at in range(asked.runs)]
     kinds, wrong = collections.Counter(), 0
     with ProcessPoolExecutor(asked.jobs) as pool:
         for seed, found, more in pool.map(compare, work, chunksize=8):
@@ -100,7 +164,7 @@ def main():
                 print(f"  model   {want}\n  program {got}", flush=True)
     for kind, count in kinds.most_common():
         print(f"{count:8} {kind}")
-    print(f"compare: {asked.runs} sheets, {sum(kinds.values())} answers: {wrong} differ")
+    print(f"compare: {asked.runs} sheets, {kinds['answers']} answers: {wrong} differ")
     return 1 if wrong else 0
 
 

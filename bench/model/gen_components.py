@@ -53,7 +53,7 @@ class Interfaces:
         while True:
             types = gen.Gen(rng, m.EVERYTHING, rng.choice([5, 7, 9])).sheet()[2]
             self.types = element("DataTypeSet", None, ["IntegerDataType", {"name": "N8"}, ["IntegerDataEncoding", {"sizeInBits": "8", "encoding": "unsigned"}]], *types)
-            self.faces, self.built, self.set = [], [], None
+            self.faces, self.built, self.set, self.ends = [], [], None, []
             try:
                 self.settle()
                 for i in range(rng.choice([1, 2, 3, 4])):
@@ -129,7 +129,7 @@ class ComponentMaker:
     def __init__(self, rng, interfaces, name):
         self.r, self.f, self.j, self.name = rng, interfaces, interfaces.judge, name
         self.types = {t.own_name: t for t in self.j.types}
-        self.ends, self.variables, self.activities = [], [], []
+        self.ends, self.variables, self.activities, self.requests = [], [], [], []
         provided, required = [], []
         for i in range(rng.choice([1, 2, 2, 3])):
             is_required = rng.random() < .5
@@ -150,8 +150,11 @@ class ComponentMaker:
     # ---- ends, variables, maps
 
     def end(self, name, required):
+        """An end, often one to which an earlier end can be tied."""
+        fit = [(face, maps) for face, maps, other in self.f.ends if other != required]
         face = self.r.choice([f for f in self.j.faces if not f.abstract] or self.j.faces)
-        maps = self.f.map_for(face.generics)
+        face, maps = self.r.choice(fit) if fit and self.p(.6) else (face, self.f.map_for(face.generics))
+        self.f.ends.append((face, maps, required))
         pairs = [(x[1]["name"], self.types[x[1]["type"]]) for x in (maps[0][1:] if maps else [])]
         self.ends.append((name, required, Resolution((0, 0), face, pairs).members))
         return element("Interface", {"name": name, "type": face.name.rpartition("/")[2]}, *maps)
@@ -304,18 +307,24 @@ class ComponentMaker:
         """(end, whether required, member) of a kind of members."""
         return self.some([(n, required, x) for n, required, members in self.ends for x in members if isinstance(x, kind)])
 
-    def transaction(self, required):
-        return {"transaction": self.r.choice(["t", "u"])} if self.p(.4 if required else .05) else {}
+    def transaction(self, required, request=None):
+        """The attributes of a transaction, or of none; what is sent with one at a required end is kept."""
+        if not self.p(.4 if required else .05):
+            return {}
+        name = self.r.choice(["t", "u"])
+        if required and request is not None:
+            self.requests.append((*request, name))
+        return {"transaction": name}
 
     def send_command(self, arguments, depth):
         end, required, command = self.member(Command)
         values = self.values([(a.name, a.type) for a in carried(command, required)], arguments)
-        return element("SendCommandPrimitive", {"interface": end, "command": command.name, **self.transaction(required)}, *values)
+        return element("SendCommandPrimitive", {"interface": end, "command": command.name, **self.transaction(required, (end, command))}, *values)
 
     def send_parameter(self, arguments, depth):
         end, required, parameter = self.member(Parameter)
         op = "val" if not required else "get" if parameter.read_only else self.r.choice(["get", "set"])
-        attributes = {"interface": end, "parameter": parameter.name, **self.transaction(required)}
+        attributes = {"interface": end, "parameter": parameter.name, **self.transaction(required, (end, parameter))}
         if required or self.p(.1):
             attributes["operation"] = op if required else "get"
         operand = [] if op == "get" else [self.operand(parameter.type, arguments)]
@@ -374,6 +383,9 @@ class ComponentMaker:
         except NoOperand:
             return ["OnTimer", {"nanosecondsAfterEntry": "7"}], []
         attributes = {"interface": end, **self.transaction(required)}
+        if self.requests and self.p(.4):
+            end, x, name = self.r.choice(self.requests)
+            required, attributes = True, {"interface": end, "transaction": name}
         if isinstance(x, Command):
             return ["OnCommandPrimitive", {**attributes, "command": x.name}], [(a.name, a.type) for a in carried(x, not required)]
         op = "val" if required else "get" if x.read_only else self.r.choice(["get", "set"])

@@ -1,9 +1,12 @@
 """Machines and runs: what components do with primitives, frames and time, and what they send."""
+import collections
+
 import eds_model as m
 from activities import Doing, Halt, Primitive
 from interfaces import carried
 
 MOST_DELIVERIES = 10000
+SEEN = collections.Counter()     # what happened in the runs so far, for whoever wants to know
 
 
 class Storm(Exception):
@@ -76,14 +79,18 @@ class Reaction:
         state = self.state.machines[number]
         for t in machine.transitions:
             if t.source == state[0] and self.matches(t.event, state):
-                if t.guard is None or self.doing.holds(t.guard, self.arguments):
+                is_open = t.guard is None or self.doing.holds(t.guard, self.arguments)
+                SEEN["guards that are %s" % ("true" if is_open else "false")] += t.guard is not None
+                if is_open:
                     self.take(number, machine, t)
                     return
         if isinstance(self.event, int):
             state[2] = self.now
 
     def take(self, number, machine, t):
+        SEEN["transitions"] += 1
         if t.event.transaction is not None:
+            SEEN["transactions that end"] += 1
             self.state.outstanding.remove((t.event.end, t.event.member, t.event.transaction))
         old, new = machine.states[t.source], machine.states[t.to]
         for action, arguments in ((old.at_exit, []), (t.action, self.arguments), (new.at_entry, [])):
@@ -145,6 +152,7 @@ class Host:
                 break
             self.now, component, machine = min(due)
             self.one_more()
+            SEEN["timers"] += 1
             self.event(component, machine)
             self.deliver()
         self.now = until
@@ -152,6 +160,7 @@ class Host:
     def deliver(self):
         while self.queue:
             self.one_more()
+            SEEN["deliveries"] += 1
             primitive = self.queue.pop(0)
             self.event(primitive.end[0], primitive)
 
