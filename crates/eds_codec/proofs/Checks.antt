@@ -9,7 +9,7 @@ use Rattle.eds_bits.specs.Bits.{Bits, bit_value, bits_of, low_bits, unsigned_of,
 use Rattle.eds_bits.specs.Scalars.{xor_bit, xor_bits, remainder, invert_first, crc8_divisor, crc16_divisor, check_bits, check_of_octets}
 use Rattle.eds_bits.specs.declared.forms.CheckKind.TheVariants.{Checksum, Longitudinal, Crc8, Crc16Ccitt}
 use Rattle.eds_codec.specs.Checks.{octet_remainder}
-use Rattle.eds_codec.specs.declared.check.TheConstants.{CRC8, CRC16}
+use Rattle.eds_codec.specs.declared.tables.TheConstants.{CRC8, CRC16}
 use Rattle.eds_bits.proofs.BitLaws.{length-low, low-unsigned, unsigned-append, unsigned-lt, unsigned_small}
 use Rattle.eds_bits.proofs.CheckLaws.{length-remainder, check_of_lt}
 use Rattle.eds_bits.proofs.TextLaws.{take-front_octets, drop-front_octets}
@@ -48,7 +48,7 @@ not-xor_bit true false = refl
 not-xor_bit false true = refl
 not-xor_bit false false = refl
 
-length-xor : (xs ys : Bits) → length (xor_bits xs ys) ≡ length xs
+pub length-xor : (xs ys : Bits) → length (xor_bits xs ys) ≡ length xs
 length-xor [] ys = refl
 length-xor (x ∷ xs) [] = refl
 length-xor (x ∷ xs) (y ∷ ys) = ap suc (length-xor xs ys)
@@ -78,7 +78,7 @@ xor-right (x ∷ xs) [] ds l = absurd (omega arith)
 xor-right (x ∷ xs) (y ∷ ys) [] l = refl
 xor-right (x ∷ xs) (y ∷ ys) (d ∷ ds) l = rw (xor_bit-assoc x y d, xor-right xs ys ds (omega arith)) refl
 
-xor-append : (xs more ys others : Bits) → length xs ≡ length ys → xor_bits (xs ++ more) (ys ++ others) ≡ xor_bits xs ys ++ xor_bits more others
+pub xor-append : (xs more ys others : Bits) → length xs ≡ length ys → xor_bits (xs ++ more) (ys ++ others) ≡ xor_bits xs ys ++ xor_bits more others
 xor-append [] more [] others l = refl
 xor-append [] more (y ∷ ys) others l = absurd (omega arith)
 xor-append (x ∷ xs) more [] others l = absurd (omega arith)
@@ -91,19 +91,19 @@ xor-append_short (x ∷ xs) more [] l = refl
 xor-append_short (x ∷ xs) more (d ∷ ds) l = ap (λ r. xor_bit x d ∷ r) (xor-append_short xs more ds (omega arith))
 
 -- zeros change nothing
-xor-zeros_left : (n : ℕ) (ys : Bits) → length ys ≡ n → xor_bits (replicate n false) ys ≡ ys
+pub xor-zeros_left : (n : ℕ) (ys : Bits) → length ys ≡ n → xor_bits (replicate n false) ys ≡ ys
 xor-zeros_left zero [] l = refl
 xor-zeros_left zero (y ∷ ys) l = absurd (omega arith)
 xor-zeros_left (suc n) [] l = absurd (omega arith)
 xor-zeros_left (suc n) (y ∷ ys) l = ap (λ r. y ∷ r) (xor-zeros_left n ys (omega arith))
 
-xor-zeros_right : (n : ℕ) (xs : Bits) → xor_bits xs (replicate n false) ≡ xs
+pub xor-zeros_right : (n : ℕ) (xs : Bits) → xor_bits xs (replicate n false) ≡ xs
 xor-zeros_right zero xs = xor-nil xs
 xor-zeros_right (suc n) [] = refl
 xor-zeros_right (suc n) (true ∷ xs) = ap (λ r. true ∷ r) (xor-zeros_right n xs)
 xor-zeros_right (suc n) (false ∷ xs) = ap (λ r. false ∷ r) (xor-zeros_right n xs)
 
-zeros-append : (m n : ℕ) → replicate m false ++ replicate n false ≡ replicate (m + n) false
+pub zeros-append : (m n : ℕ) → replicate m false ++ replicate n false ≡ replicate (m + n) false
 zeros-append zero n = ap (λ m. replicate m false) (omega arith)
 zeros-append (suc m) n = let e : suc m + n ≡ suc (m + n) = omega arith in rw e (ap (λ r. false ∷ r) (zeros-append m n))
 
@@ -114,7 +114,7 @@ xor_value true false = refl
 xor_value false true = refl
 xor_value false false = refl
 
-unsigned-xor : (xs ys : Bits) → length xs ≡ length ys → unsigned_of (xor_bits xs ys) ≡ bit_xor (unsigned_of xs) (unsigned_of ys)
+pub unsigned-xor : (xs ys : Bits) → length xs ≡ length ys → unsigned_of (xor_bits xs ys) ≡ bit_xor (unsigned_of xs) (unsigned_of ys)
 unsigned-xor [] [] l = refl
 unsigned-xor [] (y ∷ ys) l = absurd (omega arith)
 unsigned-xor (x ∷ xs) [] l = absurd (omega arith)
@@ -132,7 +132,7 @@ remainder-nil divisor zero = refl
 remainder-nil divisor (suc n) = refl
 
 -- a division in two parts
-remainder-add : (divisor : Bits) (m n : ℕ) (bs : Bits) → remainder divisor (m + n) bs ≡ remainder divisor n (remainder divisor m bs)
+pub remainder-add : (divisor : Bits) (m n : ℕ) (bs : Bits) → remainder divisor (m + n) bs ≡ remainder divisor n (remainder divisor m bs)
 unfolding remainder
 remainder-add divisor zero n bs = ap (λ m. remainder divisor m bs) (omega arith)
 remainder-add divisor (suc m) n [] = remainder-nil divisor (suc m + n) ∙ sym (remainder-nil divisor n)
@@ -140,7 +140,7 @@ remainder-add divisor (suc m) n (true ∷ bs) = let e : suc m + n ≡ suc (m + n
 remainder-add divisor (suc m) n (false ∷ bs) = let e : suc m + n ≡ suc (m + n) = omega arith in rw e (remainder-add divisor m n bs)
 
 -- what stands behind the bits that are divided stays
-remainder-append : (divisor : Bits) (n : ℕ) (bs more : Bits) → n + length divisor ≤ length bs → remainder divisor n (bs ++ more) ≡ remainder divisor n bs ++ more
+pub remainder-append : (divisor : Bits) (n : ℕ) (bs more : Bits) → n + length divisor ≤ length bs → remainder divisor n (bs ++ more) ≡ remainder divisor n bs ++ more
 unfolding remainder
 remainder-append divisor zero bs more l = refl
 remainder-append divisor (suc n) [] more l = absurd (omega arith)
@@ -149,7 +149,7 @@ remainder-append divisor (suc n) (true ∷ bs) more l =
 remainder-append divisor (suc n) (false ∷ bs) more l = remainder-append divisor n bs more (omega arith)
 
 -- the remainder of a sum is the sum of the remainders
-remainder-xor : (divisor : Bits) (n : ℕ) (xs ys : Bits) → length xs ≡ length ys → remainder divisor n (xor_bits xs ys) ≡ xor_bits (remainder divisor n xs) (remainder divisor n ys)
+pub remainder-xor : (divisor : Bits) (n : ℕ) (xs ys : Bits) → length xs ≡ length ys → remainder divisor n (xor_bits xs ys) ≡ xor_bits (remainder divisor n xs) (remainder divisor n ys)
 unfolding remainder
 remainder-xor divisor zero xs ys l = refl
 remainder-xor divisor (suc n) [] [] l = refl
@@ -165,7 +165,7 @@ remainder-xor divisor (suc n) (false ∷ xs) (true ∷ ys) l =
 remainder-xor divisor (suc n) (false ∷ xs) (false ∷ ys) l = remainder-xor divisor n xs ys (omega arith)
 
 -- zeros at the front leave no remainder
-remainder-zeros : (divisor : Bits) (n : ℕ) (bs : Bits) → remainder divisor n (replicate n false ++ bs) ≡ bs
+pub remainder-zeros : (divisor : Bits) (n : ℕ) (bs : Bits) → remainder divisor n (replicate n false ++ bs) ≡ bs
 unfolding remainder
 remainder-zeros divisor zero bs = refl
 remainder-zeros divisor (suc n) bs = remainder-zeros divisor n bs
@@ -176,18 +176,18 @@ remainder-zeros divisor (suc n) bs = remainder-zeros divisor n bs
 abbrev pub divided : Bits → ℕ → List ℕ → Bits
 divided divisor v octets = remainder divisor (8 * length octets) (invert_first v (bits_of octets ++ replicate (length divisor) false))
 
-length-invert : (n : ℕ) (bs : Bits) → length (invert_first n bs) ≡ length bs
+pub length-invert : (n : ℕ) (bs : Bits) → length (invert_first n bs) ≡ length bs
 length-invert zero bs = refl
 length-invert (suc n) [] = refl
 length-invert (suc n) (b ∷ bs) = ap suc (length-invert n bs)
 
-invert-xor : (n : ℕ) (xs ys : Bits) → invert_first n (xor_bits xs ys) ≡ xor_bits (invert_first n xs) ys
+pub invert-xor : (n : ℕ) (xs ys : Bits) → invert_first n (xor_bits xs ys) ≡ xor_bits (invert_first n xs) ys
 invert-xor zero xs ys = refl
 invert-xor (suc n) [] ys = refl
 invert-xor (suc n) (x ∷ xs) [] = refl
 invert-xor (suc n) (x ∷ xs) (y ∷ ys) = rw (not-xor_bit x y, invert-xor n xs ys) refl
 
-invert-append : (n : ℕ) (bs more : Bits) → n ≤ length bs → invert_first n (bs ++ more) ≡ invert_first n bs ++ more
+pub invert-append : (n : ℕ) (bs more : Bits) → n ≤ length bs → invert_first n (bs ++ more) ≡ invert_first n bs ++ more
 invert-append zero bs more l = refl
 invert-append (suc n) [] more l = absurd (omega arith)
 invert-append (suc n) (b ∷ bs) more l = ap (λ r. not b ∷ r) (invert-append n bs more (omega arith))
@@ -210,7 +210,7 @@ pushed divisor seen o =
     ∙ rw (xor-zeros_right (8 * length seen) (bits_of seen), xor-zeros_left (k + 8) last size) refl in
     whole ∙ sym parts ∙ ap (λ r. xor_bits r (added divisor seen o)) (sym zeros)
 
-length-divided : (divisor : Bits) (v : ℕ) (seen : List ℕ) → length (divided divisor v seen) ≡ length divisor
+pub length-divided : (divisor : Bits) (v : ℕ) (seen : List ℕ) → length (divided divisor v seen) ≡ length divisor
 length-divided divisor v seen =
     length-remainder divisor (8 * length seen) (length divisor) (invert_first v (bits_of seen ++ replicate (length divisor) false))
     (omega (arith, length-invert v (bits_of seen ++ replicate (length divisor) false), length-append (bits_of seen) (replicate (length divisor) false), length-bits_of seen, length-replicate (length divisor) false))
@@ -286,10 +286,10 @@ divided_more divisor k v seen o size few small =
     ∙ ap (λ r. unsigned_of (remainder divisor 8 (xor_bits (r ++ replicate 8 false) (low_bits 8 o ++ replicate (length divisor) false)))) (sym (take-append-drop 8 state))
     ∙ eight_more divisor (take 8 state) (drop 8 state) o (omega (arith, length-take 8 state)) (omega (arith, length-drop 8 state)) small
 
-crc8_is : (seen : List ℕ) → check_of_octets Crc8 seen ≡ unsigned_of (divided crc8_divisor 0 seen)
+pub crc8_is : (seen : List ℕ) → check_of_octets Crc8 seen ≡ unsigned_of (divided crc8_divisor 0 seen)
 crc8_is seen = ap (λ k. unsigned_of (remainder crc8_divisor (8 * length seen) (bits_of seen ++ replicate k false))) (sym (length-low 8 0x07))
 
-crc16_is : (seen : List ℕ) → check_of_octets Crc16Ccitt seen ≡ unsigned_of (divided crc16_divisor 16 seen)
+pub crc16_is : (seen : List ℕ) → check_of_octets Crc16Ccitt seen ≡ unsigned_of (divided crc16_divisor 16 seen)
 crc16_is seen = ap (λ k. unsigned_of (remainder crc16_divisor (8 * length seen) (invert_first 16 (bits_of seen ++ replicate k false)))) (sym (length-low 16 0x1021))
 
 pub crc8_push : (seen : List ℕ) (o : ℕ) → o < 256 → check_of_octets Crc8 (seen ++ o ∷ []) ≡ octet_remainder crc8_divisor (bit_xor (check_of_octets Crc8 seen) o)
@@ -301,17 +301,21 @@ crc8_push seen o small =
     crc8_is (seen ++ o ∷ []) ∙ divided_more crc8_divisor 0 0 seen o (length-low 8 0x07) (omega arith) small
     ∙ rw (none, all, ← crc8_is seen, xor_zero_r (octet_remainder crc8_divisor (bit_xor (check_of_octets Crc8 seen) o))) refl
 
-pub crc16_push : (seen : List ℕ) (o : ℕ) → o < 256
-    → check_of_octets Crc16Ccitt (seen ++ o ∷ []) ≡ bit_xor (octet_remainder crc16_divisor (bit_xor (check_of_octets Crc16Ccitt seen / 256) o)) (check_of_octets Crc16Ccitt seen % 256 * 256)
-crc16_push seen o small =
+-- the two octets of a check of 16 bits
+pub crc16_parts : (seen : List ℕ) → (unsigned_of (take 8 (divided crc16_divisor 16 seen)) ≡ check_of_octets Crc16Ccitt seen / 256) × (unsigned_of (drop 8 (divided crc16_divisor 16 seen)) ≡ check_of_octets Crc16Ccitt seen % 256)
+crc16_parts seen =
     let state : Bits = divided crc16_divisor 16 seen in
     let l : length state ≡ 8 + 8 = length-divided crc16_divisor 16 seen ∙ length-low 16 0x1021 in
     let parts = high_low 8 state l in
     let end : length (drop 8 state) ≡ 8 = omega (arith, length-drop 8 state) in
     let below : unsigned_of (drop 8 state) < 256 = subst (λ n. unsigned_of (drop 8 state) < 2 ^ n) end (unsigned-lt (drop 8 state)) in
-    let high : unsigned_of (take 8 state) ≡ check_of_octets Crc16Ccitt seen / 256 = rw (crc16_is seen) (omega arith) in
-    let low : unsigned_of (drop 8 state) ≡ check_of_octets Crc16Ccitt seen % 256 = rw (crc16_is seen) (omega arith) in
-    crc16_is (seen ++ o ∷ []) ∙ divided_more crc16_divisor 8 16 seen o (length-low 16 0x1021) (omega arith) small ∙ rw (high, low) refl
+    (rw (crc16_is seen) (omega arith), rw (crc16_is seen) (omega arith))
+
+pub crc16_push : (seen : List ℕ) (o : ℕ) → o < 256
+    → check_of_octets Crc16Ccitt (seen ++ o ∷ []) ≡ bit_xor (octet_remainder crc16_divisor (bit_xor (check_of_octets Crc16Ccitt seen / 256) o)) (check_of_octets Crc16Ccitt seen % 256 * 256)
+crc16_push seen o small =
+    let parts = crc16_parts seen in
+    crc16_is (seen ++ o ∷ []) ∙ divided_more crc16_divisor 8 16 seen o (length-low 16 0x1021) (omega arith) small ∙ rw (parts.0, parts.1) refl
 
 -- ---- tables
 
@@ -320,11 +324,11 @@ both_of true b h = (refl, h)
 both_of false b h = absurd cc
 
 -- two functions agree below n
-agree_below : (ℕ → ℕ) → (ℕ → ℕ) → ℕ → Bool
+unfoldable pub agree_below : (ℕ → ℕ) → (ℕ → ℕ) → ℕ → Bool
 agree_below f g zero = true
 agree_below f g (suc n) = nat_eq (f n) (g n) && agree_below f g n
 
-agree_at : (f g : ℕ → ℕ) (n : ℕ) → agree_below f g n ≡ true → (i : ℕ) → i < n → f i ≡ g i
+pub agree_at : (f g : ℕ → ℕ) (n : ℕ) → agree_below f g n ≡ true → (i : ℕ) → i < n → f i ≡ g i
 unfolding agree_below
 agree_at f g zero h i lt = absurd (omega arith)
 agree_at f g (suc n) h i lt =

@@ -1,4 +1,5 @@
 pub mod Checks
+pub mod ManyOctets
 pub mod Booleans
 pub mod Binaries
 pub mod Blocks

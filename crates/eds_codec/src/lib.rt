@@ -6,6 +6,7 @@ mod boolean;
 mod check;
 mod coding;
 mod scan;
+mod tables;
 mod text;
 
 pub use binary::{Short, read_binary, write_binary};

@@ -1,9 +1,15 @@
-use Rattle.std.proofs.Common.{◌≡◌, ◌*◌, ◌%◌, bit_xor, ap, ◌∙◌, arith}
-use Rattle.eds_codec.proofs.Checks.{crc16_next}
+use Rattle.std.proofs.Common.{◌++◌, take, drop, sym, ap, ◌∙◌, append_assoc, arith, length, ◌-◌}
+use Rattle.std.proofs.lemmas.List.{length-drop, take-append-drop, take_all}
+use Rattle.eds_bits.specs.Scalars.{check_of_octets}
+use Rattle.eds_bits.specs.declared.forms.CheckKind.TheVariants.{Crc16Ccitt}
 use Rattle.eds_codec.proofs.check.crc16_more.Goals as goal
 
-pub loop-octet-preserved : goal.loop-octet-preserved
-loop-octet-preserved c seen h =
-    let low : c.loop-octet.check * 256 % 65536 ≡ c.loop-octet.check % 256 * 256 = omega arith in
-    ap (λ x. bit_xor c.crc16_of.result x) low ∙ ap (λ x. bit_xor x (c.loop-octet.check % 256 * 256)) c.crc16_of.ensures
-    ∙ crc16_next seen c.args.octets.now c.loop-octet.octet-index c.loop-octet.check c.loop-octet-test.true (omega (arith, c.type_inv.octets c.loop-octet.octet-index)) (c.loop-octet.invariant seen h)
+pub blocks-2-preserved : goal.blocks-2-preserved
+blocks-2-preserved c = λ seen h.
+    let i = c.blocks-2.invariant seen h in
+    let left = c.blocks-2.left.now in
+    let rest = take_all (length left - 4) (drop 4 left) (omega (arith, length-drop 4 left)) in (
+      i.0 ++ take 4 left,
+      i.1 ∙ ap (λ r. i.0 ++ r) (sym (take-append-drop 4 left)) ∙ sym (append_assoc i.0 (take 4 left) (drop 4 left)) ∙ ap (λ r. (i.0 ++ take 4 left) ++ r) (sym rest),
+      c.crc16_of_four-check.ensures (seen ++ i.0) i.2 ∙ ap (check_of_octets Crc16Ccitt) (append_assoc seen i.0 (take 4 left)),
+    )

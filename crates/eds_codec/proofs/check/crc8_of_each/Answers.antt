@@ -1,6 +1,6 @@
 use Rattle.std.proofs.Common.{◌∙◌, arith}
 use Rattle.eds_codec.proofs.Checks.{crc8_next}
-use Rattle.eds_codec.proofs.check.crc8_more.Goals as goal
+use Rattle.eds_codec.proofs.check.crc8_of_each.Goals as goal
 
 pub loop-octet-preserved : goal.loop-octet-preserved
 loop-octet-preserved c seen h =

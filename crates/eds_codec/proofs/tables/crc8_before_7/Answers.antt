@@ -1,0 +1,6 @@
+use Rattle.std.proofs.Common.{arith}
+use Rattle.eds_codec.proofs.ManyOctets.{crc8_entry_7}
+use Rattle.eds_codec.proofs.tables.crc8_before_7.Goals as goal
+
+pub returns : goal.returns
+returns c = crc8_entry_7 c.args.octet (omega arith)
