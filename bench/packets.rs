@@ -2,9 +2,14 @@
 //!
 //!   packets COUNT
 //!   packets json COUNT
+//!   packets make COUNT FILE
+//!   packets split FILE
+//!   packets split-digits FILE
 //!
 //! COUNT is 1 to 10,000,000. The last line that is printed is `packets COUNT sum SUM`; with `json`, each packet is written as
-//! JSON too, and the last line is `octets OCTETS last TEXT`, of all texts and of the last one.
+//! JSON too, and the last line is `octets OCTETS last TEXT`, of all texts and of the last one. `make` writes the packets to a
+//! file, and `split` prints the packets of a file as `eds split` does: a line of JSON for each, in one report that is written
+//! when it is whole; with `write!`, or with digits that are put one by one.
 //!
 //! A packet has 32 octets. Bits are numbered from the most significant of the first octet on; numbers are big-endian
 //! where nothing else is said.
@@ -40,7 +45,8 @@
 
 use std::env;
 use std::fmt;
-use std::fmt::Write;
+use std::fs;
+use std::io::{self, Write};
 use std::process::ExitCode;
 
 const MOST_PACKETS: u32 = 10_000_000;
@@ -284,6 +290,11 @@ impl Housekeeping {
     /// The packet as JSON, without spaces and with its members in byte order.
     fn text(&self) -> Result<String, fmt::Error> {
         let mut text = String::with_capacity(128);
+        self.write_to(&mut text)?;
+        Ok(text)
+    }
+
+    fn write_to(&self, text: &mut impl fmt::Write) -> fmt::Result {
         write!(
             text,
             "{{\"$type\":\"Bench/Housekeeping\",\"apid\":{},\"bias\":{},\"count\":{},\"drift\":{}\
@@ -311,8 +322,136 @@ impl Housekeeping {
             self.temperature,
             self.valve,
             self.version,
-        )?;
-        Ok(text)
+        )
+    }
+}
+
+/// Puts the digits of a number last.
+fn push_number(text: &mut Vec<u8>, number: i64) {
+    let mut digits = [0; 20];
+    let mut at = digits.len();
+    let mut left = number.unsigned_abs();
+    loop {
+        at -= 1;
+        digits[at] = b'0' + (left % 10) as u8;
+        left /= 10;
+        if left == 0 {
+            break;
+        }
+    }
+    if number < 0 {
+        text.push(b'-');
+    }
+    text.extend_from_slice(&digits[at..]);
+}
+
+fn push_truth(text: &mut Vec<u8>, truth: bool) {
+    text.extend_from_slice(if truth { b"true" } else { b"false" });
+}
+
+impl Housekeeping {
+    /// Puts the packet's JSON last, without `write!`.
+    fn push_to(&self, text: &mut Vec<u8>) {
+        let numbers: [(&[u8], i64); 7] = [
+            (b"{\"$type\":\"Bench/Housekeeping\",\"apid\":", self.apid.into()),
+            (b",\"bias\":", self.bias.into()),
+            (b",\"count\":", self.count.into()),
+            (b",\"drift\":", self.drift.into()),
+            (b",\"duty\":", self.duty.into()),
+            (b",\"errors\":", self.errors.into()),
+            (b",\"fraction\":", self.fraction.into()),
+        ];
+        for (name, number) in numbers {
+            text.extend_from_slice(name);
+            push_number(text, number);
+        }
+        text.extend_from_slice(b",\"grouping\":\"");
+        text.extend_from_slice(self.grouping.label().as_bytes());
+        text.extend_from_slice(b"\",\"has_second\":");
+        push_truth(text, self.has_second);
+        text.extend_from_slice(b",\"heater\":");
+        push_truth(text, self.heater);
+        text.extend_from_slice(b",\"is_command\":");
+        push_truth(text, self.is_command);
+        text.extend_from_slice(b",\"load\":");
+        push_number(text, self.load.into());
+        text.extend_from_slice(b",\"mode\":\"");
+        text.extend_from_slice(self.mode.label().as_bytes());
+        text.push(b'"');
+        let numbers: [(&[u8], i64); 5] = [
+            (b",\"orbit\":", self.orbit.into()),
+            (b",\"position\":", self.position.into()),
+            (b",\"pressure\":", self.pressure.into()),
+            (b",\"seconds\":", self.seconds.into()),
+            (b",\"temperature\":", self.temperature.into()),
+        ];
+        for (name, number) in numbers {
+            text.extend_from_slice(name);
+            push_number(text, number);
+        }
+        text.extend_from_slice(b",\"valve\":");
+        push_truth(text, self.valve);
+        text.extend_from_slice(b",\"version\":");
+        push_number(text, self.version.into());
+        text.push(b'}');
+    }
+}
+
+/// The packets of a recording, which has no other octets.
+fn packets_in(recording: &[u8]) -> impl Iterator<Item = Result<Housekeeping, Unreadable>> + '_ {
+    recording
+        .chunks_exact(PACKET_OCTETS)
+        .map(|octets| Housekeeping::read(octets.try_into().expect("a packet has its octets")))
+}
+
+/// The report on a recording: a line for each packet, and the line that counts them.
+fn report_on(recording: &[u8], by_digits: bool) -> Result<Vec<u8>, Unreadable> {
+    let mut report = Vec::new();
+    for packet in packets_in(recording) {
+        let packet = packet?;
+        if by_digits {
+            packet.push_to(&mut report);
+        } else {
+            packet
+                .write_to(&mut Octets(&mut report))
+                .expect("a report takes all that is written");
+        }
+        report.push(b'\n');
+    }
+    let packets = recording.len() / PACKET_OCTETS;
+    report.extend_from_slice(format!("packets {packets} octets {}\n", recording.len()).as_bytes());
+    Ok(report)
+}
+
+/// Octets that texts are written to.
+struct Octets<'a>(&'a mut Vec<u8>);
+
+impl fmt::Write for Octets<'_> {
+    fn write_str(&mut self, text: &str) -> fmt::Result {
+        self.0.extend_from_slice(text.as_bytes());
+        Ok(())
+    }
+}
+
+fn make(count: u32, file: &str) -> ExitCode {
+    let mut sequence = Sequence::new();
+    let recording: Vec<u8> = (0..count).flat_map(|_| sequence.next_packet()).collect();
+    match fs::write(file, recording) {
+        Ok(()) => ExitCode::SUCCESS,
+        Err(_) => ExitCode::FAILURE,
+    }
+}
+
+fn split(file: &str, by_digits: bool) -> ExitCode {
+    let Ok(recording) = fs::read(file) else {
+        return ExitCode::FAILURE;
+    };
+    let Ok(report) = report_on(&recording, by_digits) else {
+        return ExitCode::FAILURE;
+    };
+    match io::stdout().write_all(&report) {
+        Ok(()) => ExitCode::SUCCESS,
+        Err(_) => ExitCode::FAILURE,
     }
 }
 
@@ -368,8 +507,15 @@ fn line_for(count: u32, json: bool) -> Result<String, Unreadable> {
 }
 
 fn main() -> ExitCode {
+    let words: Vec<String> = env::args().skip(1).collect();
+    match words.iter().map(String::as_str).collect::<Vec<_>>()[..] {
+        ["make", count, file] => return count.parse().map_or(ExitCode::from(2), |n| make(n, file)),
+        ["split", file] => return split(file, false),
+        ["split-digits", file] => return split(file, true),
+        _ => {}
+    }
     let Some((count, json)) = asked() else {
-        println!("usage: packets [json] COUNT, 1 to {MOST_PACKETS}");
+        println!("usage: packets [json] COUNT, 1 to {MOST_PACKETS}; make COUNT FILE; split or split-digits FILE");
         return ExitCode::from(2);
     };
     match line_for(count, json) {
