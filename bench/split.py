@@ -5,7 +5,7 @@
 
 PROGRAM (by default crates/eds_prog/out/eds_prog) and the programs of packets.rs and kinds.rs, built here by `rustc -O`, split
 the same recording; what they print has to agree octet by octet. The time is the least processor time of some turns, in which
-the programs take turns, and the memory the most that a process held.
+the programs take turns, and the memory the most that a process was seen to hold.
 
   scalars    packets of twenty scalars (packets.rs), as many as a report takes: with `write!`, and with digits put one by one
   kinds      telemetry packets of 64 kinds, with a length and a check (below)
@@ -27,6 +27,7 @@ import struct
 import subprocess
 import sys
 import tempfile
+import time
 
 HERE = os.path.dirname(os.path.abspath(__file__))
 TURNS = 5
@@ -107,15 +108,31 @@ def build(folder, name):
     return program
 
 
+def ended(child):
+    """The processor time of a process in seconds, the most memory that it was seen to hold in KiB, and its status."""
+    most = 0
+    while True:
+        # what the kernel says at the end counts the memory of this script, too, from before the program began
+        try:
+            with open(f"/proc/{child.pid}/status", encoding="ascii") as file:
+                most = max([most, *(int(line.split()[1]) for line in file if line.startswith("VmHWM:"))])
+        except OSError:
+            pass
+        pid, status, usage = os.wait4(child.pid, os.WNOHANG)
+        if pid:
+            child.returncode = os.waitstatus_to_exitcode(status)
+            return usage.ru_utime + usage.ru_stime, most, child.returncode
+        time.sleep(0.0005)
+
+
 def run(words, folder):
     """The processor time in seconds, the most memory in MiB, the status and what was printed."""
     out = os.path.join(folder, "out")
     with open(out, "wb") as file:
-        child = subprocess.Popen(words, stdout=file)
-        _, status, usage = os.wait4(child.pid, 0)
+        seconds, most, status = ended(subprocess.Popen(words, stdout=file))
     with open(out, "rb") as file:
         printed = file.read()
-    return usage.ru_utime + usage.ru_stime, usage.ru_maxrss / 1024, os.waitstatus_to_exitcode(status), printed
+    return seconds, most / 1024, status, printed
 
 
 def measure(title, folder, commands, status=0):

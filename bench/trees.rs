@@ -1,0 +1,210 @@
+//! Reads a frame again and again into a tree of values, with readers that were written by hand and nothing but std.
+//!
+//!   trees KIND FRAME TURNS
+//!
+//! KIND is array, list, kinds or mixed; `trees.py`, which makes the frames, says how they are spelled. The line that is printed
+//! is `turns TURNS sum SUM`: each turn adds the bits of the value, and how many parts it and its parts have.
+
+use std::env;
+use std::fs;
+use std::hint::black_box;
+use std::process::ExitCode;
+
+/// The tree is made to be read by others.
+#[allow(dead_code)]
+enum Value {
+    Number(i128),
+    Label(String),
+    Truth(bool),
+    Text(String),
+    Items(Vec<Value>),
+    Fields(u32, Vec<Value>),
+}
+
+impl Value {
+    fn parts(&self) -> u64 {
+        match self {
+            Value::Items(parts) | Value::Fields(_, parts) => parts.len() as u64,
+            _ => 0,
+        }
+    }
+
+    fn weight(&self) -> u64 {
+        match self {
+            Value::Fields(_, fields) => self.parts() + fields.iter().map(Value::parts).sum::<u64>(),
+            _ => self.parts(),
+        }
+    }
+}
+
+struct Reader<'a> {
+    octets: &'a [u8],
+    at: usize,
+}
+
+impl<'a> Reader<'a> {
+    fn take(&mut self, count: usize) -> Option<&'a [u8]> {
+        let taken = self.octets.get(self.at..self.at + count)?;
+        self.at += count;
+        Some(taken)
+    }
+
+    fn number(&mut self, count: usize) -> Option<u64> {
+        Some(self.take(count)?.iter().fold(0, |number, octet| number << 8 | u64::from(*octet)))
+    }
+
+    fn unsigned(&mut self, count: usize) -> Option<Value> {
+        Some(Value::Number(self.number(count)?.into()))
+    }
+
+    fn signed_16(&mut self) -> Option<Value> {
+        Some(Value::Number((self.number(2)? as u16 as i16).into()))
+    }
+
+    fn label(&mut self) -> Option<Value> {
+        let label = match self.number(1)? {
+            0 => "OFF",
+            1 => "IDLE",
+            4 => "NOMINAL",
+            5 => "SAFE",
+            _ => return None,
+        };
+        Some(Value::Label(label.to_owned()))
+    }
+
+    fn text(&mut self, count: usize) -> Option<Value> {
+        let octets = self.take(count)?;
+        if !octets.is_ascii() {
+            return None;
+        }
+        Some(Value::Text(String::from_utf8(octets.to_vec()).ok()?))
+    }
+
+    fn items(&mut self, count: usize, item: impl Fn(&mut Self) -> Option<Value>) -> Option<Value> {
+        let mut items = Vec::with_capacity(count);
+        for _ in 0..count {
+            items.push(item(self)?);
+        }
+        Some(Value::Items(items))
+    }
+
+    fn pair(&mut self) -> Option<Value> {
+        Some(Value::Fields(1, vec![self.unsigned(1)?, self.unsigned(2)?]))
+    }
+
+    fn time(&mut self) -> Option<Value> {
+        Some(Value::Fields(2, vec![self.unsigned(4)?, self.unsigned(2)?]))
+    }
+
+    /// A container of one array of numbers of 8 bits.
+    fn array(&mut self) -> Option<Value> {
+        let items = self.items(65_536, |reader| reader.unsigned(1))?;
+        Some(Value::Fields(0, vec![items]))
+    }
+
+    /// A count of 16 bits, and so many pairs.
+    fn list(&mut self) -> Option<Value> {
+        let count = self.number(2)?;
+        let items = self.items(count as usize, Self::pair)?;
+        Some(Value::Fields(0, vec![Value::Number(count.into()), items]))
+    }
+
+    /// A text, a time in a container of its own, a mode, and a count with so many pairs.
+    fn mixed(&mut self) -> Option<Value> {
+        let name = self.text(16)?;
+        let time = self.time()?;
+        let mode = self.label()?;
+        let count = self.number(1)?;
+        let pairs = self.items(count as usize, Self::pair)?;
+        Some(Value::Fields(0, vec![name, time, mode, Value::Number(count.into()), pairs]))
+    }
+
+    /// A telemetry packet of one of 64 kinds.
+    fn kinds(&mut self) -> Option<Value> {
+        let start = self.at;
+        let first = self.number(2)?;
+        let second = self.number(2)?;
+        let length = self.number(2)?;
+        let apid = first & 0x7FF;
+        let flags = ["CONT", "FIRST", "LAST", "UNSEG"][(second >> 14) as usize];
+        let mut fields = vec![
+            Value::Number((first >> 13).into()),
+            Value::Truth(first & 0x1000 != 0),
+            Value::Truth(first & 0x0800 != 0),
+            Value::Number(apid.into()),
+            Value::Label(flags.to_owned()),
+            Value::Number((second & 0x3FFF).into()),
+        ];
+        if apid >= 64 {
+            return None;
+        }
+        match apid % 4 {
+            0 => fields.extend([self.unsigned(2)?, self.signed_16()?]),
+            1 => {
+                let count = self.number(1)?;
+                let temps = self.items(count as usize, Self::signed_16)?;
+                fields.extend([Value::Number(count.into()), temps]);
+            }
+            2 => fields.extend([self.label()?, self.unsigned(4)?]),
+            _ => fields.extend([self.text(8)?, self.unsigned(1)?]),
+        }
+        let check = self.octets[start..self.at].iter().fold(0xFFFFu16, |check, octet| {
+            CRC16[usize::from((check >> 8) as u8 ^ octet)] ^ check << 8
+        });
+        if self.number(2)? != u64::from(check) || length as usize + 7 != self.at - start {
+            return None;
+        }
+        Some(Value::Fields(apid as u32, fields))
+    }
+}
+
+const fn remainders() -> [u16; 256] {
+    let mut table = [0; 256];
+    let mut octet = 0;
+    while octet < 256 {
+        let mut bits = (octet as u16) << 8;
+        let mut step = 0;
+        while step < 8 {
+            bits = bits << 1 ^ if bits & 0x8000 == 0 { 0 } else { 0x1021 };
+            step += 1;
+        }
+        table[octet] = bits;
+        octet += 1;
+    }
+    table
+}
+
+static CRC16: [u16; 256] = remainders();
+
+fn sum_of(kind: &str, frame: &[u8], turns: u32) -> Option<u64> {
+    let mut sum = 0u64;
+    for _ in 0..turns {
+        let mut reader = Reader { octets: black_box(frame), at: 0 };
+        let value = match kind {
+            "array" => reader.array(),
+            "list" => reader.list(),
+            "mixed" => reader.mixed(),
+            _ => reader.kinds(),
+        }?;
+        sum = sum.wrapping_add(8 * reader.at as u64).wrapping_add(black_box(&value).weight());
+    }
+    Some(sum)
+}
+
+fn main() -> ExitCode {
+    let words: Vec<String> = env::args().skip(1).collect();
+    let [kind, frame, turns] = words.as_slice() else {
+        println!("usage: trees array|list|kinds|mixed FRAME TURNS");
+        return ExitCode::from(2);
+    };
+    let (Ok(frame), Ok(turns)) = (fs::read(frame), turns.parse()) else {
+        return ExitCode::FAILURE;
+    };
+    match sum_of(kind, &frame, turns) {
+        Some(sum) => {
+            println!("turns {turns} sum {sum}");
+            ExitCode::SUCCESS
+        }
+        None => ExitCode::FAILURE,
+    }
+}
