@@ -41,6 +41,14 @@ def sub_range(name, base):
     return ["SubRangeDataType", {"name": name, "baseType": base}, POSITIVE]
 
 
+def checks(kind, bits, before=0):
+    """A container of many error controls behind some octets, within one that begins a bit earlier where there are such octets."""
+    own = ["IntegerDataType", {"name": "U"}, ["IntegerDataEncoding", {"sizeInBits": str(bits), "encoding": "unsigned"}]]
+    controls = [["ErrorControlEntry", {"name": f"c{i}", "type": "U", "errorControlType": kind}] for i in range(32766)]
+    padding = [["PaddingEntry", {"sizeInBits": str(8 * before)}]] if before else []
+    return sheet(own, container("C", *padding, *controls), container("O", ["PaddingEntry", {"sizeInBits": "1"}], entry("c", "C")))
+
+
 WORD = sheet(U4, U12, container("Word", entry("a", "U4"), entry("b", "U12")))
 
 
@@ -179,6 +187,15 @@ def inputs():
     yield "a frame of 1 MiB of blanks", "unpack P/Word f s", {"s": WORD, "f": " " * (1 << 20)}, (3, "fault Short at $.a\n")
     yield "a frame of 65,536 octets", "unpack P/Word f s", {"s": WORD, "f": "00" * 65536}, (3, "fault Trailing at $\n")
     yield "a frame of 65,537 octets", "unpack P/Word f s", {"s": WORD, "f": "00" * 65537}, (7, "limit frame 65536\n")
+    # the check of no octets is FFFF, and then the rest of the octets and their check is always 0
+    words = "ffff" + "0000" * 32765
+    yield "32,766 checks of 16 bits", "unpack P/C f s", {"s": checks("CRC16_CCITT", 16), "f": words}, (0, '{"$type":"P/C"}\nbits 524256\n')
+    yield "32,766 checks of 16 bits, written", "pack P/C v s", {"s": checks("CRC16_CCITT", 16), "v": "{}"}, (0, words + "\nbits 524256\n")
+    outer = {"s": checks("CRC8", 8, 32767)}
+    octets = "00" * 65534
+    yield "32,766 checks of 8 bits behind 32,767 octets and a bit", "unpack P/O f s", {**outer, "f": octets}, (
+        0, '{"$type":"P/O","c":{"$type":"P/C"}}\nbits 524265\n')  # fmt: skip
+    yield "32,766 checks of 8 bits behind 32,767 octets and a bit, written", "pack P/O v s", {**outer, "v": {"c": {}}}, (0, octets + "\nbits 524265\n")
     yield "a value of 100,000 members", "pack P/Word v s", {"s": WORD, "v": {f"m{i}": i for i in range(100000)}}, (3, "fault WrongShape at $\n")
     yield "a value with a member 100,000 times", "pack P/Word v s", {"s": WORD, "v": "{" + '"a":2,' * 100000 + '"a":1,"b":564}'}, (
         0, "1234\nbits 16\n")  # fmt: skip
