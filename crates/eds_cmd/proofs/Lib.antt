@@ -1,5 +1,6 @@
 pub mod Unpacking
 pub mod Splitting
+pub mod Bounds
 pub mod Targets
 pub mod SheetFiles
 pub mod OneAnswer

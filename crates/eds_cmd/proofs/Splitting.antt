@@ -1,31 +1,25 @@
 -- What cutting octets into packets comes to is one thing; and how it is cut packet after packet.
-use Rattle.std.proofs.Common.{◌≡◌, ◌≢◌, ℕ, zero, suc, ◌+◌, ◌≤◌, ◌<◌, codes, Bool, true, false, nat_le, List, [], ◌∷◌, ◌++◌, length, take, drop, refl, sym, ◌∙◌, ap, subst, arith, inl, inr, ◌⊎◌}
+use Rattle.std.proofs.Common.{◌≡◌, ◌≢◌, ℕ, zero, suc, ◌+◌, ◌≤◌, ◌<◌, codes, true, false, List, [], ◌∷◌, ◌++◌, length, take, refl, sym, ◌∙◌, ap, subst, arith, inl, inr, ◌⊎◌}
 use Rattle.std.specs.Prelude.{IsSome}
-use Rattle.std.proofs.lemmas.Bool.{leb-true, leb-false}
-use Rattle.std.proofs.lemmas.List.{append-nil, append_assoc, length-append, length-drop, length-take-le, take-append-drop, take_all}
-use Rattle.std.proofs.Math.Seq.{take-append_seam, take-append-add}
+use Rattle.std.proofs.lemmas.List.{append-nil, append_assoc, length-append, take-append-le}
 use Rattle.eds_base.specs.declared.fault.Fault.{Fault}
-use Rattle.eds_base.specs.declared.fault.Reason.{Reason}
-use Rattle.eds_base.specs.declared.fault.Reason.TheVariants.{Short, OutOfRange, NoLabel, BadDigit, BadText, Unterminated, FixedDiffers, Constraint, NoDerived, LengthDiffers, CheckDiffers, TooLong, Trailing}
-use Rattle.eds_bits.specs.Bits.{Bits, bits_of, octets_for}
+use Rattle.eds_bits.specs.Bits.{Bits, bits_of}
+use Rattle.eds_bits.proofs.OctetLaws.{bits_of-append, length-bits_of}
 use Rattle.eds_overlap.specs.Laws.{EmptyTypes}
-use Rattle.eds_types.specs.Failing.{FailsAt, fault_at, fault_here}
-use Rattle.eds_types.specs.Plain.{Plain}
+use Rattle.eds_overlap.proofs.Theorems.{faults_stay}
+use Rattle.eds_types.specs.Failing.{FailsAt, fault_at}
 use Rattle.eds_types.specs.Rows.{Table}
 use Rattle.eds_types.specs.Rules.{KeepsRules}
 use Rattle.eds_types.specs.Spelling.{Spells}
 use Rattle.eds_unpack.specs.Packets.{AreCut, Framing, Packet, IsPacket}
 use Rattle.eds_unpack.specs.Pieces.{HasOneCut, IsCutUpTo, IsLastFault, OneCut}
-use Rattle.eds_unpack.specs.Split.{is_short}
-use Rattle.eds_unpack.specs.Splitting.{BeginsWith, FailsIn, IsFraming}
-use Rattle.eds_unpack.proofs.Cutting.{packet_of}
-use Rattle.eds_unpack.proofs.Taking.{octets_there, packet_read}
+use Rattle.eds_unpack.specs.Splitting.{BeginsWith, IsFraming, IsRefused}
 use Rattle.eds_value.specs.JsonOfValue.{json_text}
 use Rattle.eds_cmd.specs.declared.status.Status.{Status}
 use Rattle.eds_cmd.specs.declared.status.Status.TheVariants as statuses
 use Rattle.eds_cmd.specs.declared.stop.Stop.{Stop}
-use Rattle.eds_cmd.specs.Limits.{packet_octets}
-use Rattle.eds_cmd.specs.Split.{HoldsPacket, IsCutOff, IsWhole, Splits, framing_of, packet_failure, packet_lines, packets_line}
+use Rattle.eds_cmd.specs.Limits.{report_octets}
+use Rattle.eds_cmd.specs.Split.{IsCutOff, IsCutTo, IsKept, IsSpoiled, IsWhole, Splits, framing_of, packet_lines, packets_line}
 use Rattle.eds_cmd.specs.Stops.{IsStop, packet_fault, status_of}
 use Rattle.eds_cmd.specs.Target.{IsKnown, TypeIn}
 
@@ -71,63 +65,38 @@ module _ (law : OneCut) (type : TypeIn) (is : IsFraming (framing_of type)) (octe
           let stop = packet_fault type.table (length x.0 + 1) (x.1).reason (x.1).path in
           inr (stop, inr (record { packets = x.0; reason = (x.1).reason; path = (x.1).path; cut = x.2; stop = record { status_is = refl; report_is = refl } }))
 
+-- ---- lines that are kept
+
+-- one more line behind a text that is no longer than a report may be
+pub kept_more : (lines text line : List ℕ) → IsKept lines text → length text ≤ report_octets → IsKept (lines ++ line) (text ++ line)
+kept_more lines text line k few = go k.all
+  where
+    go : (k.rest ≡ []) ⊎ (report_octets < length text) → IsKept (lines ++ line) (text ++ line)
+    go (inl none) = record { rest = []; front = ap (λ l. l ++ line) (k.front ∙ ap (λ l. text ++ l) none ∙ append-nil text) ∙ sym (append-nil (text ++ line)); all = inl refl }
+    go (inr past) = absurd (omega (arith, past, few))
+
+-- one more line behind a text that is longer
+pub kept_past : (lines text line : List ℕ) → IsKept lines text → report_octets < length text → IsKept (lines ++ line) text
+kept_past lines text line k past = record { rest = k.rest ++ line; front = ap (λ l. l ++ line) k.front ∙ append_assoc text k.rest line; all = inr past }
+
+-- nothing is kept of no lines
+pub kept_none : IsKept [] []
+kept_none = record { rest = []; front = refl; all = inl refl }
+
 -- ---- one packet
 
-short_is : (r : Reason) → is_short r ≡ true → r ≡ Short
-short_is Short h = refl
-short_is OutOfRange h = cc
-short_is NoLabel h = cc
-short_is BadDigit h = cc
-short_is BadText h = cc
-short_is Unterminated h = cc
-short_is FixedDiffers h = cc
-short_is Constraint h = cc
-short_is NoDerived h = cc
-short_is LengthDiffers h = cc
-short_is CheckDiffers h = cc
-short_is TooLong h = cc
-short_is Trailing h = cc
-
-not_short : (r : Reason) → is_short r ≡ false → r ≢ Short
-not_short r h e = absurd (cc (h, ap is_short e))
-
--- the fault that is told of a packet, where reading the octets at its front fails so
-pub failure_is : (type : TypeIn) (octets : List ℕ) (g : Fault) → FailsIn (framing_of type) octets g → IsLastFault (framing_of type) octets (packet_failure g (length octets))
-failure_is type octets g fails = go (is_short g.reason) refl (nat_le packet_octets (length octets)) refl
+-- a packet has one octet at least
+pub some_octets : (k : Framing) → IsFraming k → (p : Packet) (octets rest : List ℕ) → BeginsWith k p octets rest → length rest < length octets
+some_octets k is p octets rest h = omega (arith, ap length h.is, length-append h.front rest, length-bits_of h.front, ap length h.spelled.bits, length-append h.spelled.spelling h.spelled.fill, filled h.spelled.spelling h.spelled.spelled)
   where
-    go : (b : Bool) → is_short g.reason ≡ b → (c : Bool) → nat_le packet_octets (length octets) ≡ c → IsLastFault (framing_of type) octets (packet_failure g (length octets))
-    go true e true f = rw (e, f) (inl (inr (record { fault = g; fails = fails; short = short_is g.reason e; many = leb-true packet_octets (length octets) f }, refl)))
-    go true e false f = rw (e, f) (inr (fails, short_is g.reason e, leb-false packet_octets (length octets) f))
-    go false e c f = rw e (inl (inl (fails, not_short g.reason e)))
-
--- where a value is spelled by the first bits of as many octets as a packet may have, the octets that they fill are a packet
-pub packet_is : (type : TypeIn) → IsFraming (framing_of type) → (v : Plain) (octets judged : List ℕ) (n m : ℕ) → judged ≡ take packet_octets octets → m ≡ octets_for n → n ≤ length (bits_of judged)
-    → Spells type.table type.id v (take n (bits_of judged)) → HoldsPacket type v octets m
-packet_is type is v octets judged n m e o few s =
-    let begins = packet_read (framing_of type) octets judged v n m e o few s in
-    let within = octets_there packet_octets octets judged n m e o few in
-    record { bits = n; begins = begins; some = filled (take n (bits_of judged)) s; within = within }
-  where
-    filled : (c : Bits) → Spells type.table type.id v c → 1 ≤ m
-    filled c spelled = go n o s
-      where
-        go : (k : ℕ) → m ≡ octets_for k → Spells type.table type.id v (take k (bits_of judged)) → 1 ≤ m
-        go zero f t = absurd (is.some_bits v t)
-        go (suc k) f t = omega (arith, f)
+    filled : (c : Bits) → Spells k.table k.id p.value c → 1 ≤ length c
+    filled [] spelled = absurd (is.some_bits p.value spelled)
+    filled (b ∷ c) spelled = omega arith
 
 -- ---- packet after packet
 
--- so many octets are cut into so many packets, whose lines are this text
-pub record IsCutTo (type : TypeIn) (octets : List ℕ) (at count : ℕ) (text : List ℕ) : Type 0 where
-  pub packets : List Packet
-  pub cut : AreCut (framing_of type) packets (take at octets)
-  pub count_is : count ≡ length packets
-  pub lines : text ≡ packet_lines type.table packets
-  pub few : count ≤ at
-  pub within : at ≤ length octets
-
-pub cut_to_none : (type : TypeIn) (octets : List ℕ) → IsCutTo type octets 0 0 []
-cut_to_none type octets = record { packets = []; cut = refl; count_is = refl; lines = refl; few = omega arith; within = omega arith }
+pub cut_to_none : (type : TypeIn) → IsCutTo type [] [] 0 []
+cut_to_none type = record { packets = []; front = []; is = refl; cut = refl; count_is = refl; lines = kept_none }
 
 lines-more : (t : Table) (ps : List Packet) (p : Packet) → packet_lines t (ps ++ p ∷ []) ≡ packet_lines t ps ++ (json_text t p.value ++ codes "\n")
 lines-more t [] p = append-nil (json_text t p.value ++ codes "\n")
@@ -138,54 +107,111 @@ cut_more : (k : Framing) (ps : List Packet) (p : Packet) (octets others : List �
 cut_more k [] p octets others none is = rw none (others, [], sym (append-nil others), is, refl)
 cut_more k (q ∷ ps) p octets others cut is = (cut.0, cut.1 ++ others, ap (λ xs. xs ++ others) cut.2 ∙ append_assoc cut.0 cut.1 others, cut.3, cut_more k ps p cut.1 others cut.4 is)
 
-take-more : (i j : ℕ) (xs : List ℕ) → i ≤ length xs → take (i + j) xs ≡ take i xs ++ take j (drop i xs)
-take-more i j xs within =
-    let size : length (take i xs) ≡ i = length-take-le i xs within in
-    ap (λ n. take (n + j) xs) (sym size) ∙ ap (take (length (take i xs) + j)) (sym (take-append-drop i xs)) ∙ take-append-add (take i xs) (drop i xs) j
+-- one more packet is taken
+pub cut_to_more : (type : TypeIn) (octets held rest : List ℕ) (count : ℕ) (text longer : List ℕ) (p : Packet) → IsCutTo type octets held count text → BeginsWith (framing_of type) p held rest
+    → ((lines : List ℕ) → IsKept lines text → IsKept (lines ++ (json_text type.table p.value ++ codes "\n")) longer) → IsCutTo type octets rest (count + 1) longer
+cut_to_more type octets held rest count text longer p k h kept = record {
+  packets = k.packets ++ p ∷ [];
+  front = k.front ++ h.front;
+  is = k.is ∙ ap (λ z. k.front ++ z) h.is ∙ sym (append_assoc k.front h.front rest);
+  cut = cut_more (framing_of type) k.packets p k.front h.front k.cut h.spelled;
+  count_is = omega (arith, k.count_is, length-append k.packets (p ∷ []));
+  lines = subst (λ l. IsKept l longer) (sym (lines-more type.table k.packets p)) (kept (packet_lines type.table k.packets) k.lines);
+}
 
--- the front of what begins with a packet
-front_is : (type : TypeIn) (value : Plain) (octets : List ℕ) (size : ℕ) (h : HoldsPacket type value octets size) → h.begins.front ≡ take size octets
-front_is type value octets size h =
-    let front : List ℕ = h.begins.front in
-    let rest : List ℕ = drop size octets in
-    let e : front ++ rest ≡ take size octets ++ rest = sym h.begins.is ∙ sym (take-append-drop size octets) in
-    let same : length front ≡ length (take size octets) = omega (arith, ap length e, length-append front rest, length-append (take size octets) rest) in
-    sym (take-append_seam front rest) ∙ ap (take (length front)) e ∙ ap (λ n. take n (take size octets ++ rest)) same ∙ take-append_seam (take size octets) rest
+-- a packet that can't be read
+pub spoiled_by : (type : TypeIn) (octets held : List ℕ) (count : ℕ) (text : List ℕ) (fault : Fault) → IsCutTo type octets held count text → held ≢ [] → IsRefused (framing_of type) held fault
+    → IsSpoiled type octets count fault
+spoiled_by type octets held count text fault k some refused = record { packets = k.packets; front = k.front; rest = held; is = k.is; cut = k.cut; count_is = k.count_is; some = some; refused = refused }
 
--- one more packet
-pub cut_to_more : (type : TypeIn) (octets : List ℕ) (at count size : ℕ) (text longer : List ℕ) (value : Plain) → IsCutTo type octets at count text → HoldsPacket type value (drop at octets) size
-    → longer ≡ text ++ (json_text type.table value ++ codes "\n") → IsCutTo type octets (at + size) (count + 1) longer
-cut_to_more type octets at count size text longer value k h is =
-    let p : Packet = packet_of value h.bits in
-    let packet : IsPacket (framing_of type) p (take size (drop at octets)) = subst (IsPacket (framing_of type) p) (front_is type value (drop at octets) size h) h.begins.spelled in
-    record {
-      packets = k.packets ++ p ∷ [];
-      cut = subst (AreCut (framing_of type) (k.packets ++ p ∷ [])) (sym (take-more at size octets k.within)) (cut_more (framing_of type) k.packets p (take at octets) (take size (drop at octets)) k.cut packet);
-      count_is = omega (arith, k.count_is, length-append k.packets (p ∷ []));
-      lines = is ∙ ap (λ l. l ++ (json_text type.table value ++ codes "\n")) k.lines ∙ sym (lines-more type.table k.packets p);
-      few = omega (arith, k.few, h.some);
-      within = omega (arith, k.within, h.within, length-drop at octets);
-    }
+-- ---- piece after piece
 
--- all octets are cut
-pub split_by : (type : TypeIn) (octets : List ℕ) (at count : ℕ) (text report : List ℕ) → IsCutTo type octets at count text → length octets ≤ at
-    → report ≡ text ++ packets_line count (length octets) → Splits type octets statuses.Done report
-split_by type octets at count text report k all is = inl (record {
-  packets = k.packets;
-  cut = subst (AreCut (framing_of type) k.packets) (take_all at octets all) k.cut;
-  status_is = refl;
-  report_is = is ∙ rw (k.lines, k.count_is) refl;
-})
+-- the first ones of more octets
+first_more : (most : ℕ) (octets others : List ℕ) → (more : List ℕ) × (take most (octets ++ others) ≡ take most octets ++ more)
+first_more zero octets others = ([], refl)
+first_more (suc most) [] others = (take (suc most) others, refl)
+first_more (suc most) (o ∷ octets) others = let more = first_more most octets others in (more.0, ap (λ z. o ∷ z) more.1)
 
--- what follows can't be read
-pub cut_off_by : (type : TypeIn) (octets : List ℕ) (at count : ℕ) (text : List ℕ) (fault : Fault) (stop : Stop) → IsCutTo type octets at count text → at < length octets
-    → IsLastFault (framing_of type) (drop at octets) fault → stop ≡ packet_fault type.table (count + 1) fault.reason fault.path → Splits type octets (status_of stop.cause) stop.report
-cut_off_by type octets at count text fault stop k longer fails is =
-    let told : stop ≡ packet_fault type.table (length k.packets + 1) fault.reason fault.path = is ∙ ap (λ n. packet_fault type.table (n + 1) fault.reason fault.path) k.count_is in
+-- what can't be read, can't whatever comes behind it
+refused_stays : (k : Framing) (octets others : List ℕ) (g : Fault) → IsRefused k octets g → IsRefused k (octets ++ others) g
+refused_stays k octets others g (inl h) =
+    let more = first_more k.most octets others in
+    let bits : bits_of (take k.most (octets ++ others)) ≡ bits_of (take k.most octets) ++ bits_of more.0 = ap bits_of more.1 ∙ bits_of-append (take k.most octets) more.0 in
+    inl (subst (λ (b : Bits). FailsAt k.table k.id b g) (sym bits) (faults_stay k.table k.id (bits_of (take k.most octets)) (bits_of more.0) g h.1 h.0), h.1)
+refused_stays k octets others g (inr h) =
+    let same = take-append-le k.most octets others h.0.many in
     inr (record {
-      packets = k.packets;
+      fault = h.0.fault;
+      fails = subst (λ os. FailsAt k.table k.id (bits_of os) h.0.fault) (sym same) h.0.fails;
+      short = h.0.short;
+      many = omega (arith, h.0.many, length-append octets others);
+    }, h.1)
+
+-- a piece comes behind octets that are held
+pub cut_to_piece : (type : TypeIn) (octets held piece : List ℕ) (count : ℕ) (text : List ℕ) → IsCutTo type octets held count text → IsCutTo type (octets ++ piece) (held ++ piece) count text
+cut_to_piece type octets held piece count text k = record {
+  packets = k.packets;
+  front = k.front;
+  is = ap (λ z. z ++ piece) k.is ∙ append_assoc k.front held piece;
+  cut = k.cut;
+  count_is = k.count_is;
+  lines = k.lines;
+}
+
+-- a piece comes behind a packet that can't be read
+pub spoiled_piece : (type : TypeIn) (octets piece : List ℕ) (count : ℕ) (fault : Fault) → IsSpoiled type octets count fault → IsSpoiled type (octets ++ piece) count fault
+spoiled_piece type octets piece count fault k = record {
+  packets = k.packets;
+  front = k.front;
+  rest = k.rest ++ piece;
+  is = ap (λ z. z ++ piece) k.is ∙ append_assoc k.front k.rest piece;
+  cut = k.cut;
+  count_is = k.count_is;
+  some = λ e. k.some (none_before k.rest piece e);
+  refused = refused_stays (framing_of type) k.rest piece fault k.refused;
+}
+  where
+    none_before : (xs ys : List ℕ) → xs ++ ys ≡ [] → xs ≡ []
+    none_before [] ys e = refl
+    none_before (x ∷ xs) ys e = absurd (cc e)
+
+-- ---- at the end
+
+-- all octets are packets
+pub cut_whole : (type : TypeIn) (octets : List ℕ) (count : ℕ) (text : List ℕ) (size : ℕ) → IsCutTo type octets [] count text → length octets ≡ size
+    → (lines : List ℕ) × IsKept lines text × ((status : Status) (report : List ℕ) → (status ≡ statuses.Done) × (report ≡ lines ++ packets_line count size) → Splits type octets status report)
+cut_whole type octets count text size k is = (
+  packet_lines type.table k.packets,
+  k.lines,
+  λ status report done. inl (record {
+    packets = k.packets;
+    cut = subst (AreCut (framing_of type) k.packets) (sym (k.is ∙ append-nil k.front)) k.cut;
+    status_is = done.0;
+    report_is = done.1 ∙ rw (k.count_is, is) refl;
+  }),
+)
+
+-- packets up to one that can't be read
+cut_off_by : (type : TypeIn) (octets : List ℕ) (fault : Fault) (stop : Stop) (packets : List Packet) (count : ℕ) → count ≡ length packets → IsCutUpTo (framing_of type) octets packets fault
+    → stop ≡ packet_fault type.table (count + 1) fault.reason fault.path → Splits type octets (status_of stop.cause) stop.report
+cut_off_by type octets fault stop packets count count_is cut is =
+    let told : stop ≡ packet_fault type.table (length packets + 1) fault.reason fault.path = is ∙ ap (λ n. packet_fault type.table (n + 1) fault.reason fault.path) count_is in
+    inr (record {
+      packets = packets;
       reason = fault.reason;
       path = fault.path;
-      cut = record { front = take at octets; rest = drop at octets; is = sym (take-append-drop at octets); cut = k.cut; some = λ e. omega (arith, longer, ap length e, length-drop at octets); fails = fails };
+      cut = cut;
       stop = record { status_is = ap (λ (s : Stop). status_of s.cause) told; report_is = ap (λ (s : Stop). s.report) told };
     })
+
+-- what is held can't be read
+pub cut_off_held : (type : TypeIn) (octets held : List ℕ) (count : ℕ) (text : List ℕ) (fault : Fault) (stop : Stop) → IsCutTo type octets held count text → held ≢ [] → IsLastFault (framing_of type) held fault
+    → stop ≡ packet_fault type.table (count + 1) fault.reason fault.path → Splits type octets (status_of stop.cause) stop.report
+cut_off_held type octets held count text fault stop k some fails is =
+    cut_off_by type octets fault stop k.packets count k.count_is (record { front = k.front; rest = held; is = k.is; cut = k.cut; some = some; fails = fails }) is
+
+-- an earlier packet can't be read
+pub cut_off_spoiled : (type : TypeIn) (octets : List ℕ) (count : ℕ) (fault : Fault) (stop : Stop) → IsSpoiled type octets count fault
+    → stop ≡ packet_fault type.table (count + 1) fault.reason fault.path → Splits type octets (status_of stop.cause) stop.report
+cut_off_spoiled type octets count fault stop k is =
+    cut_off_by type octets fault stop k.packets count k.count_is (record { front = k.front; rest = k.rest; is = k.is; cut = k.cut; some = k.some; fails = inl k.refused }) is

@@ -1,24 +1,25 @@
 //! A command over a shelf.
 
-ghost use Rattle.std.specs.Prelude.{◌≡◌, ◌≤◌, ◌<◌, ◌+◌, ◌^◌, ℕ, All, List, Some, IfErr, IfOk, IfSome, IsSomeAnd, is_some, length, option_map, string_bytes, true};
+ghost use Rattle.std.specs.Prelude.{◌≡◌, ◌≢◌, ◌≤◌, ◌<◌, ◌+◌, ◌^◌, ℕ, All, List, Some, IfErr, IfOk, IfSome, IsSomeAnd, is_some, length, option_map, string_bytes, true};
 ghost use Rattle.std.specs.List.{Contains};
 ghost use Rattle.eds_base.specs.Answering.{Answers};
 ghost use Rattle.eds_io.specs.Counts.{HasRisen};
 ghost use Rattle.eds_io.specs.Files.{Files};
 ghost use Rattle.eds_sheet.specs.Compiled.{compiled};
-ghost use Rattle.eds_cmd.specs.Answer.{AnswersFew, DoesBy, IsReached, IsReachedSheet, Works, accepted, input_for as input_of, or_refused, sheet_file as sheet_of_name, sheet_files as sheets_of_names, whole_file as whole, within_report as within_limit};
+ghost use Rattle.eds_cmd.specs.Answer.{AnswersFew, DoesBy, IsReached, IsReachedSheet, Works, accepted, input_for as input_of, or_refused, sheet_file as sheet_of_name, sheet_files as sheets_of_names, whole_file as whole};
 ghost use Rattle.eds_cmd.specs.Command.{ReadsFile, job_words, words_of};
 ghost use Rattle.eds_cmd.specs.Endings.{Comes, CommandEndsAs, EndsAs, OnUnread};
+ghost use Rattle.eds_cmd.specs.Split.{IsBounded};
 ghost use Rattle.eds_cmd.specs.Target.{IsKnown, MayBeRead, type_in};
 
 use crate::command::{Command, Job, Verb, input_most};
 use crate::ended::Ended;
-use crate::limits::{PACKETS_OCTETS, REPORT_OCTETS, SHEET_OCTETS, SHEETS, SHEETS_OCTETS};
+use crate::limits::{SHEET_OCTETS, SHEETS, SHEETS_OCTETS};
 use crate::pack::packed;
 use crate::report::counts_line;
 use crate::split::split;
 use crate::status::What;
-use crate::stop::{Stop, limited, missing, refused};
+use crate::stop::{Stop, limited, missing, refused, within_report};
 use crate::target::{Target, target_of};
 use crate::unpack::unpacked;
 use eds_base::{Fail, Items, Octets, Text};
@@ -145,7 +146,7 @@ fn sheet_for<S: Shelf>(alloc: Global, command: &Command<'_>, shelf: &mut S) -> R
     Ok(sheet_by(alloc, &files, command.type_name())?)
 }
 
-// What is done with the octets of an input file by a type.
+// What is done with the octets of an input file that is read whole, by a type.
 fn run_verb(
     alloc: Global,
     verb: Verb,
@@ -153,13 +154,13 @@ fn run_verb(
     input: &[u8],
 ) -> Result<String, Fail<Stop>>
     requires known { IsKnown (type_in target.now) }
-    requires few { length input.now ≤ PACKETS_OCTETS }
+    requires whole { verb ≢ Verb.Split }
     ensures { EndsAs string_bytes (Works verb (type_in target.now) input.now) result }
 {
     match verb {
         Verb::Unpack => unpacked(alloc, target, input),
         Verb::Pack => packed(alloc, target, input),
-        Verb::Split => split(alloc, target, input),
+        Verb::Split => unreachable!(),
     }
 }
 
@@ -167,7 +168,6 @@ fn run_verb(
 fn input_for<S: Shelf>(alloc: Global, job: &Job<'_>, shelf: &mut S) -> Result<Octets, Ended>
     ensures told { (files : Files) → S.files shelf.old ≡ Some files
         → Comes (λ o. o) result (input_of files (job_words job.now)) }
-    ensures few { IfOk result (λ o. length o ≤ PACKETS_OCTETS) }
     ensures calm { (other : List ℕ) → S.faults shelf.old other ≤ S.faults shelf.new other }
     ensures unread { IfErr result (λ ended. OnUnread ended
         (λ n. (n ≡ job.now.input.now) × HasRisen (S.faults shelf.old n) (S.faults shelf.new n))) }
@@ -185,14 +185,18 @@ fn run_job<S: Shelf>(
     requires word { IsSomeAnd sheet.now.asked_type (λ id. id.0 < length sheet.now.table) }
     requires readable { MayBeRead sheet.now }
     ensures told { (files : Files) → S.files shelf.old ≡ Some files
-        → CommandEndsAs string_bytes (DoesBy (Some (job_words job.now)) files sheet.now) result }
+        → CommandEndsAs string_bytes (IsBounded (DoesBy (Some (job_words job.now)) files sheet.now)) result }
     ensures calm { (other : List ℕ) → S.faults shelf.old other ≤ S.faults shelf.new other }
     ensures unread { IfErr result (λ ended. OnUnread ended
         (λ n. (n ≡ job.now.input.now) × HasRisen (S.faults shelf.old n) (S.faults shelf.new n))) }
 {
     let target = target_of(sheet);
+    if job.verb == Verb::Split {
+        return split(alloc, &target, job.input, shelf);
+    }
     let input = input_for(alloc, job, shelf)?;
-    Ok(run_verb(alloc, job.verb, &target, input.as_slice())?)
+    let report = run_verb(alloc, job.verb, &target, input.as_slice())?;
+    Ok(within_report(alloc, report)?)
 }
 
 // What is done by an accepted sheet.
@@ -206,7 +210,7 @@ fn report_for<S: Shelf>(
     requires readable { MayBeRead sheet.now }
     requires given { is_some sheet.now.asked_type ≡ is_some job }
     ensures told { (files : Files) → S.files shelf.old ≡ Some files
-        → CommandEndsAs string_bytes (DoesBy (option_map job_words job.entry) files sheet.now) result }
+        → CommandEndsAs string_bytes (IsBounded (DoesBy (option_map job_words job.entry) files sheet.now)) result }
     ensures calm { (other : List ℕ) → S.faults shelf.old other ≤ S.faults shelf.new other }
     ensures cause { IfErr result (λ ended. OnUnread ended
         (λ n. HasRisen (S.faults shelf.old n) (S.faults shelf.new n))) }
@@ -214,18 +218,7 @@ fn report_for<S: Shelf>(
 {
     match job {
         Some(job) => run_job(alloc, &job, sheet, shelf),
-        None => Ok(counts_line(alloc, sheet.counts)?),
-    }
-}
-
-// A report that is no longer than a report may be.
-fn within_report(alloc: Global, report: String) -> Result<String, Fail<Stop>>
-    ensures { Answers string_bytes result (within_limit (string_bytes report)) }
-{
-    if report.len() as u64 <= REPORT_OCTETS {
-        Ok(report)
-    } else {
-        Err(Fail::Named(limited(alloc, What::Report, REPORT_OCTETS)?))
+        None => Ok(within_report(alloc, counts_line(alloc, sheet.counts)?)?),
     }
 }
 
@@ -246,6 +239,5 @@ pub fn perform<S: Shelf>(
         → IfErr result (λ ended. OnUnread ended (IsReached files (words_of command.now))) }
 {
     let sheet = sheet_for(alloc, command, shelf)?;
-    let report = report_for(alloc, command.job, &sheet, shelf)?;
-    Ok(within_report(alloc, report)?)
+    report_for(alloc, command.job, &sheet, shelf)
 }

@@ -1,11 +1,14 @@
 //! Why a command ends before it is done, with the report.
 
-ghost use Rattle.std.specs.Prelude.{◌≡◌, IfOk};
+ghost use Rattle.std.specs.Prelude.{◌≡◌, IfOk, string_bytes};
+ghost use Rattle.eds_base.specs.Answering.{Answers};
+ghost use Rattle.eds_cmd.specs.Answer.{within_report as within_limit};
 ghost use Rattle.eds_cmd.specs.Stops as stops;
 
+use crate::limits::REPORT_OCTETS;
 use crate::report::{fault_line, limit_line, no_file_line, packet_fault_line, refusal_line};
 use crate::status::{DataFault, Status, What};
-use eds_base::{Fault, Memory, Refusal, Text};
+use eds_base::{Fail, Fault, Memory, Refusal, Text};
 use eds_pack::PackFail;
 use eds_types::TypeTable;
 use eds_value::{ValueFail, path_text};
@@ -65,6 +68,17 @@ pub fn limited(alloc: Global, what: What, most: u64) -> Result<Stop, Memory>
         cause: Cause::Limit(what, most),
         report: Text::from_string(report),
     })
+}
+
+/// A report that is no longer than a report may be.
+pub fn within_report(alloc: Global, report: String) -> Result<String, Fail<Stop>>
+    ensures { Answers string_bytes result (within_limit (string_bytes report)) }
+{
+    if report.len() as u64 <= REPORT_OCTETS {
+        Ok(report)
+    } else {
+        Err(Fail::Named(limited(alloc, What::Report, REPORT_OCTETS)?))
+    }
 }
 
 /// A rule is broken.
