@@ -1,19 +1,23 @@
 -- Common numbers that are gathered in the order of their paths' texts.
-use Rattle.std.proofs.Common.{◌≡◌, ℕ, zero, suc, Bool, true, false, cond, List, [], ◌∷◌, ◌++◌, map, take, drop, refl, sym, ap, subst, ◌∙◌, inl, inr}
-use Rattle.std.specs.Prelude.{◌⊎◌, fold, insert}
+use Rattle.std.proofs.Common.{◌≡◌, ℕ, zero, suc, ◌<◌, ◌≤◌, ◌||◌, arith, get_or, length, is_some, Bool, true, false, cond, List, [], ◌∷◌, ◌++◌, map, take, drop, refl, sym, ap, subst, ◌∙◌, inl, inr}
+use Rattle.std.specs.Prelude.{◌⊎◌, ℤ, Option, Some, None, fold, insert}
 use Rattle.std.proofs.Common.{Ordering, Less, Equal, Greater}
-use Rattle.std.specs.Ordering.{nat_cmp, is_le, ordering_reverse}
+use Rattle.std.specs.Ordering.{nat_cmp, is_gt, is_le, ordering_reverse}
 use Rattle.std.specs.Cmp.Lexicographic.{slice_cmp}
 use Rattle.std.specs.List.{AllByRecursion}
 use Rattle.std.proofs.lemmas.Cmp.{nat_list_cmp_total}
 use Rattle.eds_bits.specs.Lists.{Has, HasOne}
+use Rattle.eds_base.specs.declared.spans.Span.{Span}
+use Rattle.eds_types.specs.declared.sets.PathSet.{PathSet}
+use Rattle.eds_types.specs.Reading.{starts_above}
 use Rattle.eds_types.specs.Rows.{Table}
 use Rattle.eds_types.specs.Rules.{AreDistinct}
 use Rattle.eds_types.proofs.AllOf.{All-weaker, All-both, All-front, All-back, one_of}
 use Rattle.eds_overlap.specs.declared.common.Common.{Common}
-use Rattle.eds_overlap.specs.Common.{paths_of, texts_of, IsOn, is_on, put_in_order}
-use Rattle.eds_overlap.specs.Pairs.{Steps, same_path}
+use Rattle.eds_overlap.specs.Common.{AreGathered, paths_of, texts_of, IsOn, is_on, put_found, put_in_order, with_path}
+use Rattle.eds_overlap.specs.Pairs.{Steps, same_path, set_on}
 use Rattle.eds_overlap.specs.PathTexts.{path_text, count_up_to, IsUpTo, AreInOrder}
+use Rattle.eds_overlap.specs.ByPaths.{put_on}
 use Rattle.eds_overlap.proofs.Solutions.{same_is, same_not}
 
 -- ---- the order of texts
@@ -28,6 +32,22 @@ up_to_not x y h = go (slice_cmp nat_cmp x y) refl h
     go Less e h = absurd cc
     go Equal e h = absurd cc
     go Greater e h = ap is_le (nat_list_cmp_total.antisymm y x ∙ ap ordering_reverse e)
+
+up_to_of : (x y : List ℕ) → is_gt (slice_cmp nat_cmp x y) ≡ false → is_le (slice_cmp nat_cmp x y) ≡ true
+up_to_of x y h = go (slice_cmp nat_cmp x y) h
+  where
+    go : (o : Ordering) → is_gt o ≡ false → is_le o ≡ true
+    go Less h = refl
+    go Equal h = refl
+    go Greater h = absurd cc
+
+not_up_to : (x y : List ℕ) → is_gt (slice_cmp nat_cmp x y) ≡ true → is_le (slice_cmp nat_cmp x y) ≡ false
+not_up_to x y h = go (slice_cmp nat_cmp x y) h
+  where
+    go : (o : Ordering) → is_gt o ≡ true → is_le o ≡ false
+    go Less h = absurd cc
+    go Equal h = absurd cc
+    go Greater h = refl
 
 up_to_trans : (x y z : List ℕ) → IsUpTo x y → IsUpTo y z → IsUpTo x z
 up_to_trans x y z h k = go (slice_cmp nat_cmp x y) refl h
@@ -74,13 +94,45 @@ map_insert f (y ∷ xs) (suc i) x = ap (λ r. f y ∷ r) (map_insert f xs i x)
 
 -- ---- in order
 
-order_insert : (texts : List (List ℕ)) (text : List ℕ) → AreInOrder texts → AreInOrder (insert texts (count_up_to texts text) text)
+pub order_insert : (texts : List (List ℕ)) (text : List ℕ) → AreInOrder texts → AreInOrder (insert texts (count_up_to texts text) text)
 order_insert [] text h = (tt, tt)
 order_insert (x ∷ texts) text h = go (is_le (slice_cmp nat_cmp x text)) refl (order_insert texts text h.1)
   where
     go : (b : Bool) → is_le (slice_cmp nat_cmp x text) ≡ b → AreInOrder (insert texts (count_up_to texts text) text) → AreInOrder (insert (x ∷ texts) (cond b (suc (count_up_to texts text)) 0) text)
     go true e ih = (All-insert (IsUpTo x) texts (count_up_to texts text) text h.0 e, ih)
     go false e ih = let first = up_to_not x text e in ((first, All-weaker (IsUpTo x) (IsUpTo text) (λ y k. up_to_trans text x y first k) texts h.0), h)
+
+-- a text's place, between two bounds
+pub below_place : (texts : List (List ℕ)) (text x : List ℕ) (m : ℕ) → AreInOrder texts → m < length texts → x ≡ get_or texts m x → is_gt (slice_cmp nat_cmp x text) ≡ false → m < count_up_to texts text
+below_place [] text x m o l e h = absurd (omega arith)
+below_place (y ∷ texts) text x zero o l e h = rw (up_to_of y text (subst (λ z. is_gt (slice_cmp nat_cmp z text) ≡ false) e h)) (omega arith)
+below_place (y ∷ texts) text x (suc m) o l e h =
+    let less : m < length texts = omega arith in
+    let upper : IsUpTo y x = subst (IsUpTo y) (sym e) (all_at texts m x o.0 less) in
+    let more = below_place texts text x m o.1 less e h in
+    rw (up_to_trans y x text upper (up_to_of x text h)) (omega arith)
+  where
+    all_at : (texts : List (List ℕ)) (m : ℕ) (d : List ℕ) → AllByRecursion (IsUpTo y) texts → m < length texts → IsUpTo y (get_or texts m d)
+    all_at [] m d a l = absurd (omega arith)
+    all_at (z ∷ texts) zero d a l = a.0
+    all_at (z ∷ texts) (suc m) d a l = all_at texts m d a.1 (omega arith)
+
+pub above_place : (texts : List (List ℕ)) (text x : List ℕ) (m : ℕ) → m < length texts → x ≡ get_or texts m x → is_gt (slice_cmp nat_cmp x text) ≡ true → count_up_to texts text ≤ m
+above_place [] text x m l e h = absurd (omega arith)
+above_place (y ∷ texts) text x zero l e h = rw (not_up_to y text (subst (λ z. is_gt (slice_cmp nat_cmp z text) ≡ true) e h)) (omega arith)
+above_place (y ∷ texts) text x (suc m) l e h = go (is_le (slice_cmp nat_cmp y text)) (above_place texts text x m (omega arith) e h)
+  where
+    go : (b : Bool) → count_up_to texts text ≤ m → cond b (suc (count_up_to texts text)) 0 ≤ suc m
+    go true k = omega arith
+    go false k = omega arith
+
+pub place_within : (texts : List (List ℕ)) (text : List ℕ) → count_up_to texts text ≤ length texts
+place_within [] text = omega arith
+place_within (y ∷ texts) text = go (is_le (slice_cmp nat_cmp y text)) (place_within texts text)
+  where
+    go : (b : Bool) → count_up_to texts text ≤ length texts → cond b (suc (count_up_to texts text)) 0 ≤ length (y ∷ texts)
+    go true k = omega arith
+    go false k = omega arith
 
 -- ---- paths
 
@@ -188,3 +240,69 @@ pub texts_insert : (t : Table) (texts : List (List ℕ)) (common : List Common) 
     → new ≡ insert texts i text → more ≡ insert common i c → new ≡ texts_of t more
 texts_insert t texts common i text c new more are is e f =
     e ∙ ap (λ xs. insert xs i text) are ∙ ap (insert (texts_of t common) i) is ∙ sym (map_insert (λ (y : Common). path_text t y.path) common i c) ∙ ap (texts_of t) (sym f)
+
+-- ---- the paths that were seen
+
+-- on which paths a set is, once one is put
+set_put : (sets : List PathSet) (s : PathSet) (path : Steps) → is_some (set_on (put_on sets s) path) ≡ same_path s.path path || is_some (set_on sets path)
+set_put [] s path = go (same_path s.path path)
+  where
+    go : (b : Bool) → is_some (cond b (Some s.set) None) ≡ b || false
+    go true = refl
+    go false = refl
+set_put (x ∷ sets) s path = go (same_path s.path x.path) refl (set_put sets s path)
+  where
+    last : (a : Bool) (o : Option (List Span)) → is_some (cond a (Some s.set) o) ≡ a || is_some (cond a (Some x.set) o)
+    last true o = refl
+    last false o = refl
+
+    first : (a b : Bool) (o p : Option (List Span)) → is_some p ≡ b || is_some o → is_some (cond a (Some x.set) p) ≡ b || is_some (cond a (Some x.set) o)
+    first true true o p h = refl
+    first true false o p h = refl
+    first false b o p h = h
+
+    go : (b : Bool) → same_path s.path x.path ≡ b → is_some (set_on (put_on sets s) path) ≡ same_path s.path path || is_some (set_on sets path)
+        → is_some (set_on (cond b (s ∷ sets) (x ∷ put_on sets s)) path) ≡ same_path s.path path || is_some (cond (same_path x.path path) (Some x.set) (set_on sets path))
+    go true e ih = last (same_path s.path path) (set_on sets path) ∙ ap (λ p. same_path s.path path || is_some (cond (same_path p path) (Some x.set) (set_on sets path))) (same_is s.path x.path e)
+    go false e ih = first (same_path x.path path) (same_path s.path path) (set_on sets path) (set_on (put_on sets s) path) ih
+
+on_insert : (common : List Common) (i : ℕ) (c : Common) (path : Steps) → is_on (insert common i c) path ≡ same_path c.path path || is_on common path
+on_insert common zero c path = go (same_path c.path path)
+  where
+    go : (b : Bool) → cond b true (is_on common path) ≡ b || is_on common path
+    go true = refl
+    go false = refl
+on_insert [] (suc i) c path = go (same_path c.path path)
+  where
+    go : (b : Bool) → cond b true false ≡ b || false
+    go true = refl
+    go false = refl
+on_insert (y ∷ common) (suc i) c path = go (same_path y.path path) (same_path c.path path) (is_on (insert common i c) path) (is_on common path) (on_insert common i c path)
+  where
+    go : (a b new old : Bool) → new ≡ b || old → cond a true new ≡ b || cond a true old
+    go true true new old h = refl
+    go true false new old h = refl
+    go false b new old h = h
+
+pub none_gathered : (t : Table) (seen : List PathSet) (names : List (List ℕ)) (common : List Common) → seen ≡ [] → names ≡ [] → common ≡ [] → AreGathered t seen names common
+none_gathered t seen names common a b c = subst (λ s. AreGathered t s names common) (sym a) (subst (λ n. AreGathered t [] n common) (sym b) (subst (AreGathered t [] []) (sym c) (record { texts = refl; in_order = tt; seen_on = λ path. refl })))
+
+pub more_gathered : (t : Table) (seen more_seen : List PathSet) (names more_names : List (List ℕ)) (common more : List Common) (i : ℕ) (text : List ℕ) (c : Common) (s : PathSet) → AreGathered t seen names common
+    → text ≡ path_text t c.path → i ≡ count_up_to names text → more_names ≡ insert names i text → more ≡ insert common i c → more_seen ≡ put_on seen s → s.path ≡ c.path → AreGathered t more_seen more_names more
+more_gathered t seen more_seen names more_names common more i text c s are is at e f g p = record {
+  texts = texts_insert t names common i text c more_names more are.texts is e f;
+  in_order = subst AreInOrder (ap (λ k. insert names k text) (sym at) ∙ sym e) (order_insert names text are.in_order);
+  seen_on = λ path. ap (λ l. is_some (set_on l path)) g ∙ set_put seen s path ∙ ap (λ b. same_path s.path path || b) (are.seen_on path) ∙ ap (λ q. same_path q path || is_on common path) p ∙ sym (on_insert common i c path) ∙ ap (λ l. is_on l path) (sym f);
+}
+
+-- ---- one path
+
+module _ (t : Table) (x : ℕ) (least : Steps → Option ℤ) (common : List Common) (path : Steps) where
+  pub with_below : starts_above t x path ≡ false → common ≡ with_path t x least common path
+  with_below st = rw st refl
+
+  pub with_seen : starts_above t x path ≡ true → is_on common path ≡ true → common ≡ with_path t x least common path
+  with_seen st on = rw (st, on) refl
+
+  pub with_least : (o : Option ℤ) (new : List Common) → starts_above t x path ≡ true → is_on common path ≡ false → o ≡ least path → new ≡ put_found t common path o → new ≡ with_path t x least common path
+  with_least o new st on is e = rw (st, on) (e ∙ ap (put_found t common path) is)

@@ -23,6 +23,7 @@ pub mod FirstPairs
 pub mod UnderivedTables
 pub mod Parting
 pub mod Meeting
+pub mod MetSets
 pub mod UsedTypes
 pub mod Gathering
 pub mod CommonNumbers

@@ -1,5 +1,5 @@
 -- The least numbers that the entries of two containers that overlap can have in both.
-use Rattle.std.specs.Prelude.{◌≡◌, ℕ, ℤ, ◌≤ℤ◌, List, [], ◌∷◌, ◌++◌, map, filter, fold, insert, flat_map, Bool, false, not, if◌then◌else◌, true, Option, Some, None}
+use Rattle.std.specs.Prelude.{◌≡◌, ℕ, ℤ, ◌≤ℤ◌, List, [], ◌∷◌, ◌++◌, map, filter, fold, insert, flat_map, Bool, false, not, if◌then◌else◌, true, Option, Some, None, is_some}
 use Rattle.std.specs.List.{AllByRecursion}
 use Rattle.eds_base.specs.declared.spans.Span.{Span}
 use Rattle.eds_base.specs.Spans.{IsWithin}
@@ -127,3 +127,9 @@ with_path t x least common path = if starts_above t x path then (if is_on common
 -- the same with the paths of some constraints, one after another
 abbrev pub with_paths : Table → (x : ℕ) → (Steps → Option ℤ) → List Common → List Constraint → List Common
 with_paths t x least common some = fold (λ old (c : Constraint). with_path t x least old c.path) common some
+
+-- the texts are those of the paths that the numbers are on, in order, and just on these paths a set is seen
+pub record AreGathered (t : Table) (seen : List PathSet) (names : List (List ℕ)) (common : List Common) : Type 0 where
+  pub texts : names ≡ texts_of t common
+  pub in_order : AreInOrder names
+  pub seen_on : (path : Steps) → is_some (set_on seen path) ≡ is_on common path

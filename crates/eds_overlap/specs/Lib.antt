@@ -9,3 +9,4 @@ pub mod PathTexts
 pub mod Common
 pub mod Index
 pub mod Notes
+pub mod ByPaths

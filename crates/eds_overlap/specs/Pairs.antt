@@ -31,22 +31,13 @@ pub record AreSets (t : Table) (cs : List Constraint) (sets : List PathSet) : Ty
   pub all : (path : Steps) → IsConstrained cs path → HasOne (λ s. s.path ≡ path) sets
   pub once : AreDistinct (map (λ (s : PathSet). s.path) sets)
 
--- the numbers that lie in the second set are those of the first that the constraints on the path admit
-pub record IsMet (path : Steps) (cs : List Constraint) (old new : List Span) : Type 0 where
-  pub from_old : (n : ℤ) → IsWithin new n → IsWithin old n
-  pub admitted : (n : ℤ) → IsWithin new n → AllByRecursion (λ c. c.path ≡ path → IsWithin c.set n) cs
-  pub all : (n : ℤ) → IsWithin old n → AllByRecursion (λ c. c.path ≡ path → IsWithin c.set n) cs → IsWithin new n
-
 -- the constraints of some types, one after the other
 abbrev pub constraints_among : Table → List TypeId → List Constraint
 constraints_among t ids = flat_map (λ (id : TypeId). constraints_of t id.0) ids
 
--- sets that were solved are kept, and those of some constraints' paths are added
-pub record AreAdded (t : Table) (cs some : List Constraint) (old new : List PathSet) : Type 0 where
-  pub each : AllByRecursion (IsSolved t cs) old → AllByRecursion (IsSolved t cs) new
-  pub kept : (path : Steps) → HasOne (λ s. s.path ≡ path) old → HasOne (λ s. s.path ≡ path) new
-  pub added : AllByRecursion (λ c. HasOne (λ s. s.path ≡ c.path) new) some
-  pub once : AreDistinct (map (λ (s : PathSet). s.path) old) → AreDistinct (map (λ (s : PathSet). s.path) new)
+-- sets that some constraints left become those that more leave, whichever the first ones were
+abbrev pub AreMore : Table → List Constraint → List PathSet → List PathSet → Type 0
+AreMore t more old new = (done : List Constraint) → AreSets t done old → AreSets t (done ++ more) new
 
 -- the domain of an integer type or sub-range, where the path leads to one
 abbrev pub int_domain_by : Table → Option ℕ → Option (List Span)
@@ -81,6 +72,12 @@ Named used u = Has used (id_of u)
 abbrev pub IsWithinOn : Option (List Span) → ℤ → Type 0
 IsWithinOn None n = Unit {0}
 IsWithinOn (Some set) n = IsWithin set n
+
+-- a set has just those numbers of its own that the set before it has too, where there was one
+pub record IsMetOn (old : Option (List Span)) (own new : List Span) : Type 0 where
+  pub of_own : (n : ℤ) → IsWithin new n → IsWithin own n
+  pub of_old : (n : ℤ) → IsWithin new n → IsWithinOn old n
+  pub all : (n : ℤ) → IsWithin own n → IsWithinOn old n → IsWithin new n
 
 -- the set has a number that the set on its path among others has too, where its path starts above a choice at x
 abbrev pub Agrees : Table → ℕ → List PathSet → PathSet → Type 0

@@ -1,16 +1,16 @@
 //! The numbers that the entries of two containers can have in both.
 
-ghost use Rattle.std.specs.Prelude.{◌≡◌, ◌≤◌, IfOk, OnOk, length};
+ghost use Rattle.std.specs.Prelude.{◌≡◌, ◌≤◌, Some, IfOk, OnOk, length};
 ghost use Rattle.eds_types.specs.Fields.{constraints_along};
-ghost use Rattle.eds_overlap.specs.Common.{common_of, is_on as is_among, least_of_both, texts_of, with_path, with_paths};
+ghost use Rattle.eds_overlap.specs.Common.{AreGathered, common_of, least_of_both, put_found, with_path, with_paths};
 ghost use Rattle.eds_overlap.specs.Pairs.{AreSets, constraints_among};
-ghost use Rattle.eds_overlap.specs.PathTexts.{count_up_to};
+ghost use Rattle.eds_overlap.specs.PathTexts.{AreInOrder, count_up_to};
 
 use crate::find::{Pair, starts_in};
-use crate::paths::{find_set, is_same};
+use crate::path_sets::{OnPath, PathSets};
 use crate::sets::copied_path;
 use crate::texts::path_text;
-use eds_base::{Items, Memory, Text, TypeId};
+use eds_base::{Items, Memory, Spans, Text, TypeId};
 use eds_types::{Constraint, EntryPath, PathSet, TypeTable};
 use std::alloc::Global;
 
@@ -21,11 +21,12 @@ pub struct Common {
     pub number: i128,
 }
 
-// Numbers in the order of their paths' texts, and these texts.
+// Numbers in the order of their paths' texts, these texts, and the paths, which are found by hash.
 #[derive(Drop)]
 struct Gathered {
     texts: Vec<Text>,
     common: Vec<Common>,
+    seen: PathSets,
 }
 
 /// The least common number of each path that starts above the choice at which two containers part and that a constraint of
@@ -34,8 +35,8 @@ pub(crate) fn common_numbers(
     alloc: Global,
     table: &TypeTable,
     pair: Pair,
-    ours: &[PathSet],
-    theirs: &[PathSet],
+    ours: &PathSets,
+    theirs: &PathSets,
 ) -> Result<Items<Common>, Memory>
     requires ours { AreSets table.now (constraints_along table.now pair.first.0) ours.now }
     requires theirs { AreSets table.now (constraints_along table.now pair.second.0) theirs.now }
@@ -45,6 +46,7 @@ pub(crate) fn common_numbers(
     let mut gathered = Gathered {
         texts: Vec::new(alloc),
         common: Vec::new(alloc),
+        seen: PathSets::new(alloc),
     };
     let first = table.chain_of(pair.first);
     let first = first.as_slice();
@@ -61,12 +63,12 @@ fn add_among(
     table: &TypeTable,
     ancestor: TypeId,
     ids: &[TypeId],
-    ours: &[PathSet],
-    theirs: &[PathSet],
+    ours: &PathSets,
+    theirs: &PathSets,
     gathered: &mut Gathered,
 ) -> Result<(), Memory>
-    requires { gathered.old.texts.items ≡ texts_of table.now gathered.old.common.items }
-    ensures texts { OnOk result (gathered.new.texts.items ≡ texts_of table.now gathered.new.common.items) }
+    requires { AreGathered table.now gathered.old.seen gathered.old.texts.items gathered.old.common.items }
+    ensures gathered { OnOk result (AreGathered table.now gathered.new.seen gathered.new.texts.items gathered.new.common.items) }
     ensures added { OnOk result (gathered.new.common.items ≡ with_paths table.now ancestor.0 (least_of_both ours.now theirs.now) gathered.old.common.items (constraints_among table.now ids.now)) }
 {
     let mut rest = ids;
@@ -84,12 +86,12 @@ fn add_paths(
     table: &TypeTable,
     ancestor: TypeId,
     constraints: &[Constraint],
-    ours: &[PathSet],
-    theirs: &[PathSet],
+    ours: &PathSets,
+    theirs: &PathSets,
     gathered: &mut Gathered,
 ) -> Result<(), Memory>
-    requires { gathered.old.texts.items ≡ texts_of table.now gathered.old.common.items }
-    ensures texts { OnOk result (gathered.new.texts.items ≡ texts_of table.now gathered.new.common.items) }
+    requires { AreGathered table.now gathered.old.seen gathered.old.texts.items gathered.old.common.items }
+    ensures gathered { OnOk result (AreGathered table.now gathered.new.seen gathered.new.texts.items gathered.new.common.items) }
     ensures added { OnOk result (gathered.new.common.items ≡ with_paths table.now ancestor.0 (least_of_both ours.now theirs.now) gathered.old.common.items constraints.now) }
 {
     let mut rest = constraints;
@@ -107,64 +109,74 @@ fn add_path(
     table: &TypeTable,
     ancestor: TypeId,
     path: &[(TypeId, u16)],
-    ours: &[PathSet],
-    theirs: &[PathSet],
+    ours: &PathSets,
+    theirs: &PathSets,
     gathered: &mut Gathered,
 ) -> Result<(), Memory>
-    requires { gathered.old.texts.items ≡ texts_of table.now gathered.old.common.items }
-    ensures texts { OnOk result (gathered.new.texts.items ≡ texts_of table.now gathered.new.common.items) }
+    requires { AreGathered table.now gathered.old.seen gathered.old.texts.items gathered.old.common.items }
+    ensures gathered { OnOk result (AreGathered table.now gathered.new.seen gathered.new.texts.items gathered.new.common.items) }
     ensures added { OnOk result (gathered.new.common.items ≡ with_path table.now ancestor.0 (least_of_both ours.now theirs.now) gathered.old.common.items path.now) }
 {
-    if !starts_in(table, ancestor, path) || is_on(gathered.common.as_slice(), path) {
+    if !starts_in(table, ancestor, path) {
         return Ok(());
     }
-    let Some(number) = least_in_both(ours, theirs, path) else {
-        return Ok(());
-    };
-    let text = path_text(alloc, table, path)?;
+    let set = Spans::new(alloc);
     let path = copied_path(alloc, path)?;
+    let one = OnPath::of(PathSet { path, set });
+    if gathered.seen.has(&one) {
+        return Ok(());
+    }
+    match least_in_both(ours, theirs, &one) {
+        None => Ok(()),
+        Some(number) => add_number(alloc, table, one, number, gathered),
+    }
+}
+
+// Adds a number on the path of a set, on which there is none, at its place in the order.
+fn add_number(
+    alloc: Global,
+    table: &TypeTable,
+    one: OnPath,
+    number: i128,
+    gathered: &mut Gathered,
+) -> Result<(), Memory>
+    requires { AreGathered table.now gathered.old.seen gathered.old.texts.items gathered.old.common.items }
+    ensures gathered { OnOk result (AreGathered table.now gathered.new.seen gathered.new.texts.items gathered.new.common.items) }
+    ensures added { OnOk result (gathered.new.common.items ≡ put_found table.now gathered.old.common.items one.path (Some number)) }
+{
+    let text = path_text(alloc, table, one.path())?;
+    let path = copied_path(alloc, one.path())?;
     let place = place_of(gathered.texts.as_slice(), text.as_str());
     gathered.texts.insert(place, text)?;
     gathered.common.insert(place, Common { path, number })?;
+    gathered.seen.put(one)?;
     Ok(())
 }
 
 // How many of the texts, from the first one on, come no later than another text.
 fn place_of(texts: &[Text], text: &str) -> usize
+    requires { AreInOrder texts.now }
     ensures value { result ≡ count_up_to texts.now text.now }
     ensures within { result ≤ length texts.now }
 {
-    let mut count = 0;
-    let mut rest = texts;
-    while let [one, after @ ..] = rest {
-        if one.as_str().cmp(text).is_gt() {
-            return count;
+    let mut low = 0;
+    let mut high = texts.len();
+    while low < high {
+        let middle = low + (high - low) / 2;
+        if texts[middle].as_str().cmp(text).is_gt() {
+            high = middle;
+        } else {
+            low = middle + 1;
         }
-        count += 1;
-        rest = after;
     }
-    count
+    low
 }
 
-// Whether one of the numbers is on a path.
-fn is_on(common: &[Common], path: &[(TypeId, u16)]) -> bool
-    ensures { result ≡ is_among common.now path.now }
+// The least number on another set's path that the sets of both lists have, or that of the one that has a set there.
+fn least_in_both(ours: &PathSets, theirs: &PathSets, one: &OnPath) -> Option<i128>
+    ensures { result ≡ least_of_both ours.now theirs.now one.now.path }
 {
-    let mut rest = common;
-    while let [one, after @ ..] = rest {
-        if is_same(one.path.as_slice(), path) {
-            return true;
-        }
-        rest = after;
-    }
-    false
-}
-
-// The least number on a path that the sets of both lists have, or that of the one that has a set there.
-fn least_in_both(ours: &[PathSet], theirs: &[PathSet], path: &[(TypeId, u16)]) -> Option<i128>
-    ensures { result ≡ least_of_both ours.now theirs.now path.now }
-{
-    match (find_set(ours, path), find_set(theirs, path)) {
+    match (ours.find(one), theirs.find(one)) {
         (Some(set), Some(other)) => set.first_common(other),
         (Some(set), None) => set.first_common(set),
         (None, Some(set)) => set.first_common(set),

@@ -14,10 +14,10 @@ use crate::common::{Common, common_numbers};
 use crate::index::{
     Places, all_key, family_of, free_key, held_key, listed, mark_of, models_of, place_all,
 };
-use crate::paths::find_set;
-use crate::sets::solution_sets;
+use crate::path_sets::{OnPath, PathSets};
+use crate::sets::sets_by_path;
 use eds_base::{Items, Memory, TypeId};
-use eds_types::{PathSet, Sets, TypeTable, Used};
+use eds_types::{TypeTable, Used};
 use std::alloc::Global;
 
 /// Two concrete containers that overlap, the nearest base that both have, and for each path that is judged the least number
@@ -54,8 +54,8 @@ pub fn find_overlap(
     match found {
         None => Ok(None),
         Some(pair) => {
-            let ours = sets[pair.first.0 as usize].as_slice();
-            let theirs = sets[pair.second.0 as usize].as_slice();
+            let ours = &sets[pair.first.0 as usize];
+            let theirs = &sets[pair.second.0 as usize];
             let common = common_numbers(alloc, table, pair, ours, theirs)?;
             Ok(Some(Overlap {
                 first: pair.first,
@@ -154,22 +154,23 @@ pub(crate) fn starts_in(table: &TypeTable, id: TypeId, path: &[(TypeId, u16)]) -
 }
 
 // The least number of a path's set that the set on that path among others has too, if there is one.
-fn least_common(ours: &PathSet, theirs: &[PathSet]) -> Option<i128>
+fn least_common(ours: &OnPath, theirs: &PathSets) -> Option<i128>
     ensures some { IfSome result (λ n. IsWithin ours.now.set n × IsWithinOn (set_on theirs.now ours.now.path) n) }
     ensures least { IfSome result (λ n. (m : ℤ) → IsWithin ours.now.set m → IsWithinOn (set_on theirs.now ours.now.path) m → n ≤ℤ m) }
     ensures none { IfNone result ((m : ℤ) → IsWithin ours.now.set m → IsWithinOn (set_on theirs.now ours.now.path) m → ⊥) }
 {
-    match find_set(theirs, ours.path.as_slice()) {
-        Some(set) => ours.set.first_common(set),
-        None => ours.set.first_common(&ours.set),
+    let own = ours.set();
+    match theirs.find(ours) {
+        Some(set) => own.first_common(set),
+        None => own.first_common(own),
     }
 }
 
 // Whether a path starts below a choice, or its set has a number that the set on that path among others has too.
-fn agrees(table: &TypeTable, id: TypeId, one: &PathSet, theirs: &[PathSet]) -> bool
+fn agrees(table: &TypeTable, id: TypeId, one: &OnPath, theirs: &PathSets) -> bool
     ensures { IsTrue result ↔ Agrees table.now id.0 theirs.now one.now }
 {
-    if !starts_in(table, id, one.path.as_slice()) {
+    if !starts_in(table, id, one.path()) {
         return true;
     }
     match least_common(one, theirs) {
@@ -179,7 +180,7 @@ fn agrees(table: &TypeTable, id: TypeId, one: &PathSet, theirs: &[PathSet]) -> b
 }
 
 // Whether on each path that starts above a choice the sets have a common number.
-fn agree(table: &TypeTable, id: TypeId, ours: &[PathSet], theirs: &[PathSet]) -> bool
+fn agree(table: &TypeTable, id: TypeId, ours: &[OnPath], theirs: &PathSets) -> bool
     ensures { IsTrue result ↔ AllByRecursion (Agrees table.now id.0 theirs.now) ours.now }
 {
     let mut rest = ours;
@@ -196,7 +197,7 @@ fn agree(table: &TypeTable, id: TypeId, ours: &[PathSet], theirs: &[PathSet]) ->
 fn overlap_of(
     table: &TypeTable,
     used: &[TypeId],
-    sets: &[Sets],
+    sets: &[PathSets],
     first: TypeId,
     second: TypeId,
 ) -> Option<TypeId>
@@ -210,8 +211,8 @@ fn overlap_of(
     if !table.is_concrete(first) || !table.is_concrete(second) {
         return None;
     }
-    let ours = sets[first.0 as usize].as_slice();
-    let theirs = sets[second.0 as usize].as_slice();
+    let ours = &sets[first.0 as usize];
+    let theirs = &sets[second.0 as usize];
     match parting(table, first, second) {
         Some(id) => met_at(table, used, id, ours, theirs),
         None => None,
@@ -223,14 +224,14 @@ fn met_at(
     table: &TypeTable,
     used: &[TypeId],
     id: TypeId,
-    ours: &[PathSet],
-    theirs: &[PathSet],
+    ours: &PathSets,
+    theirs: &PathSets,
 ) -> Option<TypeId>
     ensures some { IfSome result (λ x. (x ≡ id) × Meets table.now (Named used.now) id.0 ours.now theirs.now) }
     ensures none { IfNone result (Meets table.now (Named used.now) id.0 ours.now theirs.now → ⊥) }
 {
-    if agree(table, id, ours, theirs)
-        && agree(table, id, theirs, ours)
+    if agree(table, id, ours.as_slice(), theirs)
+        && agree(table, id, theirs.as_slice(), ours)
         && is_read_through(table, used, id)
     {
         Some(id)
@@ -254,7 +255,7 @@ fn is_reached(best: Option<Pair>, first: TypeId) -> bool
 fn better(
     table: &TypeTable,
     used: &[TypeId],
-    sets: &[Sets],
+    sets: &[PathSets],
     first: TypeId,
     second: TypeId,
     best: Option<Pair>,
@@ -280,7 +281,7 @@ fn better(
 fn first_among(
     table: &TypeTable,
     used: &[TypeId],
-    sets: &[Sets],
+    sets: &[PathSets],
     ids: &[TypeId],
     second: TypeId,
     best: Option<Pair>,
@@ -303,7 +304,7 @@ fn first_among(
 fn may_meet<'a>(
     alloc: Global,
     table: &TypeTable,
-    sets: &[Sets],
+    sets: &[PathSets],
     models: &[TypeId],
     places: &'a Places,
     id: TypeId,
@@ -329,7 +330,7 @@ fn first_with(
     alloc: Global,
     table: &TypeTable,
     used: &[TypeId],
-    sets: &[Sets],
+    sets: &[PathSets],
     models: &[TypeId],
     places: &Places,
     second: TypeId,
@@ -354,7 +355,7 @@ fn first_pair(
     alloc: Global,
     table: &TypeTable,
     used: &[TypeId],
-    sets: &[Sets],
+    sets: &[PathSets],
 ) -> Result<Option<Pair>, Memory>
     requires { AllSets table.now sets.now }
     ensures some { IfOk result (λ r. IfSome r (λ p. IsFirstPair table.now (Named used.now) p.ancestor.0 p.first.0 p.second.0)) }
@@ -374,12 +375,12 @@ fn first_pair(
 }
 
 // The solution sets of all types.
-fn all_sets(alloc: Global, table: &TypeTable) -> Result<Items<Sets>, Memory>
+fn all_sets(alloc: Global, table: &TypeTable) -> Result<Items<PathSets>, Memory>
     ensures { IfOk result (λ sets. AllSets table.now sets) }
 {
     let mut all = Items::new(alloc);
     for id in 0..table.len() {
-        all.push(solution_sets(alloc, table, TypeId(id))?)?;
+        all.push(sets_by_path(alloc, table, TypeId(id))?)?;
     }
     Ok(all)
 }

@@ -3,9 +3,9 @@
 ghost use Rattle.std.specs.Prelude.{◌≡◌, ◌++◌, ◌∷◌, ◌+◌, [], ℕ, List, length, option_map, string_bytes, bytes_eq, if◌then◌else◌, IfOk, OnOk};
 ghost use Rattle.eds_overlap.specs.Index.{AreListed, all_key as text_of_all, family as last_base, free_key as text_of_free, held_key as text_of_held, listed as listed_under, lone as lone_of, lone_in as lone_in_span, lone_on as lone_on_path, mark as mark_that_is, marks_on, model_of as model_that_is, numbers_text as text_of_numbers, own_key as text_of_own, sets_of as sets_that_are};
 
-use crate::paths::find_set;
+use crate::path_sets::{OnPath, PathSets};
 use eds_base::{Items, Memory, Span, Spans, TypeId};
-use eds_types::{PathSet, Sets, TypeTable};
+use eds_types::TypeTable;
 use std::alloc::Global;
 use std::collections::BTreeMap;
 
@@ -36,11 +36,11 @@ fn lone(set: &Spans) -> Option<i128>
     }
 }
 
-// The number to which sets hold a path.
-fn lone_on(sets: &[PathSet], path: &[(TypeId, u16)]) -> Option<i128>
-    ensures { result ≡ lone_on_path sets.now path.now }
+// The number to which sets hold the path of another one.
+fn lone_on(sets: &PathSets, one: &OnPath) -> Option<i128>
+    ensures { result ≡ lone_on_path sets.now one.now.path }
 {
-    match find_set(sets, path) {
+    match sets.find(one) {
         Some(set) => lone(set),
         None => None,
     }
@@ -49,16 +49,16 @@ fn lone_on(sets: &[PathSet], path: &[(TypeId, u16)]) -> Option<i128>
 // The numbers to which sets hold those paths that a model's sets hold to one number. None where they leave one free.
 fn numbers_on(
     alloc: Global,
-    model: &[PathSet],
-    sets: &[PathSet],
+    model: &[OnPath],
+    sets: &PathSets,
 ) -> Result<Option<Items<i128>>, Memory>
     ensures { IfOk result (λ numbers. numbers ≡ marks_on model.now sets.now) }
 {
     let mut numbers = Items::new(alloc);
     let mut rest = model;
     while let [one, after @ ..] = rest {
-        if lone(&one.set).is_some() {
-            match lone_on(sets, one.path.as_slice()) {
+        if lone(one.set()).is_some() {
+            match lone_on(sets, one) {
                 Some(number) => numbers.push(number)?,
                 None => return Ok(None),
             }
@@ -81,8 +81,8 @@ pub(crate) fn family_of(table: &TypeTable, id: TypeId) -> TypeId
     }
 }
 
-/// The sets of a type.
-pub(crate) fn sets_of(sets: &[Sets], id: TypeId) -> &[PathSet]
+// The sets of a type.
+fn sets_of(sets: &[PathSets], id: TypeId) -> &[OnPath]
     ensures { result.now ≡ sets_that_are sets.now id.0 }
 {
     match sets.get(id.0 as usize) {
@@ -92,10 +92,10 @@ pub(crate) fn sets_of(sets: &[Sets], id: TypeId) -> &[PathSet]
 }
 
 // How many paths the sets of a type hold to one number.
-fn count_held(sets: &[PathSet]) -> usize {
+fn count_held(sets: &[OnPath]) -> usize {
     let mut count = 0usize;
     for one in sets {
-        if count < usize::MAX && lone(&one.set).is_some() {
+        if count < usize::MAX && lone(one.set()).is_some() {
             count += 1;
         }
     }
@@ -116,7 +116,7 @@ fn all_types(alloc: Global, table: &TypeTable) -> Result<Vec<TypeId>, Memory> {
 pub(crate) fn models_of(
     alloc: Global,
     table: &TypeTable,
-    sets: &[Sets],
+    sets: &[PathSets],
 ) -> Result<Vec<TypeId>, Memory> {
     let mut models = all_types(alloc, table)?;
     for id in 0..table.len() {
@@ -146,14 +146,17 @@ fn model_of(models: &[TypeId], family: TypeId) -> TypeId
 pub(crate) fn mark_of(
     alloc: Global,
     table: &TypeTable,
-    sets: &[Sets],
+    sets: &[PathSets],
     models: &[TypeId],
     id: TypeId,
 ) -> Result<Option<Items<i128>>, Memory>
     ensures { IfOk result (λ numbers. numbers ≡ mark_that_is table.now sets.now models.now id.0) }
 {
-    let model = model_of(models, family_of(table, id));
-    numbers_on(alloc, sets_of(sets, model), sets_of(sets, id))
+    let model = sets_of(sets, model_of(models, family_of(table, id)));
+    match sets.get(id.0 as usize) {
+        Some(own) => numbers_on(alloc, model, own),
+        None => numbers_on(alloc, model, &PathSets::new(alloc)),
+    }
 }
 
 // ---- texts
@@ -237,7 +240,7 @@ fn note(alloc: Global, places: &mut Places, key: String, id: TypeId) -> Result<(
 fn place(
     alloc: Global,
     table: &TypeTable,
-    sets: &[Sets],
+    sets: &[PathSets],
     models: &[TypeId],
     id: TypeId,
     places: &mut Places,
@@ -259,7 +262,7 @@ fn place(
 pub(crate) fn place_all(
     alloc: Global,
     table: &TypeTable,
-    sets: &[Sets],
+    sets: &[PathSets],
     models: &[TypeId],
 ) -> Result<Places, Memory>
     ensures { IfOk result (λ places. AreListed table.now sets.now models.now (length table.now) places) }

@@ -6,6 +6,7 @@ mod find;
 mod index;
 pub mod law;
 mod note;
+mod path_sets;
 mod paths;
 mod sets;
 mod texts;

@@ -1,11 +1,9 @@
 //! Paths of entries.
 
-ghost use Rattle.std.specs.Prelude.{◌≡◌, map};
-ghost use Rattle.std.specs.Option.{option_copied};
-ghost use Rattle.eds_overlap.specs.Pairs.{same_path, set_on};
+ghost use Rattle.std.specs.Prelude.{◌≡◌};
+ghost use Rattle.eds_overlap.specs.Pairs.{same_path};
 
-use eds_base::{Spans, TypeId};
-use eds_types::PathSet;
+use eds_base::TypeId;
 
 /// Whether two paths are one.
 pub(crate) fn is_same(one: &[(TypeId, u16)], other: &[(TypeId, u16)]) -> bool
@@ -24,18 +22,4 @@ pub(crate) fn is_same(one: &[(TypeId, u16)], other: &[(TypeId, u16)]) -> bool
         theirs = theirs_after;
     }
     theirs.is_empty()
-}
-
-/// The first set on a path.
-pub(crate) fn find_set<'a>(sets: &'a [PathSet], path: &[(TypeId, u16)]) -> Option<&'a Spans>
-    ensures { option_copied result ≡ set_on sets.now path.now }
-{
-    let mut rest = sets;
-    while let [one, after @ ..] = rest {
-        if is_same(one.path.as_slice(), path) {
-            return Some(&one.set);
-        }
-        rest = after;
-    }
-    None
 }

@@ -1,15 +1,14 @@
 //! The numbers that the constraints of a container leave on their paths.
 
-ghost use Rattle.std.specs.Prelude.{◌≡◌, ℤ, None, [], ◌∷◌, IfOk, OnOk, IfSome};
+ghost use Rattle.std.specs.Prelude.{◌≡◌, ℤ, [], ◌∷◌, IfOk, OnOk, IfSome};
 ghost use Rattle.std.specs.Option.{option_copied};
 ghost use Rattle.std.specs.List.{AllByRecursion};
 ghost use Rattle.eds_base.specs.Spans.{IsWithin};
 ghost use Rattle.eds_bits.specs.Lists.{Has};
 ghost use Rattle.eds_types.specs.Fields.{constraints_along};
-ghost use Rattle.eds_types.specs.Overlap.{IsSolution};
-ghost use Rattle.eds_overlap.specs.Pairs.{AreSets, AreAdded, IsMet, constraints_among, int_domain_on, set_on};
+ghost use Rattle.eds_overlap.specs.Pairs.{AreSets, AreMore, IsMetOn, constraints_among, int_domain_on, set_on};
 
-use crate::paths::{find_set, is_same};
+use crate::path_sets::{OnPath, PathSets};
 use eds_base::{Items, Memory, Spans, TypeId};
 use eds_types::{Constraint, EntryPath, PathSet, Sets, TypeTable};
 use std::alloc::Global;
@@ -19,91 +18,77 @@ use std::alloc::Global;
 pub fn solution_sets(alloc: Global, table: &TypeTable, id: TypeId) -> Result<Sets, Memory>
     ensures { IfOk result (λ sets. AreSets table.now (constraints_along table.now id.0) sets) }
 {
-    table.keeps_rules();
+    let sets = sets_by_path(alloc, table, id)?;
+    sets.into_sets(alloc)
+}
+
+/// The same, found by their paths.
+pub(crate) fn sets_by_path(alloc: Global, table: &TypeTable, id: TypeId) -> Result<PathSets, Memory>
+    ensures { IfOk result (λ sets. AreSets table.now (constraints_along table.now id.0) sets) }
+{
     let chain = table.chain_of(id);
     let ids = chain.as_slice();
-    let mut sets = Sets::new(alloc);
+    let mut sets = PathSets::new(alloc);
     let mut rest = ids;
     while let [above, after @ ..] = rest {
-        push_sets(alloc, table, ids, table.constraints_of(*above), &mut sets)?;
+        meet_all(alloc, table, ids, table.constraints_of(*above), &mut sets)?;
         rest = after;
     }
     Ok(sets)
 }
 
-// Adds the sets of the paths that some constraints of a chain are on.
-fn push_sets(
+// Meets the sets with some constraints of a chain, one after another.
+fn meet_all(
     alloc: Global,
     table: &TypeTable,
     chain: &[TypeId],
     constraints: &[Constraint],
-    sets: &mut Sets,
+    sets: &mut PathSets,
 ) -> Result<(), Memory>
     requires { AllByRecursion (Has (constraints_among table.now chain.now)) constraints.now }
-    ensures { OnOk result (AreAdded table.now (constraints_among table.now chain.now) constraints.now sets.old sets.new) }
+    ensures { OnOk result (AreMore table.now constraints.now sets.old sets.new) }
 {
     let mut rest = constraints;
     while let [constraint, after @ ..] = rest {
-        push_set(alloc, table, chain, constraint, sets)?;
+        meet_one(alloc, table, chain, constraint, sets)?;
         rest = after;
     }
     Ok(())
 }
 
-// Adds the set of the path that a constraint of a chain is on, if it isn't there.
-fn push_set(
+// Meets the set on the path of a constraint of a chain with the constraint; where there is none yet, the constraint's own is put.
+fn meet_one(
     alloc: Global,
     table: &TypeTable,
     chain: &[TypeId],
     constraint: &Constraint,
-    sets: &mut Sets,
+    sets: &mut PathSets,
 ) -> Result<(), Memory>
     requires { Has (constraints_among table.now chain.now) constraint.now }
-    ensures { OnOk result (AreAdded table.now (constraints_among table.now chain.now) (constraint.now ∷ []) sets.old sets.new) }
-{
-    match find_set(sets.as_slice(), constraint.path.as_slice()) {
-        Some(_) => Ok(()),
-        None => push_new(alloc, table, chain, constraint, sets),
-    }
-}
-
-fn push_new(
-    alloc: Global,
-    table: &TypeTable,
-    chain: &[TypeId],
-    constraint: &Constraint,
-    sets: &mut Sets,
-) -> Result<(), Memory>
-    requires among { Has (constraints_among table.now chain.now) constraint.now }
-    requires new { set_on sets.old constraint.now.path ≡ None }
-    ensures { OnOk result (AreAdded table.now (constraints_among table.now chain.now) (constraint.now ∷ []) sets.old sets.new) }
-{
-    let set = solved_set(alloc, table, chain, constraint)?;
-    let path = copied_path(alloc, constraint.path.as_slice())?;
-    sets.push(PathSet { path, set })?;
-    Ok(())
-}
-
-// The numbers of a constraint's path that all constraints of a chain admit.
-fn solved_set(
-    alloc: Global,
-    table: &TypeTable,
-    chain: &[TypeId],
-    constraint: &Constraint,
-) -> Result<Spans, Memory>
-    requires { Has (constraints_among table.now chain.now) constraint.now }
-    ensures solves { IfOk result (λ set. (n : ℤ) → IsWithin set n → IsSolution table.now (constraints_among table.now chain.now) constraint.now.path n) }
-    ensures all { IfOk result (λ set. (n : ℤ) → IsSolution table.now (constraints_among table.now chain.now) constraint.now.path n → IsWithin set n) }
+    ensures { OnOk result (AreMore table.now (constraint.now ∷ []) sets.old sets.new) }
 {
     table.keeps_rules();
-    let mut set = first_set(alloc, table, constraint)?;
-    let mut rest = chain;
-    while let [id, after @ ..] = rest {
-        let path = constraint.path.as_slice();
-        set = met_set(alloc, set, path, table.constraints_of(*id))?;
-        rest = after;
+    let set = first_set(alloc, table, constraint)?;
+    let path = copied_path(alloc, constraint.path.as_slice())?;
+    let own = OnPath::of(PathSet { path, set });
+    let met = met_on(alloc, sets, own)?;
+    sets.put(met)?;
+    Ok(())
+}
+
+// A set with what it has in common with the one on its path, where there is one.
+fn met_on(alloc: Global, sets: &PathSets, own: OnPath) -> Result<OnPath, Memory>
+    ensures path { IfOk result (λ met. met.path ≡ own.path) }
+    ensures set { IfOk result (λ met. IsMetOn (set_on sets.now own.path) own.set met.set) }
+{
+    match sets.find(&own) {
+        None => Ok(own),
+        Some(old) => {
+            let set = old.meet(alloc, own.set())?;
+            let PathSet { path, set: _ } = own.into_inner();
+            Ok(OnPath::of(PathSet { path, set }))
+        }
     }
-    Ok(set)
 }
 
 // The numbers of a constraint's set; of those of a path to an integer the ones of its domain.
@@ -132,26 +117,6 @@ fn domain_on<'a>(table: &'a TypeTable, path: &[(TypeId, u16)]) -> Option<&'a Spa
         },
         None => None,
     }
-}
-
-// The numbers of a set that the constraints on a path admit.
-fn met_set(
-    alloc: Global,
-    set: Spans,
-    path: &[(TypeId, u16)],
-    constraints: &[Constraint],
-) -> Result<Spans, Memory>
-    ensures { IfOk result (λ met. IsMet path.now constraints.now set met) }
-{
-    let mut met = set;
-    let mut rest = constraints;
-    while let [constraint, after @ ..] = rest {
-        if is_same(constraint.path.as_slice(), path) {
-            met = met.meet(alloc, &constraint.set)?;
-        }
-        rest = after;
-    }
-    Ok(met)
 }
 
 /// A copy of a path.
