@@ -1,3 +1,4 @@
 pub mod Keys
 pub mod Matches
 pub mod Called
+pub mod Alike
