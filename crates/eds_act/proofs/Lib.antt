@@ -16,3 +16,4 @@ pub mod Telling
 pub mod Parts
 pub mod Equal
 pub mod Leaving
+pub mod Alike

@@ -1,5 +1,7 @@
 -- Laws of activities.
 use Rattle.std.specs.Prelude.{◌≡◌, ◌≤◌, ◌↔◌, ℕ, true, ◌-◌, List, ◌++◌, Bool}
+use Rattle.eds_plan.specs.Alike.{IsAlike}
+use Rattle.eds_plan.specs.declared.activity.Action.{Action}
 use Rattle.eds_types.specs.Rows.{Table}
 use Rattle.eds_types.specs.Plain.{Plain}
 use Rattle.eds_plan.specs.declared.component.ComponentPlan.{ComponentPlan}
@@ -8,6 +10,7 @@ use Rattle.eds_plan.specs.Sends.{Sent}
 use Rattle.eds_plan.specs.Statements.{Stmt}
 use Rattle.eds_act.specs.declared.ending.ActEnd.{ActEnd}
 use Rattle.eds_act.specs.declared.ending.ActEnd.TheVariants.{Done, Halted}
+use Rattle.eds_act.specs.Acting.{acting}
 use Rattle.eds_act.specs.Does.{Does, budget, Ended, Item, World, exec, items_of, same_value}
 
 -- a body does one thing
@@ -39,3 +42,18 @@ SendsAreKept = (packs : ℕ → Plain → Bool) (t : Table) (c : ComponentPlan) 
 -- two values are the same exactly where they are equal, the containers that they name included
 abbrev pub SameIsEqual : Type 0
 SameIsEqual = (v w : Plain) → (same_value v w ≡ true) ↔ (v ≡ w)
+
+-- ---- components that are seen alike
+
+-- what is started does the same over them
+abbrev pub AlikeRuns : Type 0
+AlikeRuns = (packs : ℕ → Plain → Bool) (t : Table) (c d : ComponentPlan) → IsAlike c d → (left : ℕ) (items : List Item) (w : World) → exec packs t c left items w ≡ exec packs t d left items w
+
+-- so does a body
+abbrev pub AlikeBodies : Type 0
+AlikeBodies = (t : Table) (number : ℕ) (c d : ComponentPlan) → IsAlike c d → (body : List Stmt) (args vars : List Plain) (waiting : List Outstanding) (n : ℕ) (vars' : List Plain) (waiting' : List Outstanding) (out : List Sent) (m : ℕ) (end : ActEnd) →
+    Does t number c body args vars waiting n vars' waiting' out m end → Does t number d body args vars waiting n vars' waiting' out m end
+
+-- and an action of one of their machines
+abbrev pub AlikeActions : Type 0
+AlikeActions = (packs : ℕ → Plain → Bool) (t : Table) (c d : ComponentPlan) → IsAlike c d → (machine : ℕ) (action : Action) (args : List Plain) (left : ℕ) (w : World) → acting packs t c machine action args left w ≡ acting packs t d machine action args left w
