@@ -10,3 +10,4 @@ pub mod Behind
 pub mod Leaving
 pub mod Punctual
 pub mod MachineFits
+pub mod Alike

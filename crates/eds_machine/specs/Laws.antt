@@ -8,6 +8,7 @@ use Rattle.eds_plan.specs.declared.machine.Transition.{Transition}
 use Rattle.eds_plan.specs.declared.machine.Trigger.{Trigger}
 use Rattle.eds_plan.specs.declared.machine.Trigger.TheVariants as trigger
 use Rattle.eds_plan.specs.declared.run.MachineState.{MachineState}
+use Rattle.eds_plan.specs.Alike.{IsAlike}
 use Rattle.eds_plan.specs.Fitting.{ComponentFits}
 use Rattle.eds_plan.specs.Plans.{variable_types}
 use Rattle.eds_plan.specs.Sends.{Sent}
@@ -15,7 +16,7 @@ use Rattle.eds_act.specs.Does.{Tells, Conforms, AllConform}
 use Rattle.eds_act.specs.Leaves.{MayAllLeave}
 use Rattle.eds_machine.specs.declared.event.Event.{Event}
 use Rattle.eds_machine.specs.declared.event.Event.TheVariants as event
-use Rattle.eds_machine.specs.Moments.{HasMoment, next_moment}
+use Rattle.eds_machine.specs.Moments.{HasMoment, due_from, next_moment}
 use Rattle.eds_machine.specs.Reactions.{Reacting, standing, taken, machine_reacts, reacts, starts}
 
 -- where a machine takes no transition, nothing changes, but for a timer's moment
@@ -65,3 +66,17 @@ ReactionsArePunctual = (packs : ℕ → Plain → Bool) (t : Table) (c : Compone
 -- after its start no moment at 0 is to come
 abbrev pub StartsArePunctual : Type 0
 StartsArePunctual = (packs : ℕ → Plain → Bool) (t : Table) (c : ComponentPlan) (comp : ℕ) → NoneBefore 1 c.machines (starts packs t c comp []).machines
+
+-- ---- components that are seen alike
+
+-- an event comes to the same in them
+abbrev pub AlikeReactions : Type 0
+AlikeReactions = (packs : ℕ → Plain → Bool) (t : Table) (c d : ComponentPlan) → IsAlike c d → (now : ℕ) (e : Event) (r : Reacting) → reacts packs t c now e r ≡ reacts packs t d now e r
+
+-- they start alike
+abbrev pub AlikeStarts : Type 0
+AlikeStarts = (packs : ℕ → Plain → Bool) (t : Table) (c d : ComponentPlan) → IsAlike c d → (comp : ℕ) (out : List Sent) → starts packs t c comp out ≡ starts packs t d comp out
+
+-- and wait for the same moments, where their machines stand so
+abbrev pub AlikeMoments : Type 0
+AlikeMoments = (c d : ComponentPlan) → IsAlike c d → (ms : List MachineState) → due_from 0 c.machines ms ≡ due_from 0 d.machines ms

@@ -1,6 +1,6 @@
 //! Laws of machines: each is the contract of a function without a body.
 
-ghost use Rattle.eds_machine.specs.Laws.{UntakenChangesNothing, MomentsAreLater, MomentsPass, ReactionsArePunctual, ReactionsSendWell, SendsStandBehind, StartSendsStandBehind, StartsArePunctual, StartsSendWell};
+ghost use Rattle.eds_machine.specs.Laws.{AlikeMoments, AlikeReactions, AlikeStarts, UntakenChangesNothing, MomentsAreLater, MomentsPass, ReactionsArePunctual, ReactionsSendWell, SendsStandBehind, StartSendsStandBehind, StartsArePunctual, StartsSendWell};
 
 /// Where a machine takes no transition, nothing changes, but that a timer's moment has passed.
 pub fn untaken_changes_nothing()
@@ -32,4 +32,12 @@ pub fn components_send_well()
 pub fn moments_are_not_passed_over()
     ensures event { ReactionsArePunctual }
     ensures start { StartsArePunctual }
+{}
+
+/// Components that differ at most in the room of their vectors start alike, make the same of each event, and wait for the same
+/// moments.
+pub fn alike_components_react_alike()
+    ensures event { AlikeReactions }
+    ensures start { AlikeStarts }
+    ensures moments { AlikeMoments }
 {}
