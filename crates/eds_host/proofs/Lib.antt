@@ -25,3 +25,4 @@ pub mod Once
 pub mod Outside
 pub mod Clock
 pub mod InTurn
+pub mod Alike

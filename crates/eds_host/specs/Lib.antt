@@ -12,3 +12,4 @@ pub mod Comings
 pub mod Steps
 pub mod Hosts
 pub mod Resting
+pub mod Alike

@@ -1,5 +1,6 @@
 //! Laws of runs.
 
+ghost use Rattle.eds_host.specs.Alike.{AlikeReadings, AlikeRuns, AlikeSystems, AlikeWires};
 ghost use Rattle.eds_host.specs.Hosts.{ComponentsArePunctual, FirstMayBeHandled, FramesHaveOneOutcome, LinesTakeTheirTime, PlansReadOne, RunsGoOn, RunsHaveOneOutcome, RunsJoin, TimersFireOnce, UnnamedEndsAreOutside};
 ghost use Rattle.eds_host.specs.Laws.{CoursesAreChains, CoursesGoOnOrStorm, EachIsDelivered, NoneIsLate, TicksAdd, TimeGoesOn, TimersAreOnTime};
 
@@ -75,3 +76,12 @@ pub fn frames_have_one_outcome()
 {
     one_outcome();
 }
+
+/// Plans that differ at most in the room of their vectors run alike: their components are one system, wires tie the same in
+/// them, frames are read alike, and lines make the same of each world.
+pub fn alike_plans_run_alike()
+    ensures systems { AlikeSystems }
+    ensures wires { AlikeWires }
+    ensures readings { AlikeReadings }
+    ensures runs { AlikeRuns }
+{}
