@@ -9,3 +9,4 @@ mod Places
 mod Printing
 mod Scripting
 mod Utf8
+pub mod Alike

@@ -17,3 +17,4 @@ pub mod Events
 pub mod States
 pub mod Laws
 pub mod Handing
+pub mod Alike

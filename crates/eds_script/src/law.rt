@@ -1,5 +1,6 @@
 //! Laws of the texts of runs: functions with no body, whose contracts are what was proved.
 
+ghost use Rattle.eds_script.specs.Alike.{AlikeEvents, AlikeScripts, AlikeStates};
 ghost use Rattle.eds_script.specs.Handing.{ScriptsMayRun};
 ghost use Rattle.eds_script.specs.Laws.{FramesRead, OneLine};
 
@@ -16,4 +17,12 @@ pub fn one_line()
 /// What a script has happen fits its plan, keeps away from the ends of its wires, and stays within the time.
 pub fn scripts_may_run()
     ensures { ScriptsMayRun }
+{}
+
+/// Over plans that differ at most in the room of their vectors a text stands for the same script, what leaves a run has the
+/// same line, and where a component stands is told in the same lines.
+pub fn alike_plans_are_told_alike()
+    ensures scripts { AlikeScripts }
+    ensures events { AlikeEvents }
+    ensures states { AlikeStates }
 {}
