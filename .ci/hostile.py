@@ -71,6 +71,14 @@ def ends(count, parameters):
     return package
 
 
+def components(count, ends, faces):
+    """Components with ends of one interface each, among interfaces that no end has."""
+    package = interfaces(*(interface(f"X{i}", parameters=[(f"p{k}", "U4") for k in range(8)]) for i in range(faces)))
+    held = [["Interface", {"name": f"e{i}", "type": "X0"}] for i in range(ends)]
+    package[1].append(["ComponentSet", *(["Component", {"name": f"C{i}"}, ["RequiredInterfaceSet", *held]] for i in range(count))])
+    return package
+
+
 def diamonds(levels):
     """Each interface has the one before it as a base twice: 2^levels ways to the first."""
     yield interface("X0", parameters=[("p", "U4")])
@@ -159,6 +167,10 @@ def inputs():
     yield "32,000 ends of an interface with 100 members", "check s", {"s": ends(32000, [("p%d" % i, "U4") for i in range(100)])}, (
         0, "accepted types 2 containers 0 interfaces 1 components 1\n"), (6, "")  # fmt: skip
     yield "4,000 ends of an interface with 100 members", "check s", {"s": ends(4000, [("p%d" % i, "U4") for i in range(100)])}, (
+        0, "accepted types 2 containers 0 interfaces 1 components 1\n")  # fmt: skip
+    yield "64 components of 15 ends, and 512 interfaces of 8 members", "check s", {"s": components(64, 15, 512)}, (
+        0, "accepted types 2 containers 0 interfaces 512 components 64\n")  # fmt: skip
+    yield "4,000 ends of an interface with 1,000 members", "check s", {"s": ends(4000, [("p%d" % i, "U4") for i in range(1000)])}, (
         0, "accepted types 2 containers 0 interfaces 1 components 1\n")  # fmt: skip
     yield "20,000 members", "check s", {"s": interfaces(interface("X", parameters=[(f"p{i}", "U4") for i in range(20000)]))}, (
         1, "refused 8 Limit at 0:8 members\n")  # fmt: skip

@@ -1,7 +1,8 @@
 -- What the search for circles finds, and rule after rule.
-use Rattle.std.proofs.Common.{◌≡◌, ℕ, suc, ◌+◌, ◌<◌, ◌||◌, ◌&&◌, length, map, drop, get_or, add-one, drop-cons, Bool, true, false, List, [], ◌∷◌, Option, Some, None, refl, sym, ap, ◌∙◌, arith, slice_get}
-use Rattle.std.specs.List.{range_with_len}
+use Rattle.std.proofs.Common.{◌≡◌, ℕ, suc, ◌+◌, ◌<◌, ◌≤◌, ◌||◌, ◌&&◌, length, map, drop, get_or, add-one, drop-cons, Bool, true, false, List, [], ◌∷◌, Option, Some, None, refl, sym, ap, ◌∙◌, arith, slice_get}
+use Rattle.std.specs.List.{range_with_len, flat_map}
 use Rattle.std.proofs.lemmas.List.FromFn.{get_or-map-range_with_len, length-map-range_with_len}
+use Rattle.std.proofs.lemmas.List.{at_drop_all}
 use Rattle.std.proofs.lemmas.Option.{slice_get-get_or}
 use Rattle.eds_base.specs.declared.ids.Place.{Place}
 use Rattle.eds_base.specs.declared.refusal.Refusal.{Refusal}
@@ -79,3 +80,17 @@ module _ (faces : List Face) (marks : List Bool) (courses : List Course) (from i
   here-unmet t =
       let m : is_met (graph_of faces) from i ≡ false = sym (met-in faces marks from i lt met) ∙ t in
       sym (ap (λ b. least (cycle_if (b && is_on_circle (graph_of faces) i) at)) m)
+
+-- ---- at the end
+
+none-after : (o : Option Refusal) → first_of o None ≡ o
+none-after None = refl
+none-after (Some r) = refl
+
+pub least-end_over : (f : ℕ → Face → List Refusal) (faces : List Face) (i : ℕ) (found whole : Option Refusal) → length faces ≤ i
+    → first_of found (least (over_from f i (drop i faces))) ≡ whole → found ≡ whole
+least-end_over f faces i found whole past inv = sym (none-after found) ∙ sym (at_drop_all (λ xs. first_of found (least (over_from f i xs))) faces i past) ∙ inv
+
+pub least-end_of : {A : Type 0} (f : A → List Refusal) (xs : List A) (i : ℕ) (found whole : Option Refusal) → length xs ≤ i
+    → first_of found (least (flat_map f (drop i xs))) ≡ whole → found ≡ whole
+least-end_of f xs i found whole past inv = sym (none-after found) ∙ sym (at_drop_all (λ ys. first_of found (least (flat_map f ys))) xs i past) ∙ inv

@@ -103,3 +103,7 @@ some-of None e = cc
 pub none-of : {A : Type 0} (w : Option A) → is_some w ≡ false → w ≡ None
 none-of (Some x) e = cc
 none-of None e = refl
+
+-- nothing is clean yet
+pub none-clean : (names : Names) (faces : List Face) (types : List (Option TypeId)) (clean : List Pair) → clean ≡ [] → AreClean names faces types clean
+none-clean names faces types clean e p h = absurd (let f = rw e at h in cc)

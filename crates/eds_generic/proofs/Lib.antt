@@ -1,6 +1,7 @@
 pub mod Once
 pub mod Judged
 pub mod Indexing
+pub mod RepeatedMembers
 pub mod Counting
 pub mod Same
 pub mod Gathering

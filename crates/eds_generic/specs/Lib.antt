@@ -4,6 +4,7 @@ pub mod Pairs
 pub mod Members
 pub mod Cycles
 pub mod NameRules
+pub mod Clean
 pub mod Resolved
 pub mod Reading
 pub mod Every

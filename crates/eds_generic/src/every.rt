@@ -1,26 +1,31 @@
 //! All interfaces of a sheet.
 
-ghost use Rattle.std.specs.Prelude.{◌≡◌, ◌<◌, ◌^◌, ℕ, length, true, IfOk};
+ghost use Rattle.std.specs.Prelude.{◌≡◌, ◌<◌, ◌^◌, ℕ, length, true, IfOk, OnOk};
+ghost use Rattle.eds_generic.specs.Clean.{AreAllClean};
 ghost use Rattle.eds_base.specs.Refusals.{least};
 ghost use Rattle.eds_generic.specs.Pairs.{ends_within, most};
 ghost use Rattle.eds_generic.specs.Every.{alone_at as alone_at_in, alone_breaks, interface_breaks};
 
 use crate::cycle::least_own_cycle;
 use crate::face::Face;
+use crate::found::PLACES;
 use crate::resolving::least_here;
-use crate::rules::Asked;
+use crate::rules::{Asked, Clean};
 use eds_base::{FaceId, Memory, Refusal, TypeId};
 use std::alloc::Global;
 
 fn alone_at(
     alloc: Global,
+    clean: &mut Clean,
     faces: &[Face],
     types: &[Option<TypeId>],
     id: u32,
     face: &Face,
 ) -> Result<Option<Refusal>, Memory>
-    requires { ends_within (most faces.now) faces.now id ≡ true }
-    ensures { IfOk result (λ r. r ≡ least (alone_at_in faces.now types.now id face.now)) }
+    requires ends { ends_within (most faces.now) faces.now id ≡ true }
+    requires clean { AreAllClean faces.now types.now clean.old }
+    ensures clean { OnOk result (AreAllClean faces.now types.now clean.new) }
+    ensures least { IfOk result (λ r. r ≡ least (alone_at_in faces.now types.now id face.now)) }
 {
     match face.generics.as_slice() {
         [_, ..] => Ok(None),
@@ -32,7 +37,8 @@ fn alone_at(
                 face: FaceId(id),
                 given: &[],
             };
-            least_here(alloc, &asked)
+            let mut left = PLACES;
+            least_here(alloc, clean, &asked, &mut left)
         }
     }
 }
@@ -47,9 +53,10 @@ pub(crate) fn least_alone(
     requires ends { (f : ℕ) → ends_within (most faces.now) faces.now f ≡ true }
     ensures { IfOk result (λ r. r ≡ least (alone_breaks faces.now types.now)) }
 {
+    let mut clean = Clean::new(alloc);
     let mut found = None;
     for id in 0..faces.len() {
-        let here = alone_at(alloc, faces, types, id as u32, &faces[id])?;
+        let here = alone_at(alloc, &mut clean, faces, types, id as u32, &faces[id])?;
         found = Refusal::first(found, here);
     }
     Ok(found)

@@ -29,13 +29,13 @@ pub(crate) struct Gathered {
 }
 
 impl Gathered {
-    /// None.
-    pub(crate) fn new(alloc: Global) -> Gathered
+    /// None; the bases of those to come may have so many places for types.
+    pub(crate) fn new(alloc: Global, left: u64) -> Gathered
         ensures found { result.found ≡ [] }
         ensures members { result.members ≡ 0 }
     {
         Gathered {
-            found: Found::new(alloc),
+            found: Found::new(alloc, left),
             members: 0,
         }
     }

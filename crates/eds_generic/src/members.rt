@@ -1,11 +1,12 @@
 //! The members of an interface under a map.
 
-ghost use Rattle.std.specs.Prelude.{◌≡◌, ◌≤◌, ◌<◌, ◌++◌, [], map, length, option_map, true, IfOk, OnOk};
-ghost use Rattle.std.specs.List.{flat_map, list_any};
+ghost use Rattle.std.specs.Prelude.{◌≡◌, ◌≤◌, ◌<◌, ◌++◌, ◌∷◌, [], ℕ, List, Some, if◌then◌else◌, map, length, option_map, string_bytes, true, IfOk, OnOk};
+ghost use Rattle.std.specs.List.{flat_map};
+ghost use Rattle.eds_names.specs.Repeats.{is_among};
 ghost use Rattle.eds_plan.specs.declared.instance.Member.{Member as member};
 ghost use Rattle.eds_generic.specs.Faces.{names_of as names_of_generics};
 ghost use Rattle.eds_generic.specs.Pairs.{ends_within, most};
-ghost use Rattle.eds_generic.specs.Members.{id_or_first as id_or_first_of, type_in as type_in_bounds, argument_of as argument_in, member_of as member_in, members_of, members as members_in, each_once as each_once_in, declared_count, mapped_given as mapped_given_in, under as under_map, name_of as name_in, is_name_of, repeated};
+ghost use Rattle.eds_generic.specs.Members.{id_or_first as id_or_first_of, type_in as type_in_bounds, argument_of as argument_in, member_of as member_in, members_of, members as members_in, each_once as each_once_in, declared_count, mapped_given as mapped_given_in, under as under_map, name_of as name_in, repeated};
 ghost use Rattle.eds_generic.specs.Stops.{OnNamed};
 ghost use Rattle.eds_generic.specs.NameRules.{first};
 
@@ -16,6 +17,7 @@ use crate::pair::{Bound, Pair, below_by, meant};
 use eds_base::{FaceId, Fail, Items, Memory, Text, TypeId};
 use eds_names::NameList;
 use eds_plan::{Argument, Member};
+use indexmap::IndexSet;
 use std::alloc::Global;
 
 fn id_or_first(bound: Bound) -> TypeId
@@ -91,17 +93,24 @@ fn push_members(
     Ok(())
 }
 
-fn each_once(alloc: Global, faces: &[Face], pair: Pair) -> Result<Found, Fail<TooMany>>
+fn each_once(
+    alloc: Global,
+    faces: &[Face],
+    pair: Pair,
+    left: &mut u64,
+) -> Result<Found, Fail<TooMany>>
     requires { ends_within (most faces.now) faces.now pair.face.0 ≡ true }
     ensures found { IfOk result (λ ps. ps ≡ each_once_in faces.now pair) }
     ensures few { OnOk result (declared_count faces.now (each_once_in faces.now pair) ≤ 1024) }
     ensures many { OnNamed result (1024 < declared_count faces.now (each_once_in faces.now pair)) }
 {
-    let mut gathered = Gathered::new(alloc);
+    let mut gathered = Gathered::new(alloc, *left);
     match faces.len().checked_add(2) {
         None => Err(Fail::Memory),
         Some(depth) => {
-            gather(alloc, &mut gathered, faces, depth, pair)?;
+            let done = gather(alloc, &mut gathered, faces, depth, pair);
+            *left = gathered.found.left();
+            done?;
             Ok(gathered.found)
         }
     }
@@ -117,21 +126,42 @@ fn members_over(alloc: Global, faces: &[Face], pairs: &[Pair]) -> Result<Vec<Mem
     Ok(members)
 }
 
+// One for each member and for each of its arguments.
+fn weight(members: &[Member]) -> u64 {
+    let mut weight = 0u64;
+    for one in members {
+        weight = weight.saturating_add(1);
+        if let Member::Command(_, arguments) = one {
+            weight = weight.saturating_add(arguments.len() as u64);
+        }
+    }
+    weight
+}
+
 /// The members of an interface under a map: those of its bases in order, and then its own. They are not gathered where there are
-/// more than 1,024.
+/// more than 1,024. What is met is taken off what is left: the places for types of all bases, the members and their arguments;
+/// where it is more, no memory is found.
 #[tactic(auto, unfolding(crate::specs::Members::members))]
 pub(crate) fn members(
     alloc: Global,
     faces: &[Face],
     pair: Pair,
+    left: &mut u64,
 ) -> Result<Vec<Member>, Fail<TooMany>>
     requires { ends_within (most faces.now) faces.now pair.face.0 ≡ true }
     ensures members { IfOk result (λ ms. ms.items ≡ members_in faces.now pair) }
     ensures few { OnOk result (length (members_in faces.now pair) ≤ 1024) }
     ensures many { OnNamed result (1024 < length (members_in faces.now pair)) }
 {
-    let pairs = each_once(alloc, faces, pair)?;
-    Ok(members_over(alloc, faces, pairs.as_slice())?)
+    let pairs = each_once(alloc, faces, pair, left)?;
+    let members = members_over(alloc, faces, pairs.as_slice())?;
+    match left.checked_sub(weight(&members)) {
+        None => Err(Fail::Memory),
+        Some(rest) => {
+            *left = rest;
+            Ok(members)
+        }
+    }
 }
 
 fn names_of(alloc: Global, generics: &[Generic]) -> Result<Vec<Text>, Memory>
@@ -198,29 +228,40 @@ fn name_of(member: &Member) -> &str
     }
 }
 
-fn has_name(members: &[Member], name: &str) -> bool
-    ensures { result ≡ list_any (is_name_of name.now) members.now }
+/// Puts a name among those of later members, and says whether it was there.
+fn note_later(alloc: Global, later: &mut IndexSet<String>, name: &str) -> Result<bool, Memory>
+    ensures found { IfOk result (λ found. found ≡ is_among (map string_bytes later.old.keys) name.now) }
+    ensures later { OnOk result ((q : List ℕ) → is_among (map string_bytes later.new.keys) q ≡ is_among (name.now ∷ map string_bytes later.old.keys) q) }
 {
-    let mut rest = members;
-    while let [one, after @ ..] = rest {
-        if name_of(one) == name {
-            return true;
-        }
-        rest = after;
+    if later.contains(name) {
+        return Ok(true);
     }
-    false
+    let name = String::from_str(alloc, name)?;
+    let _added = later.insert(name)?;
+    Ok(false)
+}
+
+fn first_of<'a>(repeated: bool, name: &'a str, found: Option<&'a str>) -> Option<&'a str>
+    ensures { option_map (λ n. n.now) result ≡ (if repeated then Some name.now else option_map (λ n. n.now) found.entry) }
+{
+    if repeated { Some(name) } else { found }
 }
 
 /// The name of the first member of which a later one has the name too.
-pub(crate) fn first_repeated(members: &[Member]) -> Option<&str>
-    ensures { option_map (λ n. n.now) result ≡ first (repeated members.now) }
+pub(crate) fn first_repeated<'a>(
+    alloc: Global,
+    members: &'a [Member],
+) -> Result<Option<&'a str>, Memory>
+    ensures { IfOk result (λ name. option_map (λ n. n.now) name ≡ first (repeated members.now)) }
 {
-    let mut rest = members;
-    while let [one, after @ ..] = rest {
-        if has_name(after, name_of(one)) {
-            return Some(name_of(one));
-        }
-        rest = after;
+    let mut later = IndexSet::new(alloc);
+    let mut found = None;
+    let mut left = members.len();
+    while left > 0 {
+        left -= 1;
+        let name = name_of(&members[left]);
+        let repeated = note_later(alloc, &mut later, name)?;
+        found = first_of(repeated, name, found);
     }
-    None
+    Ok(found)
 }

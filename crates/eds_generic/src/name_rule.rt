@@ -94,20 +94,27 @@ fn first_below<R: NameRule>(
     Ok(None)
 }
 
-/// The first name by which a rule is broken at an interface under a map or at its bases.
+/// The first name by which a rule is broken at an interface under a map or at its bases. Where the rule was found to be kept is
+/// remembered, for whatever is judged next.
 pub(crate) fn first_under<R: NameRule>(
     alloc: Global,
+    clean: &mut Found,
     faces: &[Face],
     types: &[Option<TypeId>],
     pair: Pair,
 ) -> Result<Option<Text>, Memory>
     requires ends { ends_within (most faces.now) faces.now pair.face.0 ≡ true }
     requires alike { IsAlike R.names }
-    ensures { IfOk result (λ w. w ≡ first (names_under R.names faces.now types.now pair)) }
+    requires clean { AreClean R.names faces.now types.now clean.old }
+    ensures first { IfOk result (λ w. w ≡ first (names_under R.names faces.now types.now pair)) }
+    ensures clean { OnOk result (AreClean R.names faces.now types.now clean.new) }
 {
-    let mut clean = Found::new(alloc);
     match faces.len().checked_add(2) {
         None => Err(Memory),
-        Some(depth) => first_in::<R>(alloc, &mut clean, faces, types, depth, pair),
+        Some(depth) => {
+            let found = first_in::<R>(alloc, clean, faces, types, depth, pair)?;
+            clean.make_room(alloc);
+            Ok(found)
+        }
     }
 }

@@ -1,6 +1,7 @@
 //! An interface resolved.
 
-ghost use Rattle.std.specs.Prelude.{◌≡◌, ◌≤◌, length, codes, true, IfOk};
+ghost use Rattle.std.specs.Prelude.{◌≡◌, ◌≤◌, length, codes, true, IfOk, OnOk};
+ghost use Rattle.eds_generic.specs.Clean.{AreAllClean};
 ghost use Rattle.eds_base.specs.Answering.{Answers};
 ghost use Rattle.eds_base.specs.Refusals.{least};
 ghost use Rattle.eds_base.specs.declared.rule.Rule.TheVariants.{Limit};
@@ -11,9 +12,10 @@ ghost use Rattle.eds_generic.specs.Resolved.{breaks_given, pair_breaks, members_
 
 use crate::cycle::least_cycle;
 use crate::face::Face;
+use crate::found::PLACES;
 use crate::members::{first_repeated, members, under};
 use crate::rules::{
-    Asked, copied, keeping, keeping_where, least_generic_base, least_unknown, least_unmapped,
+    Asked, Clean, copied, keeping, keeping_where, least_generic_base, least_unknown, least_unmapped,
 };
 use eds_base::{FaceId, Fail, Items, Memory, Place, Refusal, Rule, Text, TypeId};
 use eds_plan::{Instance, Member, TypeMap};
@@ -27,12 +29,12 @@ fn limit_at(alloc: Global, at: Place) -> Result<Refusal, Memory>
 }
 
 /// The members of what is asked, or the refusal that there are more than 1,024.
-fn few_members(alloc: Global, asked: &Asked) -> Result<Vec<Member>, Fail<Refusal>>
+fn few_members(alloc: Global, asked: &Asked, left: &mut u64) -> Result<Vec<Member>, Fail<Refusal>>
     requires { ends_within (most asked.now.faces.now) asked.now.faces.now asked.now.face.0 ≡ true }
     ensures { Answers (λ ms. ms.items) result (members_or_limit asked.now.faces.now asked.now.at (under_map asked.now.faces.now asked.now.face asked.now.given.now)) }
 {
     let pair = under(alloc, asked.faces, asked.face, asked.given)?;
-    match members(alloc, asked.faces, pair) {
+    match members(alloc, asked.faces, pair, left) {
         Ok(members) => Ok(members),
         Err(Fail::Named(_)) => Err(Fail::Named(limit_at(alloc, asked.at)?)),
         Err(Fail::Memory) => Err(Fail::Memory),
@@ -43,20 +45,27 @@ fn few_members(alloc: Global, asked: &Asked) -> Result<Vec<Member>, Fail<Refusal
 fn least_duplicate(alloc: Global, at: Place, members: &[Member]) -> Result<Option<Refusal>, Memory>
     ensures { IfOk result (λ r. r ≡ least (duplicates_of at members.now)) }
 {
-    let word = copied(alloc, first_repeated(members))?;
+    let word = copied(alloc, first_repeated(alloc, members)?)?;
     Ok(keeping_where(Rule::DuplicateMember, at, word))
 }
 
 /// The first break of the rules on generic names and on the names of members, of which there are at most 1,024.
-fn least_break(alloc: Global, asked: &Asked, members: &[Member]) -> Result<Option<Refusal>, Memory>
+fn least_break(
+    alloc: Global,
+    clean: &mut Clean,
+    asked: &Asked,
+    members: &[Member],
+) -> Result<Option<Refusal>, Memory>
     requires ends { ends_within (most asked.now.faces.now) asked.now.faces.now asked.now.face.0 ≡ true }
     requires few { length members.now ≤ 1024 }
-    ensures { IfOk result (λ r. r ≡ least (breaks_given asked.now.faces.now asked.now.types.now asked.now.at (under_map asked.now.faces.now asked.now.face asked.now.given.now) members.now)) }
+    requires clean { AreAllClean asked.now.faces.now asked.now.types.now clean.old }
+    ensures least { IfOk result (λ r. r ≡ least (breaks_given asked.now.faces.now asked.now.types.now asked.now.at (under_map asked.now.faces.now asked.now.face asked.now.given.now) members.now)) }
+    ensures clean { OnOk result (AreAllClean asked.now.faces.now asked.now.types.now clean.new) }
 {
     let duplicate = least_duplicate(alloc, asked.at, members)?;
-    let unmapped = least_unmapped(alloc, asked)?;
-    let unknown = least_unknown(alloc, asked)?;
-    let generic = least_generic_base(alloc, asked)?;
+    let unmapped = least_unmapped(alloc, &mut clean.unmapped, asked)?;
+    let unknown = least_unknown(alloc, &mut clean.unknown, asked)?;
+    let generic = least_generic_base(alloc, &mut clean.refused, asked)?;
     let found = Refusal::first(duplicate, unmapped);
     let found = Refusal::first(found, unknown);
     Ok(Refusal::first(found, generic))
@@ -73,13 +82,21 @@ pub(crate) fn copied_map(alloc: Global, given: &[(Text, TypeId)]) -> Result<Type
     Ok(Items::from_vec(copy))
 }
 
-/// The first break of the rules on generic names and on members, at an interface whose members are not known yet.
-pub(crate) fn least_here(alloc: Global, asked: &Asked) -> Result<Option<Refusal>, Memory>
-    requires { ends_within (most asked.now.faces.now) asked.now.faces.now asked.now.face.0 ≡ true }
-    ensures { IfOk result (λ r. r ≡ least (pair_breaks asked.now.faces.now asked.now.types.now asked.now.at (under_map asked.now.faces.now asked.now.face asked.now.given.now))) }
+/// The first break of the rules on generic names and on members, at an interface whose members are not known yet. What is met is
+/// taken off what is left.
+pub(crate) fn least_here(
+    alloc: Global,
+    clean: &mut Clean,
+    asked: &Asked,
+    left: &mut u64,
+) -> Result<Option<Refusal>, Memory>
+    requires ends { ends_within (most asked.now.faces.now) asked.now.faces.now asked.now.face.0 ≡ true }
+    requires clean { AreAllClean asked.now.faces.now asked.now.types.now clean.old }
+    ensures clean { OnOk result (AreAllClean asked.now.faces.now asked.now.types.now clean.new) }
+    ensures least { IfOk result (λ r. r ≡ least (pair_breaks asked.now.faces.now asked.now.types.now asked.now.at (under_map asked.now.faces.now asked.now.face asked.now.given.now))) }
 {
-    match few_members(alloc, asked) {
-        Ok(members) => least_break(alloc, asked, &members),
+    match few_members(alloc, asked, left) {
+        Ok(members) => least_break(alloc, clean, asked, &members),
         Err(Fail::Named(refusal)) => Ok(Some(refusal)),
         Err(Fail::Memory) => Err(Memory),
     }
@@ -89,8 +106,10 @@ fn resolve_acyclic(alloc: Global, asked: &Asked) -> Result<Instance, Fail<Refusa
     requires { ends_within (most asked.now.faces.now) asked.now.faces.now asked.now.face.0 ≡ true }
     ensures { Answers (λ i. i) result (unless (least (pair_breaks asked.now.faces.now asked.now.types.now asked.now.at (under_map asked.now.faces.now asked.now.face asked.now.given.now))) (instance_of asked.now.faces.now asked.now.face asked.now.given.now)) }
 {
-    let members = few_members(alloc, asked)?;
-    match least_break(alloc, asked, &members)? {
+    let mut left = PLACES;
+    let members = few_members(alloc, asked, &mut left)?;
+    let mut clean = Clean::new(alloc);
+    match least_break(alloc, &mut clean, asked, &members)? {
         Some(refusal) => Err(Fail::Named(refusal)),
         None => {
             let map = copied_map(alloc, asked.given)?;

@@ -1,6 +1,7 @@
 //! Interfaces that are used under maps: by the ends of components.
 
-ghost use Rattle.std.specs.Prelude.{◌≡◌, [], ℕ, true, IfOk};
+ghost use Rattle.std.specs.Prelude.{◌≡◌, [], ℕ, true, IfOk, OnOk};
+ghost use Rattle.eds_generic.specs.Clean.{AreAllClean};
 ghost use Rattle.std.specs.List.{flat_map};
 ghost use Rattle.eds_base.specs.Refusals.{least};
 ghost use Rattle.eds_generic.specs.Every.{own_cycles};
@@ -9,16 +10,17 @@ ghost use Rattle.eds_generic.specs.Uses.{use_breaks, use_instance, breaks_with_u
 
 use crate::cycle::least_own_cycle;
 use crate::every::least_alone;
-use crate::face::Face;
+use crate::face::{Face, generics};
+use crate::found::PLACES;
 use crate::members::{members, under};
 use crate::resolving::{copied_map, least_here};
-use crate::rules::Asked;
+use crate::rules::{Asked, Clean};
 use eds_base::{FaceId, Items, Memory, Place, Refusal, TypeId};
 use eds_plan::{Instance, TypeMap};
 use std::alloc::Global;
 
-/// How many interfaces, bases and members may be met for all that is used: past these no memory is found.
-const STEPS: usize = 4194304;
+/// How many bases, generic names, members and arguments may be met for all that is used: past these no memory is found.
+const STEPS: u64 = 4194304;
 
 /// An interface that is used under a map of its generic names, and the element that uses it.
 #[derive(Drop)]
@@ -28,15 +30,33 @@ pub struct FaceUse {
     pub map: TypeMap,
 }
 
+/// Takes so much off what is left; where it is more, no memory is found.
+fn spend(left: &mut u64, count: usize) -> Result<(), Memory> {
+    match left.checked_sub(count as u64) {
+        None => Err(Memory),
+        Some(rest) => {
+            *left = rest;
+            Ok(())
+        }
+    }
+}
+
 fn least_at(
     alloc: Global,
+    clean: &mut Clean,
     faces: &[Face],
     types: &[Option<TypeId>],
     used: &FaceUse,
+    left: &mut u64,
 ) -> Result<Option<Refusal>, Memory>
-    requires { ends_within (most faces.now) faces.now used.now.face.0 ≡ true }
-    ensures { IfOk result (λ r. r ≡ least (use_breaks faces.now types.now used.now)) }
+    requires ends { ends_within (most faces.now) faces.now used.now.face.0 ≡ true }
+    requires clean { AreAllClean faces.now types.now clean.old }
+    ensures clean { OnOk result (AreAllClean faces.now types.now clean.new) }
+    ensures least { IfOk result (λ r. r ≡ least (use_breaks faces.now types.now used.now)) }
 {
+    // the members and each rule look for what the names of the map stand for
+    spend(left, generics(faces, used.face).len().saturating_mul(4))?;
+    spend(left, used.map.len().saturating_mul(4))?;
     let asked = Asked {
         faces,
         types,
@@ -44,7 +64,7 @@ fn least_at(
         face: used.face,
         given: used.map.as_slice(),
     };
-    least_here(alloc, &asked)
+    least_here(alloc, clean, &asked, left)
 }
 
 /// The first break at an interface that is used.
@@ -57,38 +77,19 @@ fn least_used(
     requires { (f : ℕ) → ends_within (most faces.now) faces.now f ≡ true }
     ensures { IfOk result (λ r. r ≡ least (flat_map (use_breaks faces.now types.now) uses.now)) }
 {
+    let mut clean = Clean::new(alloc);
     let mut found = None;
+    let mut left = STEPS;
     for used in uses {
-        let here = least_at(alloc, faces, types, used)?;
+        let here = least_at(alloc, &mut clean, faces, types, used, &mut left)?;
         found = Refusal::first(found, here);
     }
     Ok(found)
 }
 
-fn less(left: Option<usize>, count: usize) -> Option<usize> {
-    match left {
-        None => None,
-        Some(left) => left.checked_sub(count),
-    }
-}
-
-/// Whether so many uses can be judged, each of which may meet every interface with its bases and members.
-fn is_little(faces: &[Face], uses: usize) -> bool {
-    if uses == 0 {
-        return true;
-    }
-    let mut left = Some(STEPS / uses);
-    for face in faces {
-        left = less(left, 1);
-        left = less(left, face.bases.len());
-        left = less(left, face.members.len());
-    }
-    left.is_some()
-}
-
 /// The first rule that the interfaces of a sheet break: one of them is its own base; or, where none is, one without own generic
 /// names breaks a rule under the empty map, or one that is used breaks it under its map, and the refusal stands where it is used.
-/// No memory is found where all that is used may meet more than 4,194,304 interfaces, bases and members.
+/// No memory is found where more than 4,194,304 bases, generic names, members and arguments are met at what is used.
 pub fn judge_uses(
     alloc: Global,
     faces: &[Face],
@@ -97,7 +98,7 @@ pub fn judge_uses(
 ) -> Result<Option<Refusal>, Memory>
     ensures { IfOk result (λ r. r ≡ least (breaks_with_uses faces.now types.now uses.now)) }
 {
-    if faces.len() > u32::MAX as usize || !is_little(faces, uses.len()) {
+    if faces.len() > u32::MAX as usize {
         return Err(Memory);
     }
     match least_own_cycle(alloc, faces)? {
@@ -117,7 +118,8 @@ pub fn instance(alloc: Global, faces: &[Face], used: &FaceUse) -> Result<Instanc
 {
     let given = used.map.as_slice();
     let pair = under(alloc, faces, used.face, given)?;
-    let members = match members(alloc, faces, pair) {
+    let mut left = PLACES;
+    let members = match members(alloc, faces, pair, &mut left) {
         Ok(members) => members,
         Err(_) => return Err(Memory),
     };

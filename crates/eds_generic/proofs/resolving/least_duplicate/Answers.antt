@@ -6,4 +6,4 @@ use Rattle.eds_generic.proofs.NameBreaks.{least-duplicate}
 use Rattle.eds_generic.proofs.resolving.least_duplicate.Goals as goal
 
 pub returns : goal.returns
-returns c = c.keeping_where.ensures ∙ ap (option_map (keeping DuplicateMember c.args.at)) (c.in_ok-word.ensures ∙ c.first_repeated.ensures) ∙ sym (least-duplicate c.args.at (repeated c.args.members.now))
+returns c = c.keeping_where.ensures ∙ ap (option_map (keeping DuplicateMember c.args.at)) (c.in_ok-word.ensures ∙ c.in_ok-first_repeated.ensures) ∙ sym (least-duplicate c.args.at (repeated c.args.members.now))

@@ -4,8 +4,8 @@ use Rattle.eds_generic.specs.Resolved.{members_or_limit}
 use Rattle.eds_generic.proofs.Many.{limit-least, named-stop}
 use Rattle.eds_generic.proofs.resolving.least_here.Goals as goal
 
-pub returns-in-Err-Named : goal.returns-in-Err-Named
-returns-in-Err-Named c =
+pub returns-in-Err-Named-clause-least : goal.returns-in-Err-Named-clause-least
+returns-in-Err-Named-clause-least c =
     let asked = c.args.asked.now in
     let p = under asked.faces.now asked.face asked.given.now in
     rw c.in-Err-Named.field-0-is
