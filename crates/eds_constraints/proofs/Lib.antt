@@ -6,6 +6,7 @@ pub mod NamedFacts
 pub mod SetFacts
 pub mod ConcreteFacts
 pub mod ValueFacts
+pub mod LabelFacts
 pub mod BreakSteps
 pub mod BrokenFacts
 pub mod LeftFacts

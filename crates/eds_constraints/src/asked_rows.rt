@@ -90,7 +90,7 @@ impl<'a> AskedRows<'a> {
     {
         set_of(
             alloc,
-            self.rows,
+            &self.names,
             self.sets.as_slice(),
             aim.target,
             &asked.test,

@@ -3,11 +3,11 @@
 ghost use Rattle.std.specs.Prelude.{◌≡◌, true, map, reverse, slice_get, IfOk};
 ghost use Rattle.std.specs.Option.{option_copied};
 ghost use Rattle.std.specs.List.{flat_map};
-ghost use Rattle.eds_types.specs.Fields.{part_at as part_in};
+ghost use Rattle.eds_types.specs.Fields.{listed, part_at as part_in};
 ghost use Rattle.eds_types.specs.Rows.{address, base_id_in, container_by as container_in_kind, container_of as container_in_rows, entries_in, entries_of as entries_in_rows, trailers_in, trailers_of as trailers_in_rows, is_concrete as is_concrete_in, chain_within, placed_entries, placed_trailers};
 ghost use Rattle.eds_constraints.specs.ConstrainedRows.{AreRead};
 ghost use Rattle.eds_constraints.specs.Paths.{called as called_of, entry_type as entry_type_of, entry_at as entry_at_place, is_listed as is_listed_in, place_called, first_called};
-ghost use Rattle.eds_constraints.specs.Named.{names_of_entries, names_of_trailers, have_few_parts};
+ghost use Rattle.eds_constraints.specs.Named.{names_of_entries, names_of_trailers, have_few_parts, label_in, listing_in, labels_of as labels_of_row, number_of_label as number_labelled};
 
 use eds_base::{Items, Memory, Text, TypeId};
 use eds_names::NameList;
@@ -188,14 +188,61 @@ fn trailer_lists(alloc: Global, rows: &[TypeRow]) -> Result<Items<NameList>, Mem
     Ok(lists)
 }
 
-/// Rows, with the names of the entries and of the trailers of each.
+// ---- labels
+
+fn listing_of(kind: &Kind) -> &[(Text, i128)]
+    ensures { result.now ≡ listing_in kind.now }
+{
+    match kind {
+        Kind::Enum(_, listing) => listing.as_slice(),
+        _ => &[],
+    }
+}
+
+fn label_list(alloc: Global, kind: &Kind) -> Result<NameList, Memory>
+    ensures { IfOk result (λ l. l ≡ map label_in (listing_in kind.now)) }
+{
+    let mut labels = Vec::new(alloc);
+    for entry in listing_of(kind) {
+        labels.push(Text::of(alloc, entry.0.as_str())?)?;
+    }
+    NameList::of(alloc, labels)
+}
+
+fn label_lists(alloc: Global, rows: &[TypeRow]) -> Result<Items<NameList>, Memory>
+    ensures { IfOk result (λ l. l ≡ map labels_of_row rows.now) }
+{
+    let mut lists = Items::new(alloc);
+    for row in rows {
+        lists.push(label_list(alloc, &row.kind)?)?;
+    }
+    Ok(lists)
+}
+
+// The number of a label in a listing, of which the labels are given.
+fn number_listed(listing: &[(Text, i128)], labels: &NameList, label: &str) -> Option<i128>
+    requires { labels.now ≡ map label_in listing.now }
+    ensures { result ≡ listed listing.now label.now }
+{
+    match labels.position(label) {
+        None => None,
+        Some(at) => match listing.get(at) {
+            None => None,
+            Some(entry) => Some(entry.1),
+        },
+    }
+}
+
+/// Rows, with the names of the entries and of the trailers of each, and its labels.
 #[derive(Drop)]
 pub(crate) struct NamedRows<'a> {
     pub(crate) rows: &'a [TypeRow],
     entries: Items<NameList>,
     trailers: Items<NameList>,
+    labels: Items<NameList>,
     ghost entry_names: { entries ≡ map names_of_entries rows.now },
     ghost trailer_names: { trailers ≡ map names_of_trailers rows.now },
+    ghost label_names: { labels ≡ map labels_of_row rows.now },
     ghost small: { have_few_parts rows.now ≡ true },
 }
 
@@ -207,11 +254,26 @@ impl<'a> NamedRows<'a> {
     {
         let entries = entry_lists(alloc, rows)?;
         let trailers = trailer_lists(alloc, rows)?;
+        let labels = label_lists(alloc, rows)?;
         Ok(NamedRows {
             rows,
             entries,
             trailers,
+            labels,
         })
+    }
+
+    /// The number of a label of an enumerated type, None exactly where the type has no such label.
+    pub(crate) fn number_of_label(&self, id: TypeId, label: &str) -> Option<i128>
+        ensures { result ≡ number_labelled self.now.rows.now id.0 label.now }
+    {
+        match row_of(self.rows, id) {
+            None => None,
+            Some(row) => match self.labels.get(id.0 as usize) {
+                None => None,
+                Some(labels) => number_listed(listing_of(&row.kind), labels, label),
+            },
+        }
     }
 
     // Where the first of a container's own entries with a name stands.

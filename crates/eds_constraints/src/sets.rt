@@ -7,16 +7,17 @@ ghost use Rattle.eds_base.specs.Spans.{bottom, top};
 ghost use Rattle.eds_types.specs.Domains.{int_domain_by};
 ghost use Rattle.eds_types.specs.Reading.{is_within as is_of_domain};
 ghost use Rattle.eds_types.specs.Rows.{chain, chain_within, list_has, numbers};
-ghost use Rattle.eds_constraints.specs.ConstrainedRows.{AreRead, IsReadKind};
+ghost use Rattle.eds_constraints.specs.ConstrainedRows.{AreRead};
 ghost use Rattle.eds_constraints.specs.Domains.{narrowed as narrowed_by};
-ghost use Rattle.eds_constraints.specs.Sets.{one_number as one_number_alone, all_numbers as every_number, met as met_sets, concrete_under as concrete_at_or_under, truth_number as truth_as_number, number_within as number_in_domain, label_set as label_set_of, value_set as value_set_of, type_set as type_set_of, set_by as set_by_kind, set_of as set_of_test};
+ghost use Rattle.eds_constraints.specs.Named.{IsKindOf, number_of_label as number_labelled};
+ghost use Rattle.eds_constraints.specs.Sets.{one_number as one_number_alone, all_numbers as every_number, met as met_sets, concrete_under as concrete_at_or_under, truth_number as truth_as_number, number_within as number_in_domain, value_set as value_set_of, type_set as type_set_of, set_by as set_by_kind, set_of as set_of_test};
 
 use crate::asked::Test;
 use crate::domain::{BOTTOM, TOP, interval, narrowed, rises};
 use crate::range::Range;
-use crate::rows::{base_of, is_concrete, row_of};
+use crate::rows::{NamedRows, base_of, is_concrete, row_of};
 use eds_base::{Items, Memory, Spans, TypeId, flag_value, whole_number};
-use eds_types::{Kind, TypeRow, number_of_label};
+use eds_types::{Kind, TypeRow};
 use std::alloc::Global;
 
 // ---- sets
@@ -142,16 +143,18 @@ fn number_set(alloc: Global, domain: &Spans, text: &str) -> Result<Option<Spans>
     }
 }
 
-fn label_set(alloc: Global, kind: &Kind, text: &str) -> Result<Option<Spans>, Memory>
-    requires { IsReadKind kind.now }
-    ensures { IfOk result (λ s. s ≡ label_set_of kind.now text.now) }
+fn label_set(
+    alloc: Global,
+    names: &NamedRows,
+    target: TypeId,
+    label: &str,
+) -> Result<Option<Spans>, Memory>
+    requires { AreRead names.now.rows.now }
+    ensures { IfOk result (λ s. s ≡ option_map one_number_alone (number_labelled names.now.rows.now target.0 label.now)) }
 {
-    match kind {
-        Kind::Enum(_, listing) => match number_of_label(listing.as_slice(), text) {
-            None => Ok(None),
-            Some(n) => Ok(Some(one_number(alloc, n)?)),
-        },
-        _ => Ok(None),
+    match names.number_of_label(target, label) {
+        None => Ok(None),
+        Some(n) => Ok(Some(one_number(alloc, n)?)),
     }
 }
 
@@ -164,13 +167,20 @@ fn truth_set(alloc: Global, text: &str) -> Result<Option<Spans>, Memory>
     }
 }
 
-fn value_set(alloc: Global, kind: &Kind, text: &str) -> Result<Option<Spans>, Memory>
-    requires { IsReadKind kind.now }
+fn value_set(
+    alloc: Global,
+    names: &NamedRows,
+    target: TypeId,
+    kind: &Kind,
+    text: &str,
+) -> Result<Option<Spans>, Memory>
+    requires read { AreRead names.now.rows.now }
+    requires kind { IsKindOf names.now.rows.now target.0 kind.now }
     ensures { IfOk result (λ s. s ≡ value_set_of kind.now text.now) }
 {
     match kind {
         Kind::Int(_, domain) => number_set(alloc, domain, text),
-        Kind::Enum(_, _) => label_set(alloc, kind, text),
+        Kind::Enum(_, _) => label_set(alloc, names, target, text),
         Kind::Bool(_) => truth_set(alloc, text),
         _ => Ok(None),
     }
@@ -222,38 +232,38 @@ fn type_set(
 
 fn set_by(
     alloc: Global,
-    rows: &[TypeRow],
+    names: &NamedRows,
     sets: &[Spans],
     target: TypeId,
     kind: &Kind,
     test: &Test,
 ) -> Result<Option<Spans>, Memory>
-    requires read { AreRead rows.now }
-    requires sets { sets.now ≡ map (concrete_at_or_under rows.now) (numbers rows.now) }
-    requires kept { IsReadKind kind.now }
-    ensures { IfOk result (λ s. s ≡ set_by_kind rows.now target.0 kind.now test.now) }
+    requires read { AreRead names.now.rows.now }
+    requires sets { sets.now ≡ map (concrete_at_or_under names.now.rows.now) (numbers names.now.rows.now) }
+    requires kind { IsKindOf names.now.rows.now target.0 kind.now }
+    ensures { IfOk result (λ s. s ≡ set_by_kind names.now.rows.now target.0 kind.now test.now) }
 {
     match test {
-        Test::Value(text) => value_set(alloc, kind, text.as_str()),
+        Test::Value(text) => value_set(alloc, names, target, kind, text.as_str()),
         Test::Within(range) => range_set(alloc, kind, *range),
-        Test::Under(kept) => type_set(alloc, rows, sets, target, *kept),
+        Test::Under(kept) => type_set(alloc, names.rows, sets, target, *kept),
     }
 }
 
 /// What a constraint admits of an entry of this type, None exactly where it stands for nothing there.
 pub(crate) fn set_of(
     alloc: Global,
-    rows: &[TypeRow],
+    names: &NamedRows,
     sets: &[Spans],
     target: TypeId,
     test: &Test,
 ) -> Result<Option<Spans>, Memory>
-    requires read { AreRead rows.now }
-    requires sets { sets.now ≡ map (concrete_at_or_under rows.now) (numbers rows.now) }
-    ensures { IfOk result (λ s. s ≡ set_of_test rows.now target.0 test.now) }
+    requires read { AreRead names.now.rows.now }
+    requires sets { sets.now ≡ map (concrete_at_or_under names.now.rows.now) (numbers names.now.rows.now) }
+    ensures { IfOk result (λ s. s ≡ set_of_test names.now.rows.now target.0 test.now) }
 {
-    match row_of(rows, target) {
+    match row_of(names.rows, target) {
         None => Ok(None),
-        Some(row) => set_by(alloc, rows, sets, target, &row.kind, test),
+        Some(row) => set_by(alloc, names, sets, target, &row.kind, test),
     }
 }
