@@ -5,13 +5,7 @@ use Rattle.eds_types.specs.declared.row.Constraint.{Constraint}
 use Rattle.eds_types.specs.declared.row.TypeRow.{TypeRow}
 use Rattle.eds_types.specs.Rows.{Table, numbers}
 use Rattle.eds_constraints.specs.Breaks.{Lists}
-use Rattle.eds_constraints.specs.ConstrainedRows.{constraints_for, row_with, rows_with, constrained}
-
--- rows with the constraints that are given for each
-abbrev pub rows_each : List (List Constraint) → List TypeRow → List TypeRow
-rows_each each [] = []
-rows_each [] (row ∷ rows) = []
-rows_each (own ∷ each) (row ∷ rows) = row_with own row ∷ rows_each each rows
+use Rattle.eds_constraints.specs.ConstrainedRows.{constraints_for, row_with, rows_each, rows_with, constrained}
 
 each_are : (t : Table) (lists : Lists) (n : ℕ) (rows : List TypeRow) → rows_each (map (constraints_for t lists) (range_with_len n (length rows))) rows ≡ rows_with t lists n rows
 each_are t lists n [] = refl

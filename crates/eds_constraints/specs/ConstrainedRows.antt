@@ -68,6 +68,12 @@ kind_with cs (kind.Con c) = kind.Con (record { hidden = c.hidden; constraints = 
 abbrev pub row_with : List Constraint → TypeRow → TypeRow
 row_with cs row = record { name = row.name; base = row.base; kind = kind_with cs row.kind }
 
+-- rows, each with the constraints that are given for it, as far as there are some
+abbrev pub rows_each : List (List Constraint) → List TypeRow → List TypeRow
+rows_each each [] = []
+rows_each [] (row ∷ rows) = []
+rows_each (own ∷ each) (row ∷ rows) = row_with own row ∷ rows_each each rows
+
 -- some rows with their constraints, of which the first has the number n
 abbrev pub rows_with : Table → Lists → ℕ → List TypeRow → List TypeRow
 rows_with t lists n [] = []

@@ -3,7 +3,7 @@
 ghost use Rattle.std.specs.Prelude.{◌≡◌, map, IfOk};
 ghost use Rattle.eds_types.specs.Rows.{number_of_id, numbers};
 ghost use Rattle.eds_constraints.specs.Breaks.{Lists, posed_by};
-ghost use Rattle.eds_constraints.specs.ConstrainedRows.{AreRead, is_on_kind as is_kind_test, constraint_by as constraint_with, constraint_of as constraint_at, constraints_for, kind_with as constrained_kind, row_with as constrained_row, constrained};
+ghost use Rattle.eds_constraints.specs.ConstrainedRows.{AreRead, is_on_kind as is_kind_test, constraint_by as constraint_with, constraint_of as constraint_at, constraints_for, kind_with as constrained_kind, row_with as constrained_row, rows_each, constrained};
 
 use crate::asked::{Aim, Asked, Test};
 use crate::asked_rows::AskedRows;
@@ -100,13 +100,15 @@ fn row_with(constraints: Constraints, row: TypeRow) -> TypeRow
     }
 }
 
-/// The rows with the constraints of their containers, which are given for each type.
+/// The rows with the constraints of their containers, which are given for each type. Where some are given for fewer types, there are
+/// no more rows.
 pub fn constrained_rows(
     alloc: Global,
     rows: TypeRows,
     constraints: Items<Constraints>,
 ) -> Result<TypeRows, Memory>
-    ensures { IfOk result (λ t. (lists : Lists) → constraints ≡ map (constraints_for rows lists) (numbers rows) → t ≡ constrained rows lists) }
+    ensures each { IfOk result (λ t. t ≡ rows_each constraints rows) }
+    ensures constrained { IfOk result (λ t. (lists : Lists) → constraints ≡ map (constraints_for rows lists) (numbers rows) → t ≡ constrained rows lists) }
 {
     let mut whole = Items::new(alloc);
     let mut each = constraints.into_vec().into_iter();
