@@ -97,6 +97,24 @@ def swaps(levels, parameters=()):
     yield interface("Top", [base(f"X{levels}", *((it, ("U4", "U12")[k % 2]) for k, it in enumerate(names)))])
 
 
+def assignments(name, *types):
+    """A component with a variable of the last of these types, and 20,000 assignments of a part of it to itself."""
+    package = sheet(*types)
+    statement = ["Assignment", {"outputVariableRef": f"v.{name}"}, ["VariableRef", {"variableRef": f"v.{name}"}]]
+    variables = ["VariableSet", ["Variable", {"name": "v", "type": types[-1][1]["name"]}]]
+    activities = ["ActivitySet", ["Activity", {"name": "a"}, ["Body", *([statement] * 20000)]]]
+    package[1].append(["ComponentSet", ["Component", {"name": "C"}, ["Implementation", variables, activities]]])
+    return package
+
+
+def chain(count, entries):
+    """Containers in a chain with so many entries each, of which the first has a trailer; all but the last are abstract."""
+    for i in range(count):
+        one = container(f"C{i}", *(entry(f"e{i}_{k}", "U4") for k in range(entries)))
+        one[1].update({"baseType": f"C{i - 1}"} if i else {}, **({"abstract": "true"} if i < count - 1 else {}))
+        yield one if i else [*one, ["TrailerEntryList", entry("last", "U4")]]
+
+
 def text(content):
     if isinstance(content, bytes):
         return content
@@ -144,6 +162,12 @@ def inputs():
     yield "an enumeration whose last label is its first", "check s", {
         "s": sheet(["EnumeratedDataType", {"name": "E"}, ["EnumerationList", *(["Enumeration", {"label": f"L{i % 32766}", "value": str(i)}] for i in range(32767))]])
     }, (1, "refused 14 BadEnumeration at 0:3\n")
+    yield "20,000 assignments to the last of 30,000 entries", "check s", {
+        "s": assignments("e29999", U4, container("V", *(entry(f"e{i}", "U4") for i in range(30000))))
+    }, (0, "accepted types 2 containers 1 interfaces 0 components 1\n")
+    yield "20,000 assignments to the trailer of the first of 16 containers of 2,000 entries", "check s", {
+        "s": assignments("last", U4, *chain(16, 2000))
+    }, (0, "accepted types 17 containers 16 interfaces 0 components 1\n")
     good = "accepted types 2 containers 0 interfaces %d components 0\n"
     yield "500 levels of interfaces that have the one before twice", "check s", {"s": interfaces(*diamonds(500))}, (0, good % 501)
     yield "512 interfaces in one chain", "check s", {"s": interfaces(*(interface(f"X{i}", [base(f"X{i - 1}")] if i else []) for i in range(512)))}, (

@@ -1,4 +1,5 @@
 pub mod Numbering
+pub mod EntryNames
 pub mod Names
 pub mod Sound
 pub mod Stepping

@@ -35,7 +35,7 @@ item_named-map f name_of xs q = ap (λ ns. place_among ns q >>= item_at (map f x
 
 -- ---- the first of a name
 
-place-shift : (k : ℕ) (ns : List (List ℕ)) (q : List ℕ) → place_from (k + 1) ns q ≡ option_map (λ i. i + 1) (place_from k ns q)
+pub place-shift : (k : ℕ) (ns : List (List ℕ)) (q : List ℕ) → place_from (k + 1) ns q ≡ option_map (λ i. i + 1) (place_from k ns q)
 place-shift k [] q = refl
 place-shift k (n ∷ ns) q = go (same n q) refl (place-shift (k + 1) ns q)
   where
@@ -48,7 +48,7 @@ abbrev pub first_by : {A : Type 0} → (A → List ℕ) → List A → List ℕ 
 first_by f [] q = None
 first_by f (x ∷ xs) q = if same (f x) q then Some x else first_by f xs q
 
-one-further : {A : Type 0} (x : A) (xs : List A) (o : Option ℕ) → (option_map (λ i. i + 1) o >>= λ k. slice_get (x ∷ xs) k) ≡ (o >>= λ k. slice_get xs k)
+pub one-further : {A : Type 0} (x : A) (xs : List A) (o : Option ℕ) → (option_map (λ i. i + 1) o >>= λ k. slice_get (x ∷ xs) k) ≡ (o >>= λ k. slice_get xs k)
 one-further x xs None = refl
 one-further x xs (Some k) = let next : k + 1 ≡ suc k = omega arith in ap (slice_get (x ∷ xs)) next
 

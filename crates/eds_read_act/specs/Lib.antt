@@ -3,6 +3,8 @@ pub mod Scopes
 pub mod Numbered
 pub mod Carrying
 pub mod Naming
+pub mod EntryNames
+pub mod FirstPlaces
 pub mod Inside
 pub mod Given
 pub mod Sending

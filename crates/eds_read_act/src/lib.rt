@@ -5,7 +5,8 @@
 //!
 //! 1. [`transaction_texts`] gives the names of its transactions, out of its element.
 //! 2. [`Component::of`] takes what its elements may name: its ends, the heads of its variables and activities, and these names. A
-//!    [`Scope`] puts the tree and the table of types beside them, with `arguments: None`.
+//!    [`Scope`] puts the tree and the table of types beside them, with `arguments: None`; a [`NamedTable`] is made of the table once
+//!    for all components.
 //! 3. [`least_activity_break`], over the elements of its activities in the order of their heads, answers the least break of
 //!    BadReference, TypeMismatch and CallCycle there; [`least_machine_break`], over the elements of its state machines, that of
 //!    BadReference, TypeMismatch, BadMachine and BadTimer.
@@ -21,6 +22,7 @@ mod call_cycle;
 mod carrying;
 mod component;
 mod condition;
+mod entry_names;
 mod event;
 mod fields;
 mod given;
@@ -41,6 +43,7 @@ mod walk;
 
 pub use activity::{least_activity_break, read_activities};
 pub use component::{Component, Head};
+pub use entry_names::NamedTable;
 pub use fields::Fields;
 pub use machine::least_machine_break;
 pub use machine_plan::read_machines;

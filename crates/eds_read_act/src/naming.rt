@@ -2,10 +2,10 @@
 
 ghost use Rattle.std.specs.Prelude.{◌≡◌, ◌≤◌, [], ◌∷◌, Some, IfOk, length, option_map};
 ghost use Rattle.std.specs.Option.{option_copied};
-ghost use Rattle.eds_types.specs.Fields.{part_at};
-ghost use Rattle.eds_read_act.specs.Naming.{names_in, names_after, octets_left, has_name as has_name_of, entry_type as entry_type_of, entry_at as entry_at_place, entry_among as entry_in, entry_named as entry_of, short as short_of, follow as follow_names, follow_if, field_named as field_of, found_in as found_by_text, fields_of};
+ghost use Rattle.eds_read_act.specs.Naming.{names_in, names_after, octets_left, entry_type as entry_type_of, entry_at as entry_at_place, entry_named as entry_of, short as short_of, follow as follow_names, follow_if, field_named as field_of, found_in as found_by_text, fields_of};
 
 use crate::component::Component;
+use crate::entry_names::NamedTable;
 use crate::fields::Fields;
 use eds_base::{Items, Memory, TypeId};
 use eds_types::{EntryPath, Part, TypeTable};
@@ -17,29 +17,6 @@ pub(crate) struct Found {
     pub(crate) at: u16,
     pub(crate) path: EntryPath,
     pub(crate) id: TypeId,
-}
-
-fn has_name(part: &Part, name: &str) -> bool
-    ensures { result ≡ has_name_of name.now (Some part.now) }
-{
-    match part {
-        Part::Plain(own, _) => own.as_str() == name,
-        Part::Fixed(Some(own), _, _) => own.as_str() == name,
-        Part::Fixed(None, _, _) => false,
-        Part::Pad(_) => false,
-        Part::List(own, _, _, _) => own.as_str() == name,
-        Part::Length(own, _, _, _) => own.as_str() == name,
-        Part::Check(own, _, _) => own.as_str() == name,
-    }
-}
-
-fn is_named(table: &TypeTable, at: (TypeId, u16), name: &str) -> bool
-    ensures { result ≡ has_name_of name.now (part_at table.now at) }
-{
-    match table.part_at(at.0, at.1) {
-        None => false,
-        Some(part) => has_name(part, name),
-    }
 }
 
 fn entry_type(part: &Part) -> Option<TypeId>
@@ -63,34 +40,14 @@ fn entry_at(table: &TypeTable, at: (TypeId, u16)) -> Option<((TypeId, u16), Type
     }
 }
 
-// The entry of a name, where the first part of that name at some places is one.
-fn entry_among(
-    table: &TypeTable,
-    name: &str,
-    places: &[(TypeId, u16)],
-) -> Option<((TypeId, u16), TypeId)>
-    ensures { result ≡ entry_in table.now name.now places.now }
+// The entry of a name in a container, where the first part of that name is one.
+fn entry_named(table: &NamedTable, id: TypeId, name: &str) -> Option<((TypeId, u16), TypeId)>
+    ensures { result ≡ entry_of table.now id name.now }
 {
-    let mut rest = places;
-    while let [place, after @ ..] = rest {
-        if is_named(table, *place, name) {
-            return entry_at(table, *place);
-        }
-        rest = after;
+    match table.first_named(id, name) {
+        None => None,
+        Some(at) => entry_at(table.types(), at),
     }
-    None
-}
-
-fn entry_named(
-    alloc: Global,
-    table: &TypeTable,
-    id: TypeId,
-    name: &str,
-) -> Result<Option<((TypeId, u16), TypeId)>, Memory>
-    ensures { IfOk result (λ e. e ≡ entry_of table.now id name.now) }
-{
-    let sequence = table.sequence_of(alloc, id)?;
-    Ok(entry_among(table, name, sequence.as_slice()))
 }
 
 /// A number as it stands in a plan.
@@ -112,19 +69,14 @@ fn first_name(text: &str) -> (&str, Option<&str>)
 }
 
 // From what was found on, by the names of a text.
-fn follow(
-    alloc: Global,
-    table: &TypeTable,
-    found: Found,
-    names: &str,
-) -> Result<Option<Found>, Memory>
+fn follow(table: &NamedTable, found: Found, names: &str) -> Result<Option<Found>, Memory>
     ensures { IfOk result (λ f. f ≡ follow_names table.now found (names_in names.now)) }
 {
     let mut found = found;
     let mut rest = Some(names);
     while let Some(text) = rest {
         let (name, after) = first_name(text);
-        match entry_named(alloc, table, found.id, name)? {
+        match entry_named(table, found.id, name) {
             None => return Ok(None),
             Some((place, id)) => {
                 found.path.push(place)?;
@@ -168,8 +120,7 @@ pub(crate) fn field_named(alloc: Global, fields: &Fields, name: &str) -> Option<
 }
 
 fn found_behind(
-    alloc: Global,
-    table: &TypeTable,
+    table: &NamedTable,
     found: Option<Found>,
     rest: Option<&str>,
 ) -> Result<Option<Found>, Memory>
@@ -179,7 +130,7 @@ fn found_behind(
         None => Ok(None),
         Some(found) => match rest {
             None => Ok(Some(found)),
-            Some(names) => follow(alloc, table, found, names),
+            Some(names) => follow(table, found, names),
         },
     }
 }
@@ -187,7 +138,7 @@ fn found_behind(
 /// What a text finds among variables.
 pub(crate) fn variable_in(
     alloc: Global,
-    table: &TypeTable,
+    table: &NamedTable,
     component: &Component,
     text: &str,
 ) -> Result<Option<Found>, Memory>
@@ -195,13 +146,13 @@ pub(crate) fn variable_in(
 {
     let (name, rest) = first_name(text);
     let found = variable_named(alloc, component, name);
-    found_behind(alloc, table, found, rest)
+    found_behind(table, found, rest)
 }
 
 /// What a text finds among fields.
 pub(crate) fn field_in(
     alloc: Global,
-    table: &TypeTable,
+    table: &NamedTable,
     fields: &Fields,
     text: &str,
 ) -> Result<Option<Found>, Memory>
@@ -209,5 +160,5 @@ pub(crate) fn field_in(
 {
     let (name, rest) = first_name(text);
     let found = field_named(alloc, fields, name);
-    found_behind(alloc, table, found, rest)
+    found_behind(table, found, rest)
 }

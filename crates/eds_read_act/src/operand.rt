@@ -206,13 +206,13 @@ pub(crate) fn operand_fits(
     match sort_at(scope.tree, node) {
         ActivitySort::Value => is_literal(
             alloc,
-            scope.table,
+            scope.table.types(),
             wanted,
             text_at(scope.tree, node, "value"),
         ),
         _ => {
             let found = found_at(alloc, scope, node)?;
-            Ok(found_fits(scope.table, wanted, found))
+            Ok(found_fits(scope.table.types(), wanted, found))
         }
     }
 }
@@ -256,7 +256,7 @@ pub(crate) fn operand_at(
     match sort_at(scope.tree, node) {
         ActivitySort::Value => {
             let text = text_at(scope.tree, node, "value");
-            let value = literal(alloc, scope.table, wanted, text)?;
+            let value = literal(alloc, scope.table.types(), wanted, text)?;
             Ok(literal_operand(value))
         }
         ActivitySort::VariableRef => {

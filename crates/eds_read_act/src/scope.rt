@@ -5,16 +5,16 @@ ghost use Rattle.std.specs.Option.{option_copied};
 ghost use Rattle.eds_read_act.specs.Scopes.{scope_of, with_known};
 
 use crate::component::Component;
+use crate::entry_names::NamedTable;
 use crate::fields::Fields;
 use eds_tree::Tree;
-use eds_types::TypeTable;
 
 /// The tree that holds the elements, the types, and what the component has; and the arguments that an `ArgumentRef` may name, where
 /// these are known.
 #[derive(Clone, Copy)]
 pub struct Scope<'a> {
     pub tree: &'a Tree,
-    pub table: &'a TypeTable,
+    pub table: &'a NamedTable<'a>,
     pub component: &'a Component<'a>,
     pub arguments: Option<&'a Fields>,
 }

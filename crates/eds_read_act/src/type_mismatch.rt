@@ -158,7 +158,7 @@ fn is_order(relation: Relation) -> bool
 fn is_ordered(scope: &Scope, relation: Relation, id: TypeId) -> bool
     ensures { result ≡ ordered_in (scope_of scope.now) relation id }
 {
-    !is_order(relation) || is_number(scope.table, id)
+    !is_order(relation) || is_number(scope.table.types(), id)
 }
 
 fn compares(
@@ -213,7 +213,7 @@ fn is_number_place(scope: &Scope, found: Option<Found>) -> bool
 {
     match found {
         None => true,
-        Some(found) => is_number(scope.table, found.id),
+        Some(found) => is_number(scope.table.types(), found.id),
     }
 }
 
