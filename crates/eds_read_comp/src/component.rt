@@ -23,7 +23,7 @@ use crate::variable::{variable_nodes, variables_of};
 use eds_base::{Items, Memory, Refusal, Text};
 use eds_plan::{Activity, ComponentPlan, EndPlan, Machine, MapPlan, VarPlan};
 use eds_read_act::{
-    Component, Head, Scope, VariableHead, least_activity_break, least_machine_break,
+    Component, Head, NamedTable, Scope, VariableHead, least_activity_break, least_machine_break,
     read_activities, read_machines, transaction_texts,
 };
 use eds_tree::Tree;
@@ -34,7 +34,7 @@ use std::alloc::Global;
 #[derive(Clone, Copy)]
 pub(crate) struct Sheet<'a> {
     pub(crate) faces: FaceSheet<'a>,
-    pub(crate) table: &'a TypeTable,
+    pub(crate) table: &'a NamedTable<'a>,
 }
 
 /// What the elements of a component may name: its ends, variables and activities, and the names of its transactions.
@@ -65,7 +65,11 @@ fn named_by(alloc: Global, sheet: &Sheet, file: &File, node: u32) -> Result<Name
 }
 
 // The scope of what the elements of a component name.
-fn scope_over<'s>(tree: &'s Tree, table: &'s TypeTable, component: &'s Component<'s>) -> Scope<'s>
+fn scope_over<'s>(
+    tree: &'s Tree,
+    table: &'s NamedTable<'s>,
+    component: &'s Component<'s>,
+) -> Scope<'s>
     ensures { scope_of result ≡ record { tree = tree.now; table = table.now; ends = component.now.ends.now; variables = component.now.variables.now; activities = component.now.activities.now; transactions = component.now.transactions; arguments = None } }
 {
     Scope {
@@ -246,7 +250,7 @@ pub(crate) fn component_plan(
 {
     let named = named_by(alloc, sheet, file, node)?;
     let inner = inner_of(alloc, sheet, file, &named, node)?;
-    let variables = variables_in(alloc, sheet.table, file, node)?;
+    let variables = variables_in(alloc, sheet.table.types(), file, node)?;
     let name = Text::of(alloc, name)?;
     let Inner {
         maps,

@@ -19,6 +19,7 @@ use eds_fits::components_fit;
 use eds_generic::{bases_of, judge_uses, read_faces};
 use eds_names::{Declared, Space};
 use eds_plan::Plan;
+use eds_read_act::NamedTable;
 use eds_tree::{Tree, Trees};
 use eds_types::TypeTable;
 use std::alloc::Global;
@@ -165,7 +166,7 @@ fn fitting_plan(alloc: Global, sheet: &Sheet, space: &Space) -> Result<Plan, Mem
     ensures fits { IfOk result (λ p. ComponentsFit sheet.now.table.now p) }
 {
     let plan = plan_of(alloc, sheet, space)?;
-    fitting(alloc, sheet.table, plan)
+    fitting(alloc, sheet.table.types(), plan)
 }
 
 /// The plan of all components, or the first break of the rules on variables, parameter maps, activities and state machines.
@@ -174,12 +175,31 @@ fn read_inner(alloc: Global, sheet: &Sheet, space: &Space) -> Result<Plan, Fail<
     ensures said { IfOk result (λ p. map seen_component p ≡ flat_map (component_of sheet.now.faces.trees.now space.now sheet.now.table.now sheet.now.faces.faces.now) (comps_in space.now.declared)) }
     ensures fits { IfOk result (λ p. ComponentsFit sheet.now.table.now p) }
 {
-    let unvalued = least_unvalued_of_all(alloc, sheet.table, sheet.faces.trees, space)?;
+    let unvalued = least_unvalued_of_all(alloc, sheet.table.types(), sheet.faces.trees, space)?;
     let other = least_break_of_all(alloc, sheet, space)?;
     match Refusal::first(unvalued, other) {
         Some(refusal) => Err(Fail::Named(refusal)),
         None => Ok(fitting_plan(alloc, sheet, space)?),
     }
+}
+
+// The same, with the names of all entries put in an index once for the whole sheet.
+fn read_with_names(
+    alloc: Global,
+    faces: &FaceSheet,
+    table: &TypeTable,
+    space: &Space,
+) -> Result<Plan, Fail<Refusal>>
+    ensures answers { WhereTold table.now (λ firsts. Answers seen_plan result (inner_read firsts faces.now.trees.now space.now table.now faces.now.faces.now)) }
+    ensures said { IfOk result (λ p. map seen_component p ≡ flat_map (component_of faces.now.trees.now space.now table.now faces.now.faces.now) (comps_in space.now.declared)) }
+    ensures fits { IfOk result (λ p. ComponentsFit table.now p) }
+{
+    let table = NamedTable::of(alloc, table)?;
+    let sheet = Sheet {
+        faces: *faces,
+        table: &table,
+    };
+    read_inner(alloc, &sheet, space)
 }
 
 /// The plan of all components of a sheet, in the order of files and elements, or the first rule that its interfaces and components
@@ -203,14 +223,11 @@ pub fn read_components<'x>(
     match judge_uses(alloc, &faces, &types, &uses)? {
         Some(refusal) => Err(Fail::Named(refusal)),
         None => {
-            let sheet = Sheet {
-                faces: FaceSheet {
-                    trees: trees.as_slice(),
-                    faces: &faces,
-                },
-                table,
+            let faces = FaceSheet {
+                trees: trees.as_slice(),
+                faces: &faces,
             };
-            read_inner(alloc, &sheet, space)
+            read_with_names(alloc, &faces, table, space)
         }
     }
 }

@@ -21,13 +21,13 @@ returns-clause-answers c =
     judged c.args.trees.now c.args.space.now c.args.table.now c.deref.result.now c.deref-2.result.now c.deref-3.result.now c.in_ok-refusal.field-0
     (c.deref.ensures.value ∙ c.in_ok-faces.ensures ∙ ap (λ ts. faces_of ts c.args.space.now) c.as_slice.ensures) (c.deref-2.ensures.value ∙ c.in_ok-types.ensures)
     (c.deref-3.ensures.value ∙ c.in_ok-uses.ensures ∙ ap (λ ts. all_uses ts c.args.space.now) c.as_slice-2.ensures) c.in_ok-refusal.ensures in
-    answered c.args.trees.now c.as_slice-in-None.result.now c.args.space.now c.args.table.now c.deref-in-None.result.now c.as_slice-in-None.ensures c.read_inner.result
-    (c.deref-in-None.ensures.value ∙ c.in_ok-faces.ensures ∙ ap (λ ts. faces_of ts c.args.space.now) c.as_slice.ensures) (sym broken ∙ c.in-None.is) c.read_inner.ensures.answers
+    answered c.args.trees.now c.as_slice-in-None.result.now c.args.space.now c.args.table.now c.deref-in-None.result.now c.as_slice-in-None.ensures c.read_with_names.result
+    (c.deref-in-None.ensures.value ∙ c.in_ok-faces.ensures ∙ ap (λ ts. faces_of ts c.args.space.now) c.as_slice.ensures) (sym broken ∙ c.in-None.is) c.read_with_names.ensures.answers
 
 pub returns-clause-together : goal.returns-clause-together
 returns-clause-together c =
     let one : c.deref.result.now ≡ c.deref-in-None.result.now = c.deref.ensures.value ∙ sym c.deref-in-None.ensures.value in
     let none : least (breaks_with_uses c.deref-in-None.result.now c.deref-2.result.now c.deref-3.result.now) ≡ None = ap (λ faces. least (breaks_with_uses faces c.deref-2.result.now c.deref-3.result.now)) (sym one) ∙ sym c.in_ok-refusal.ensures ∙ c.in-None.is in
-    together c.args.trees.now c.as_slice-in-None.result.now c.args.space.now c.args.table.now c.deref-in-None.result.now c.as_slice-in-None.ensures c.deref-2.result.now c.deref-3.result.now c.read_inner.result
+    together c.args.trees.now c.as_slice-in-None.result.now c.args.space.now c.args.table.now c.deref-in-None.result.now c.as_slice-in-None.ensures c.deref-2.result.now c.deref-3.result.now c.read_with_names.result
     (c.deref-3.ensures.value ∙ c.in_ok-uses.ensures ∙ ap (λ ts. all_uses ts c.args.space.now) (c.as_slice-2.ensures ∙ sym c.as_slice-in-None.ensures))
-    (uses-clean c.deref-in-None.result.now c.deref-2.result.now c.deref-3.result.now none).1 c.read_inner.ensures.said c.read_inner.ensures.fits
+    (uses-clean c.deref-in-None.result.now c.deref-2.result.now c.deref-3.result.now none).1 c.read_with_names.ensures.said c.read_with_names.ensures.fits
