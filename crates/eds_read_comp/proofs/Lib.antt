@@ -9,3 +9,4 @@ pub mod SameEnds
 pub mod Putting
 pub mod Scoping
 pub mod Staging
+pub mod Alike

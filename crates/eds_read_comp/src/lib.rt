@@ -8,6 +8,7 @@ mod faces;
 mod file;
 mod first_value;
 mod implementation;
+pub mod law;
 mod parameter_map;
 mod plan;
 mod variable;
