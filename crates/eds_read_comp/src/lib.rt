@@ -10,6 +10,7 @@ mod first_value;
 mod implementation;
 mod parameter_map;
 mod plan;
+mod sharing;
 mod variable;
 
 pub use faces::check_ends;
