@@ -2,6 +2,7 @@ pub mod MapLaws
 pub mod Judged
 pub mod Firsts
 pub mod Lists
+pub mod SharedUses
 pub mod Growing
 pub mod EqualMaps
 pub mod SameMembers

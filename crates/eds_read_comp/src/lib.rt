@@ -11,6 +11,7 @@ mod implementation;
 pub mod law;
 mod parameter_map;
 mod plan;
+mod sharing;
 mod variable;
 
 pub use faces::check_ends;
