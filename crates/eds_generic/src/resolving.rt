@@ -18,7 +18,7 @@ use crate::rules::{
     Asked, Clean, copied, keeping, keeping_where, least_generic_base, least_unknown, least_unmapped,
 };
 use eds_base::{FaceId, Fail, Items, Memory, Place, Refusal, Rule, Text, TypeId};
-use eds_plan::{Instance, Member, TypeMap};
+use eds_plan::{Instance, Member, Members, TypeMap};
 use std::alloc::Global;
 
 fn limit_at(alloc: Global, at: Place) -> Result<Refusal, Memory>
@@ -113,10 +113,11 @@ fn resolve_acyclic(alloc: Global, asked: &Asked) -> Result<Instance, Fail<Refusa
         Some(refusal) => Err(Fail::Named(refusal)),
         None => {
             let map = copied_map(alloc, asked.given)?;
+            let shared = Members::new(alloc, Items::from_vec(members))?;
             Ok(Instance {
                 face: asked.face,
                 map,
-                members: Items::from_vec(members),
+                members: shared,
             })
         }
     }

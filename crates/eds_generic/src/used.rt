@@ -16,7 +16,7 @@ use crate::members::{members, under};
 use crate::resolving::{copied_map, least_here};
 use crate::rules::{Asked, Clean};
 use eds_base::{FaceId, Items, Memory, Place, Refusal, TypeId};
-use eds_plan::{Instance, TypeMap};
+use eds_plan::{Instance, Members, TypeMap};
 use std::alloc::Global;
 
 /// How many bases, generic names, members and arguments may be met for all that is used: past these no memory is found.
@@ -124,9 +124,10 @@ pub fn instance(alloc: Global, faces: &[Face], used: &FaceUse) -> Result<Instanc
         Err(_) => return Err(Memory),
     };
     let map = copied_map(alloc, given)?;
+    let shared = Members::new(alloc, Items::from_vec(members))?;
     Ok(Instance {
         face: used.face,
         map,
-        members: Items::from_vec(members),
+        members: shared,
     })
 }

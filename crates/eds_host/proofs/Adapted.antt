@@ -39,13 +39,13 @@ component_has P [] comp h lt = absurd (omega (arith, lt))
 component_has P (c ∷ plan) zero h lt = h.0
 component_has P (c ∷ plan) (suc comp) h lt = component_has P plan comp h.1 (omega (arith, lt))
 
-component_is : (plan : List ComponentPlan) (comp : ℕ) → comp < length plan → slice_get plan comp ≡ Some (component_at plan comp)
+pub component_is : (plan : List ComponentPlan) (comp : ℕ) → comp < length plan → slice_get plan comp ≡ Some (component_at plan comp)
 component_is [] comp lt = absurd (omega (arith, lt))
 component_is (c ∷ plan) zero lt = refl
 component_is (c ∷ plan) (suc comp) lt = component_is plan comp (omega (arith, lt))
 
 -- an end of a component of the plan
-end_is : (plan : List ComponentPlan) (comp : ℕ) (e : End) → comp < length plan → e.comp.0 ≡ comp → end_at plan e ≡ slice_get (component_at plan comp).ends e.face
+pub end_is : (plan : List ComponentPlan) (comp : ℕ) (e : End) → comp < length plan → e.comp.0 ≡ comp → end_at plan e ≡ slice_get (component_at plan comp).ends e.face
 end_is plan comp e lt same = ap (λ (o : Option ComponentPlan). o >>= λ c. slice_get c.ends e.face) (ap (slice_get plan) same ∙ component_is plan comp lt)
 
 -- ---- states
@@ -153,7 +153,7 @@ reacted_is t plan comp now e s s' old new is w m =
 
 -- ---- what is sent
 
-all_sent : (t : Table) (plan : List ComponentPlan) (comp : ℕ) (ss : List Sent) → comp < length plan → AllByRecursion (MayLeave t (component_at plan comp) comp) ss → AllByRecursion (IsSent t plan) ss
+pub all_sent : (t : Table) (plan : List ComponentPlan) (comp : ℕ) (ss : List Sent) → comp < length plan → AllByRecursion (MayLeave t (component_at plan comp) comp) ss → AllByRecursion (IsSent t plan) ss
 all_sent t plan comp [] lt h = tt
 all_sent t plan comp (primitive k face number way o vs ∷ ss) lt h =
     let s = h.0.1 in (

@@ -13,7 +13,7 @@ use Rattle.eds_host.specs.Settings.{world}
 use Rattle.eds_host.specs.Systems.{System, StateNow, World, Happening, leaving}
 use Rattle.eds_host.proofs.Tied.{dues_length, dues_more, set_last}
 
-last_or : {A : Type 0} (xs : List A) (i : ℕ) (s x : A) → slice_get (xs ++ s ∷ []) i ≡ Some x → ((i ≡ length xs) × (s ≡ x)) ⊎ (slice_get xs i ≡ Some x)
+pub last_or : {A : Type 0} (xs : List A) (i : ℕ) (s x : A) → slice_get (xs ++ s ∷ []) i ≡ Some x → ((i ≡ length xs) × (s ≡ x)) ⊎ (slice_get xs i ≡ Some x)
 last_or [] zero s x e = inl (refl, cc)
 last_or [] (suc i) s x e = absurd cc
 last_or (y ∷ ys) zero s x e = inr e

@@ -27,3 +27,4 @@ pub mod Clock
 pub mod InTurn
 pub mod Marked
 pub mod Alike
+pub mod Sounding

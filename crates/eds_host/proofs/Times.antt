@@ -13,7 +13,7 @@ got : {A : Type 0} (a b : A) → Some a ≡ Some b → a ≡ b
 got a b e = cc
 
 -- what stands in a list after one item was set: that item, where there was one, or what stood there
-set_or : {A : Type 0} (xs : List A) (c i : ℕ) (s x : A) → slice_get (slice_set xs c s) i ≡ Some x → ((i ≡ c) × (s ≡ x) × (y : A) × (slice_get xs c ≡ Some y)) ⊎ (slice_get xs i ≡ Some x)
+pub set_or : {A : Type 0} (xs : List A) (c i : ℕ) (s x : A) → slice_get (slice_set xs c s) i ≡ Some x → ((i ≡ c) × (s ≡ x) × (y : A) × (slice_get xs c ≡ Some y)) ⊎ (slice_get xs i ≡ Some x)
 set_or [] c i s x e = inr e
 set_or (y ∷ ys) zero zero s x e = inl (refl, got s x e, y, refl)
 set_or (y ∷ ys) zero (suc i) s x e = inr e
@@ -21,7 +21,7 @@ set_or (y ∷ ys) (suc c) zero s x e = inr e
 set_or (y ∷ ys) (suc c) (suc i) s x e = elim (set_or ys c i s x e) [ inl h ↦ inl (ap suc h.0, h.1, h.2, h.3) | inr h ↦ inr h ]
 
 -- what has come was due
-come : (until : Option ℕ) (d : Option Due) (x : Due) → has_come until d ≡ Some x → d ≡ Some x
+pub come : (until : Option ℕ) (d : Option Due) (x : Due) → has_come until d ≡ Some x → d ≡ Some x
 come None d x e = absurd cc
 come (Some u) None x e = absurd cc
 come (Some u) (Some y) x e = go (nat_le y.moment u) e

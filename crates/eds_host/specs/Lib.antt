@@ -14,3 +14,4 @@ pub mod Hosts
 pub mod Resting
 pub mod Arguments
 pub mod Alike
+pub mod Worlds

@@ -3,8 +3,10 @@
 ghost use Rattle.eds_host.specs.Alike.{AlikeReadings, AlikeRuns, AlikeSystems, AlikeWires};
 ghost use Rattle.eds_host.specs.Hosts.{ComponentsArePunctual, FirstMayBeHandled, FramesHaveOneOutcome, LinesTakeTheirTime, PlansReadOne, RunsGoOn, RunsHaveOneOutcome, RunsJoin, TimersFireOnce, UnnamedEndsAreOutside};
 ghost use Rattle.eds_host.specs.Laws.{CoursesAreChains, CoursesGoOnOrStorm, EachIsDelivered, NoneIsLate, TicksAdd, TimeGoesOn, TimersAreOnTime};
+ghost use Rattle.eds_host.specs.Worlds.{LinesHaveCourses, LinesKeepSound};
 
 use eds_overlap::law::one_outcome;
+use eds_types::packs::packed_sizes;
 
 /// A tick is two ticks of the same time together, unless it is a storm.
 pub fn ticks_add()
@@ -85,3 +87,14 @@ pub fn alike_plans_run_alike()
     ensures readings { AlikeReadings }
     ensures runs { AlikeRuns }
 {}
+
+/// Where a plan fits, each line that may come has a course. After it all variables have values that pack, and what is still to be
+/// delivered may arrive; and each primitive that left the run goes the way that leaves at its end, with the values that its
+/// member carries so.
+pub fn lines_keep_sound()
+    ensures sound { LinesKeepSound }
+    ensures some { LinesHaveCourses }
+{
+    packed_sizes();
+    one_outcome();
+}

@@ -35,7 +35,7 @@ use Rattle.eds_act.proofs.Leaving.{activities_send_well, all_append}
 use Rattle.eds_machine.specs.declared.event.Event.{Event}
 use Rattle.eds_machine.specs.declared.event.Event.TheVariants as event
 use Rattle.eds_machine.specs.Laws.{ReactionsSendWell, StartsSendWell}
-use Rattle.eds_machine.specs.Reactions.{Reacting, standing, settles, taken, at_entry, at_exit, acts, moves, goes_or_stays, machine_reacts, machines_react, map_reacts, mapped, mapped_by, maps_to, is_required, required_end, replies, fires, fresh, reacts, starts, trigger_of}
+use Rattle.eds_machine.specs.Reactions.{Reacting, standing, settles, taken, at_entry, at_exit, acts, moves, goes_or_stays, machine_reacts, machines_react, map_reacts, mapped, mapped_by, maps_to, is_required, required_end, replies, fires, fresh, reacts, receives, starts, trigger_of}
 use Rattle.eds_machine.proofs.MapLaws.{found_fits}
 
 map_at : (xs : List VarPlan) (i : ℕ) (x : VarPlan) → slice_get xs i ≡ Some x → slice_get (map (λ (y : VarPlan). y.id.0) xs) i ≡ Some x.id.0
@@ -149,14 +149,16 @@ module _ (packs : ℕ → Plain → Bool) (t : Table) (c : ComponentPlan) (comp 
 
   -- ---- events
 
-  fires_leaves : (now i : ℕ) (m : Option Machine) (r : Reacting) → slice_get c.machines i ≡ m → MayAllLeave t c comp r.world → MayAllLeave t c comp (fires packs t c now i m r).world
+  pub fires_leaves : (now i : ℕ) (m : Option Machine) (r : Reacting) → slice_get c.machines i ≡ m → MayAllLeave t c comp r.world → MayAllLeave t c comp (fires packs t c now i m r).world
   fires_leaves now i None r is k = k
   fires_leaves now i (Some machine) r is k = machine_leaves now (trigger.Timer (now - (standing r.machines i).entered)) [] i machine r (slice_get_within c.machines i machine is) k
 
+  -- something is received
+  pub receives_leaves : (now face number : ℕ) (o : Op) (args : List Plain) (r : Reacting) → AllConform t (variable_types c) r.world.variables → MayAllLeave t c comp r.world → MayAllLeave t c comp (receives packs t c now face number o args r).world
+  receives_leaves now face number o args r all k = all_leave now (trigger_of o face number) args (map_reacts c face number o args r) (map_leaves face number o args r all k)
+
   reacts_leaves : (now : ℕ) (e : Event) (r : Reacting) → AllConform t (variable_types c) r.world.variables → MayAllLeave t c comp r.world → MayAllLeave t c comp (reacts packs t c now e r).world
-  reacts_leaves now (event.Prim p) r all k =
-      all_leave now (trigger_of p.op p.end.face p.member) (map plain p.arguments) (map_reacts c p.end.face p.member p.op (map plain p.arguments) r)
-      (map_leaves p.end.face p.member p.op (map plain p.arguments) r all k)
+  reacts_leaves now (event.Prim p) r all k = receives_leaves now p.end.face p.member p.op (map plain p.arguments) r all k
   reacts_leaves now (event.Timer i) r all k = fires_leaves now i (slice_get c.machines i) r refl k
 
   starts_leaves : MayAllLeave t c comp (starts packs t c comp []).world

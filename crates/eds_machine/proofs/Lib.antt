@@ -11,3 +11,4 @@ pub mod Leaving
 pub mod Punctual
 pub mod MachineFits
 pub mod Alike
+pub mod KeptValues

@@ -69,7 +69,7 @@ module _ (t : Table) (c : ComponentPlan) where
   stored_conforms op.Val way (Some (member.Parameter name id read_only)) x (v ∷ vs) vars no_command no_get same h all = set_conforms x id.0 v vars (λ y at. ap (λ (k : TypeId). k.0) (same name id read_only refl y at)) h.0 all
 
   -- what a map makes of a primitive
-  mapped_conforms : (required : Bool) (o : Op) (way : Way) (e : Option Member) (face number x : ℕ) (args : List Plain) (r : Reacting) → ((name : List ℕ) (id : TypeId) (read_only : Bool) → e ≡ Some (member.Parameter name id read_only) → (y : VarPlan) → slice_get c.variables x ≡ Some y → y.id ≡ id) → AllConform t (carried o way e) args → AllConform t (variable_types c) r.world.variables → AllConform t (variable_types c) (mapped required o args face number x r).world.variables
+  pub mapped_conforms : (required : Bool) (o : Op) (way : Way) (e : Option Member) (face number x : ℕ) (args : List Plain) (r : Reacting) → ((name : List ℕ) (id : TypeId) (read_only : Bool) → e ≡ Some (member.Parameter name id read_only) → (y : VarPlan) → slice_get c.variables x ≡ Some y → y.id ≡ id) → AllConform t (carried o way e) args → AllConform t (variable_types c) r.world.variables → AllConform t (variable_types c) (mapped required o args face number x r).world.variables
   mapped_conforms true op.Command way e face number x args r same h all = all
   mapped_conforms false op.Command way e face number x args r same h all = all
   mapped_conforms false op.Get way e face number x args r same h all = all
@@ -89,7 +89,7 @@ module _ (t : Table) (c : ComponentPlan) where
       go false p f rest = rest f
 
   -- the parameter of the map has the type of its variable
-  mapped_type : (m : MapPlan) (e : EndPlan) (number : ℕ) → MapFits c m → Some e ≡ slice_get c.ends m.face → m.member ≡ number → (name : List ℕ) (id : TypeId) (read_only : Bool) → slice_get e.instance.members number ≡ Some (member.Parameter name id read_only) → (y : VarPlan) → slice_get c.variables m.variable ≡ Some y → y.id ≡ id
+  pub mapped_type : (m : MapPlan) (e : EndPlan) (number : ℕ) → MapFits c m → Some e ≡ slice_get c.ends m.face → m.member ≡ number → (name : List ℕ) (id : TypeId) (read_only : Bool) → slice_get e.instance.members number ≡ Some (member.Parameter name id read_only) → (y : VarPlan) → slice_get c.variables m.variable ≡ Some y → y.id ≡ id
   mapped_type m e number fits at same name id read_only is y there =
       let end : e ≡ fits.end = let f = at ∙ fits.end_is in cc in
       let own : Some (member.Parameter fits.name fits.id fits.read_only) ≡ Some (member.Parameter name id read_only) =

@@ -1,6 +1,7 @@
 -- Whether two instances are one interface under equal maps.
-use Rattle.std.specs.Prelude.{ℕ, List, [], ◌∷◌, Bool, true, false, ◌&&◌, ◌==◌, if◌then◌else◌, Option, Some, None}
+use Rattle.std.specs.Prelude.{ℕ, List, [], ◌∷◌, map, Bool, true, false, ◌&&◌, ◌==◌, if◌then◌else◌, Option, Some, None}
 use Rattle.eds_base.specs.Reading.{same}
+use Rattle.eds_base.specs.declared.ids.FaceId.{FaceId}
 use Rattle.eds_base.specs.declared.ids.TypeId.{TypeId}
 use Rattle.eds_plan.specs.declared.instance.Instance.{Instance}
 
@@ -28,3 +29,7 @@ same_map m n = agrees m n m && agrees m n n
 -- one interface under equal maps
 abbrev pub same_interface : Instance → Instance → Bool
 same_interface a b = a.face.0 == b.face.0 && same_map a.map b.map
+
+-- the number of an interface, and those of the types that a map has, in its order
+abbrev pub numbers_under : FaceId → List (List ℕ × TypeId) → List ℕ
+numbers_under face given = face.0 ∷ map (λ (p : List ℕ × TypeId). (p.1).0) given

@@ -7,5 +7,6 @@ pub mod Over
 pub mod Planning
 pub mod Giving
 pub mod Carried
+pub mod Sharing
 pub mod Arriving
 pub mod Transacting

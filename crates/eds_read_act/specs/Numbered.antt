@@ -20,3 +20,8 @@ item_at xs k = option_map (λ x. (k, x)) (slice_get xs k)
 -- the first item of a name, with its number
 abbrev pub item_named : {A : Type 0} → (A → List ℕ) → List A → List ℕ → Option (ℕ × A)
 item_named name_of xs name = place_among (map name_of xs) name >>= item_at xs
+
+-- the item of a number, if one is given
+abbrev pub at_number : {A : Type 0} → List A → Option ℕ → Option A
+at_number xs None = None
+at_number xs (Some k) = slice_get xs k

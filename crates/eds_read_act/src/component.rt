@@ -9,12 +9,12 @@ ghost use Rattle.eds_plan.specs.Carried.{leaving, arriving};
 ghost use Rattle.eds_read_act.specs.Carrying.{end_fields, fields_at};
 ghost use Rattle.eds_read_act.specs.Numbered.{item_named};
 
-use crate::carrying::{received_at_ends, sent_at_ends};
+use crate::carrying::carried_at_ends;
 use crate::fields::Fields;
 use crate::variable::VariableHead;
 use eds_base::{Items, Memory, Text};
 use eds_names::NameList;
-use eds_plan::EndPlan;
+use eds_plan::{EndPlan, SharedItems};
 use std::alloc::Global;
 
 /// The name and the arguments of an activity.
@@ -35,8 +35,8 @@ pub struct Component<'a> {
     end_names: NameList,
     variable_names: NameList,
     activity_names: NameList,
-    sent: Items<Items<Fields>>,
-    received: Items<Items<Fields>>,
+    sent: Items<SharedItems<Fields>>,
+    received: Items<SharedItems<Fields>>,
     ghost ends_named: { end_names ≡ map (λ (e : end_type). e.name) ends.now },
     ghost variables_named: { variable_names ≡ map (λ (v : variable_type). v.name) variables.now },
     ghost activities_named: { activity_names ≡ map (λ (h : head_type). h.name) activities.now },
@@ -85,7 +85,7 @@ fn transaction_names(alloc: Global, texts: &[Text]) -> Result<NameList, Memory>
 }
 
 // The arguments that a member carries, out of those of all members of its end.
-fn fields_of(fields: &Items<Fields>, member: usize) -> Option<&Fields>
+fn fields_of(fields: &SharedItems<Fields>, member: usize) -> Option<&Fields>
     ensures { option_copied result ≡ slice_get fields.now member }
 {
     fields.get(member)
@@ -109,8 +109,7 @@ impl<'a> Component<'a> {
         let end_names = end_names(alloc, ends)?;
         let variable_names = variable_names(alloc, variables)?;
         let activity_names = activity_names(alloc, activities)?;
-        let sent = sent_at_ends(alloc, ends)?;
-        let received = received_at_ends(alloc, ends)?;
+        let carried = carried_at_ends(alloc, ends)?;
         Ok(Component {
             ends,
             variables,
@@ -119,8 +118,8 @@ impl<'a> Component<'a> {
             end_names,
             variable_names,
             activity_names,
-            sent,
-            received,
+            sent: carried.sent,
+            received: carried.received,
         })
     }
 

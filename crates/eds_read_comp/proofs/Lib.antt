@@ -2,6 +2,7 @@ pub mod MapLaws
 pub mod Judged
 pub mod Firsts
 pub mod Lists
+pub mod SharedUses
 pub mod Growing
 pub mod EqualMaps
 pub mod SameMembers
@@ -9,3 +10,4 @@ pub mod SameEnds
 pub mod Putting
 pub mod Scoping
 pub mod Staging
+pub mod Alike

@@ -30,7 +30,7 @@ use Rattle.eds_generic.proofs.Judging.{reached-next}
 use Rattle.eds_read_comp.specs.declared.end.EndElement.{EndElement}
 use Rattle.eds_read_comp.specs.EndPlans.{end_plan}
 use Rattle.eds_read_comp.specs.Ends.{use_at, uses_of, end_elements}
-use Rattle.eds_read_comp.specs.Plans.{SeenComponent, seen_component, component_by, component_of}
+use Rattle.eds_read_comp.specs.Plans.{SaidComponent, said_component, component_by, component_of}
 use Rattle.eds_read_comp.specs.Uses.{uses_by, uses_at}
 use Rattle.eds_read_comp.proofs.Lists.{append-none, map-none, flat-none, all-apart, all-joined, all-of, all-mapped, all-unmapped}
 use Rattle.eds_read_comp.proofs.SameMembers.{under-same}
@@ -111,23 +111,23 @@ module _ (trees : List (List Node)) (names : Names) (table : Table) (faces : Lis
       (end_elements t n)
       (all-unmapped (λ (e : EndElement). use_breaks faces types (use_at t names file e.node) ≡ []) (λ u. use_breaks faces types u ≡ []) (λ (e : EndElement). use_at t names file e.node) (λ e k. k) (end_elements t n) h)
 
-  component-kept : (d : Declared) → AllByRecursion (λ u. use_breaks faces types u ≡ []) (uses_at trees names d.place) → AllByRecursion (λ (s : SeenComponent). EndsKept faces types s.ends) (component_of trees names table faces d)
+  component-kept : (d : Declared) → AllByRecursion (λ u. use_breaks faces types u ≡ []) (uses_at trees names d.place) → AllByRecursion (λ (s : SaidComponent). EndsKept faces types s.ends) (component_of trees names table faces d)
   component-kept d h = go (slice_get trees d.place.file) h
     where
-      go : (o : Option (List Node)) → AllByRecursion (λ u. use_breaks faces types u ≡ []) (uses_by names d.place o) → AllByRecursion (λ (s : SeenComponent). EndsKept faces types s.ends) (component_by trees names table faces d o)
+      go : (o : Option (List Node)) → AllByRecursion (λ u. use_breaks faces types u ≡ []) (uses_by names d.place o) → AllByRecursion (λ (s : SaidComponent). EndsKept faces types s.ends) (component_by trees names table faces d o)
       go None h = tt
       go (Some t) h = (element-kept t d.place.file d.place.node h, tt)
 
   components-kept : (ds : List Declared) → AllByRecursion (λ u. use_breaks faces types u ≡ []) (flat_map (uses_at trees names) (map (λ d. d.place) ds))
-      → AllByRecursion (λ (s : SeenComponent). EndsKept faces types s.ends) (flat_map (component_of trees names table faces) ds)
+      → AllByRecursion (λ (s : SaidComponent). EndsKept faces types s.ends) (flat_map (component_of trees names table faces) ds)
   components-kept [] h = tt
   components-kept (d ∷ ds) h =
       let p = all-apart (λ u. use_breaks faces types u ≡ []) (uses_at trees names d.place) _ h in
-      all-joined (λ (s : SeenComponent). EndsKept faces types s.ends) (component_of trees names table faces d) _ (component-kept d p.0) (components-kept ds p.1)
+      all-joined (λ (s : SaidComponent). EndsKept faces types s.ends) (component_of trees names table faces d) _ (component-kept d p.0) (components-kept ds p.1)
 
   -- the ends of a plan that holds what the elements say, where the uses of all ends break nothing
   pub plan-kept : (ds : List Declared) (plan : List ComponentPlan) → flat_map (use_breaks faces types) (flat_map (uses_at trees names) (map (λ d. d.place) ds)) ≡ []
-      → map seen_component plan ≡ flat_map (component_of trees names table faces) ds → AllByRecursion (λ (c : ComponentPlan). EndsKept faces types c.ends) plan
+      → map said_component plan ≡ flat_map (component_of trees names table faces) ds → AllByRecursion (λ (c : ComponentPlan). EndsKept faces types c.ends) plan
   plan-kept ds plan clean said =
-      all-unmapped (λ (c : ComponentPlan). EndsKept faces types c.ends) (λ (s : SeenComponent). EndsKept faces types s.ends) seen_component (λ c k. k) plan
-      (subst (AllByRecursion (λ (s : SeenComponent). EndsKept faces types s.ends)) (sym said) (components-kept ds (flat-none (use_breaks faces types) (flat_map (uses_at trees names) (map (λ d. d.place) ds)) clean)))
+      all-unmapped (λ (c : ComponentPlan). EndsKept faces types c.ends) (λ (s : SaidComponent). EndsKept faces types s.ends) said_component (λ c k. k) plan
+      (subst (AllByRecursion (λ (s : SaidComponent). EndsKept faces types s.ends)) (sym said) (components-kept ds (flat-none (use_breaks faces types) (flat_map (uses_at trees names) (map (λ d. d.place) ds)) clean)))

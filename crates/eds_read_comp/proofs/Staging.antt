@@ -23,7 +23,7 @@ use Rattle.eds_generic.specs.Resolved.{judged_first}
 use Rattle.eds_generic.specs.Uses.{use_breaks, breaks_with_uses}
 use Rattle.eds_generic.proofs.NameBreaks.{least-none}
 use Rattle.eds_read_comp.specs.FirstValues.{WhereTold}
-use Rattle.eds_read_comp.specs.Plans.{SeenPlan, seen_component, firsts_of, seen_plan, component_of, breaks_of, firsts_at, unvalued_of, unless, inner_breaks, inner_read, plan_said, plan_read}
+use Rattle.eds_read_comp.specs.Plans.{SeenPlan, said_component, firsts_of, seen_plan, component_of, breaks_of, firsts_at, unvalued_of, unless, inner_breaks, inner_read, plan_said, plan_read}
 use Rattle.eds_read_comp.specs.Together.{HoldsTogether}
 use Rattle.eds_read_comp.specs.Uses.{all_uses, end_breaks}
 use Rattle.eds_read_comp.proofs.Lists.{append-none}
@@ -68,7 +68,7 @@ module _ (firsts : ℕ → Option (List ℕ) → Option Plain) (trees : List (Li
   pub inner-refused : (r : Refusal) → found ≡ Some r → inner_read firsts trees names table faces ≡ Err r
   inner-refused r e = ap (λ o. unless o (plan_said firsts trees names table faces)) (sym joined ∙ e)
 
-  pub inner-accepted : (plan : List ComponentPlan) → found ≡ None → map seen_component plan ≡ flat_map (component_of trees names table faces) (comps_in names.declared)
+  pub inner-accepted : (plan : List ComponentPlan) → found ≡ None → map said_component plan ≡ flat_map (component_of trees names table faces) (comps_in names.declared)
       → map firsts_of plan ≡ flat_map (firsts_at firsts trees names) (comps_in names.declared) → inner_read firsts trees names table faces ≡ Ok (seen_plan plan)
   inner-accepted plan e c v =
       ap (λ o. unless o (plan_said firsts trees names table faces)) (sym joined ∙ e) ∙ ap Ok (plan-made (plan_said firsts trees names table faces) (seen_plan plan) (sym c) (sym v))
@@ -83,7 +83,7 @@ module _ (trees ts : List (List Node)) (names : Names) (table : Table) (faces : 
       subst (Answers seen_plan r) same (h firsts told)
 
   pub together : (types : List (Option TypeId)) (uses : List FaceUse) (r : Result (List ComponentPlan) (Fail Refusal)) → uses ≡ all_uses ts names → flat_map (use_breaks faces types) uses ≡ []
-      → IfOk r (λ p. map seen_component p ≡ flat_map (component_of ts names table faces) (comps_in names.declared))
+      → IfOk r (λ p. map said_component p ≡ flat_map (component_of ts names table faces) (comps_in names.declared))
       → IfOk r (λ p. ComponentsFit table p) → IfOk r (λ p. HoldsTogether table p)
   together types uses (Ok p) u e said fits = record {
     few = fits.few;

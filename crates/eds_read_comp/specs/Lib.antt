@@ -7,3 +7,4 @@ pub mod ParameterMaps
 pub mod Implementations
 pub mod Plans
 pub mod Together
+pub mod Laws

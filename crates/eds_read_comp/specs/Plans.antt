@@ -32,7 +32,8 @@ use Rattle.eds_read_comp.specs.Variables.{variable_nodes, variables_of}
 
 -- ---- a plan as clauses see it: values, statements and guards are plain data
 
-pub record SeenComponent : Type 0 where
+-- what the elements of a component say of it, beside what its variables start with
+pub record SaidComponent : Type 0 where
   pub name : List ℕ
   pub ends : List EndPlan
   pub variables : List VariableHead
@@ -49,8 +50,8 @@ head_of x = record { name = x.name; id = x.id; read_only = x.read_only }
 abbrev pub first_of_variable : VarPlan → Option Plain
 first_of_variable x = Some (plain x.initial)
 
-abbrev pub seen_component : ComponentPlan → SeenComponent
-seen_component c = record {
+abbrev pub said_component : ComponentPlan → SaidComponent
+said_component c = record {
   name = c.name;
   ends = c.ends;
   variables = map head_of c.variables;
@@ -66,16 +67,16 @@ firsts_of c = map first_of_variable c.variables
 
 -- the components of a plan, and what the variables of each start with
 pub record SeenPlan : Type 0 where
-  pub components : List SeenComponent
+  pub components : List SaidComponent
   pub firsts : List (List (Option Plain))
 
 abbrev pub seen_plan : List ComponentPlan → SeenPlan
-seen_plan plan = record { components = map seen_component plan; firsts = map firsts_of plan }
+seen_plan plan = record { components = map said_component plan; firsts = map firsts_of plan }
 
 -- ---- one component, what it names being given as a scope
 
 -- a component of a qualified name
-abbrev pub component_in : List ℕ → Scope → ℕ → SeenComponent
+abbrev pub component_in : List ℕ → Scope → ℕ → SaidComponent
 component_in name s n = record {
   name = name;
   ends = s.ends;
@@ -113,12 +114,12 @@ scope_at trees names table faces t file n = scope_with table t (end_plans trees 
 
 module _ (trees : List (List Node)) (names : Names) (table : Table) (faces : List Face) where
   -- a component, its file being given
-  abbrev pub component_by : Declared → Option (List Node) → List SeenComponent
+  abbrev pub component_by : Declared → Option (List Node) → List SaidComponent
   component_by d None = []
   component_by d (Some t) = component_in d.name (scope_at trees names table faces t d.place.file d.place.node) d.place.node ∷ []
 
   -- the same among the files
-  abbrev pub component_of : Declared → List SeenComponent
+  abbrev pub component_of : Declared → List SaidComponent
   component_of d = component_by d (slice_get trees d.place.file)
 
   -- what breaks a rule in it beside its variables, its file being given

@@ -11,7 +11,7 @@ ghost use Rattle.eds_read_comp.specs.EndPlans.{end_plans as end_plans_of};
 ghost use Rattle.eds_read_comp.specs.FirstValues.{WhereTold, first_value, value_breaks};
 ghost use Rattle.eds_read_comp.specs.Implementations.{activity_nodes as activity_nodes_of, machine_nodes as machine_nodes_of, heads_of as heads_in};
 ghost use Rattle.eds_read_comp.specs.ParameterMaps.{map_breaks, map_plans as map_plans_of};
-ghost use Rattle.eds_read_comp.specs.Plans.{head_of, first_of_variable, seen_component, firsts_of, component_in, breaks_in, scope_with, scope_at};
+ghost use Rattle.eds_read_comp.specs.Plans.{head_of, first_of_variable, said_component, firsts_of, component_in, breaks_in, scope_with, scope_at};
 ghost use Rattle.eds_read_comp.specs.Variables.{variable_nodes as variable_nodes_of, variables_of as variables_of_component};
 
 use crate::end_plan::{FaceSheet, end_plans};
@@ -245,7 +245,7 @@ pub(crate) fn component_plan(
     name: &str,
     node: u32,
 ) -> Result<ComponentPlan, Memory>
-    ensures said { IfOk result (λ c. seen_component c ≡ component_in name.now (scope_at sheet.now.faces.trees.now file.now.space.now sheet.now.table.now sheet.now.faces.faces.now file.now.tree.now file.now.file node) node) }
+    ensures said { IfOk result (λ c. said_component c ≡ component_in name.now (scope_at sheet.now.faces.trees.now file.now.space.now sheet.now.table.now sheet.now.faces.faces.now file.now.tree.now file.now.file node) node) }
     ensures firsts { IfOk result (λ c. WhereTold sheet.now.table.now (λ firsts. firsts_of c ≡ map (first_value firsts file.now.tree.now file.now.space.now file.now.file) (variable_nodes_of file.now.tree.now node))) }
 {
     let named = named_by(alloc, sheet, file, node)?;

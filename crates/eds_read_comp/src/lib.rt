@@ -8,8 +8,10 @@ mod faces;
 mod file;
 mod first_value;
 mod implementation;
+pub mod law;
 mod parameter_map;
 mod plan;
+mod sharing;
 mod variable;
 
 pub use faces::check_ends;

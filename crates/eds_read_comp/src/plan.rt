@@ -7,7 +7,7 @@ ghost use Rattle.eds_fits.specs.Fitting.{ComponentsFit};
 ghost use Rattle.eds_base.specs.Refusals.{least};
 ghost use Rattle.eds_names.specs.Declarations.{comps_in};
 ghost use Rattle.eds_read_comp.specs.FirstValues.{WhereTold};
-ghost use Rattle.eds_read_comp.specs.Plans.{seen_component, firsts_of, seen_plan, component_of, breaks_of, firsts_at, unvalued_of, inner_read, plan_read};
+ghost use Rattle.eds_read_comp.specs.Plans.{said_component, firsts_of, seen_plan, component_of, breaks_of, firsts_at, unvalued_of, inner_read, plan_read};
 ghost use Rattle.eds_read_comp.specs.Together.{HoldsTogether};
 
 use crate::component::{Sheet, component_plan, least_component_break, least_unvalued};
@@ -115,7 +115,7 @@ fn push_component(
     space: &Space,
     one: &Declared,
 ) -> Result<(), Memory>
-    ensures said { OnOk result (map seen_component plan.new ≡ map seen_component plan.old ++ component_of sheet.now.faces.trees.now space.now sheet.now.table.now sheet.now.faces.faces.now one.now) }
+    ensures said { OnOk result (map said_component plan.new ≡ map said_component plan.old ++ component_of sheet.now.faces.trees.now space.now sheet.now.table.now sheet.now.faces.faces.now one.now) }
     ensures firsts { OnOk result (WhereTold sheet.now.table.now (λ firsts. map firsts_of plan.new ≡ map firsts_of plan.old ++ firsts_at firsts sheet.now.faces.trees.now space.now one.now)) }
 {
     match tree_at(sheet.faces.trees, one.place.file) {
@@ -135,7 +135,7 @@ fn push_component(
 
 /// The plan of all components that a sheet declares.
 fn plan_of(alloc: Global, sheet: &Sheet, space: &Space) -> Result<Plan, Memory>
-    ensures said { IfOk result (λ p. map seen_component p ≡ flat_map (component_of sheet.now.faces.trees.now space.now sheet.now.table.now sheet.now.faces.faces.now) (comps_in space.now.declared)) }
+    ensures said { IfOk result (λ p. map said_component p ≡ flat_map (component_of sheet.now.faces.trees.now space.now sheet.now.table.now sheet.now.faces.faces.now) (comps_in space.now.declared)) }
     ensures firsts { IfOk result (λ p. WhereTold sheet.now.table.now (λ firsts. map firsts_of p ≡ flat_map (firsts_at firsts sheet.now.faces.trees.now space.now) (comps_in space.now.declared))) }
 {
     let mut plan = Plan::new(alloc);
@@ -161,7 +161,7 @@ fn fitting(alloc: Global, table: &TypeTable, plan: Plan) -> Result<Plan, Memory>
 
 // The plan of all components, handed out as one that fits its table.
 fn fitting_plan(alloc: Global, sheet: &Sheet, space: &Space) -> Result<Plan, Memory>
-    ensures said { IfOk result (λ p. map seen_component p ≡ flat_map (component_of sheet.now.faces.trees.now space.now sheet.now.table.now sheet.now.faces.faces.now) (comps_in space.now.declared)) }
+    ensures said { IfOk result (λ p. map said_component p ≡ flat_map (component_of sheet.now.faces.trees.now space.now sheet.now.table.now sheet.now.faces.faces.now) (comps_in space.now.declared)) }
     ensures firsts { IfOk result (λ p. WhereTold sheet.now.table.now (λ firsts. map firsts_of p ≡ flat_map (firsts_at firsts sheet.now.faces.trees.now space.now) (comps_in space.now.declared))) }
     ensures fits { IfOk result (λ p. ComponentsFit sheet.now.table.now p) }
 {
@@ -172,7 +172,7 @@ fn fitting_plan(alloc: Global, sheet: &Sheet, space: &Space) -> Result<Plan, Mem
 /// The plan of all components, or the first break of the rules on variables, parameter maps, activities and state machines.
 fn read_inner(alloc: Global, sheet: &Sheet, space: &Space) -> Result<Plan, Fail<Refusal>>
     ensures answers { WhereTold sheet.now.table.now (λ firsts. Answers seen_plan result (inner_read firsts sheet.now.faces.trees.now space.now sheet.now.table.now sheet.now.faces.faces.now)) }
-    ensures said { IfOk result (λ p. map seen_component p ≡ flat_map (component_of sheet.now.faces.trees.now space.now sheet.now.table.now sheet.now.faces.faces.now) (comps_in space.now.declared)) }
+    ensures said { IfOk result (λ p. map said_component p ≡ flat_map (component_of sheet.now.faces.trees.now space.now sheet.now.table.now sheet.now.faces.faces.now) (comps_in space.now.declared)) }
     ensures fits { IfOk result (λ p. ComponentsFit sheet.now.table.now p) }
 {
     let unvalued = least_unvalued_of_all(alloc, sheet.table.types(), sheet.faces.trees, space)?;
