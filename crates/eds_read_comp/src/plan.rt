@@ -191,7 +191,7 @@ fn read_with_names(
     space: &Space,
 ) -> Result<Plan, Fail<Refusal>>
     ensures answers { WhereTold table.now (λ firsts. Answers seen_plan result (inner_read firsts faces.now.trees.now space.now table.now faces.now.faces.now)) }
-    ensures said { IfOk result (λ p. map seen_component p ≡ flat_map (component_of faces.now.trees.now space.now table.now faces.now.faces.now) (comps_in space.now.declared)) }
+    ensures said { IfOk result (λ p. map said_component p ≡ flat_map (component_of faces.now.trees.now space.now table.now faces.now.faces.now) (comps_in space.now.declared)) }
     ensures fits { IfOk result (λ p. ComponentsFit table.now p) }
 {
     let table = NamedTable::of(alloc, table)?;
