@@ -5,7 +5,14 @@ use Rattle.std.specs.Fmt.{digits}
 use Rattle.eds_io.specs.Files.{Files}
 use Rattle.eds_sheet.specs.Compiled.{SeenSheet}
 use Rattle.eds_sheet.specs.Firsts.{Firsts}
+use Rattle.eds_host.specs.declared.wiring.HostFail.{HostFail}
+use Rattle.eds_host.specs.declared.wiring.Tie.{Tie}
+use Rattle.eds_plan.specs.Lines.{Told}
+use Rattle.eds_plan.specs.declared.component.ComponentPlan.{ComponentPlan}
+use Rattle.eds_script.specs.Scripts.{Plot, script_of}
+use Rattle.eds_script.specs.declared.why.BadLine.{BadLine}
 use Rattle.eds_types.specs.Plain.{Plain}
+use Rattle.eds_types.specs.Rows.{Table}
 use Rattle.eds_value.specs.declared.fail.ValueFail.{ValueFail}
 use Rattle.eds_value.specs.Json.{value_in}
 use Rattle.eds_cmd.specs.declared.command.Verb.{Verb}
@@ -16,12 +23,13 @@ use Rattle.eds_cmd.specs.declared.status.What.TheVariants as what
 use Rattle.eds_cmd.specs.declared.stop.Cause.{Cause}
 use Rattle.eds_cmd.specs.declared.stop.Cause.TheVariants as causes
 use Rattle.eds_cmd.specs.declared.stop.Stop.{Stop}
-use Rattle.eds_cmd.specs.Answer.{AnswersBy, AnswersCommand, AnswersFew, DoesBy, IsReached, WorksOn, accepted, input_for}
-use Rattle.eds_cmd.specs.Command.{CommandWords, JobWords}
+use Rattle.eds_cmd.specs.Answer.{AnswersBy, AnswersCommand, AnswersFew, DoesBy, DoesOn, IsReached, Works, accepted, input_for}
+use Rattle.eds_cmd.specs.Command.{CommandWords, JobWords, TaskWords, by_type, run}
 use Rattle.eds_cmd.specs.Limits.{sheet_count}
 use Rattle.eds_cmd.specs.Outcome.{ComesTo}
 use Rattle.eds_cmd.specs.Pack.{PacksGiven}
 use Rattle.eds_cmd.specs.Reports.{limit_line}
+use Rattle.eds_cmd.specs.Run.{RunsOver, RunsPlot, wired}
 use Rattle.eds_cmd.specs.Split.{Splits}
 use Rattle.eds_cmd.specs.Stops.{IsStop, status_of}
 use Rattle.eds_cmd.specs.Target.{TypeIn, type_of}
@@ -67,15 +75,28 @@ split_end : (type : TypeIn) (octets : List ℕ) (status : Status) (report : List
 split_end type octets status report (inl s) = inl s.status_is
 split_end type octets status report (inr c) = stop_end _ status report c.stop
 
-work_end : (verb : Verb) (type : TypeIn) (input : Result (List ℕ) Stop) (status : Status) (report : List ℕ) → WorksOn verb type input status report → IsEnd status
-work_end Unpack type (Ok input) status report u = frame_end type (frame_for input) status report u
-work_end Pack type (Ok input) status report p = value_end type (value_in type.table type.id input) status report p
-work_end Split type (Ok input) status report s = split_end type input status report s
-work_end verb type (Err stop) status report s = stop_end stop status report s
+work_end : (verb : Verb) (type : TypeIn) (input : List ℕ) (status : Status) (report : List ℕ) → Works verb type input status report → IsEnd status
+work_end Unpack type input status report u = frame_end type (frame_for input) status report u
+work_end Pack type input status report p = value_end type (value_in type.table type.id input) status report p
+work_end Split type input status report s = split_end type input status report s
+
+run_end : (t : Table) (plan : List ComponentPlan) (ties : Result (List Tie) HostFail) (lines : List (ℕ × Told)) (status : Status) (report : List ℕ) → RunsOver t plan ties lines status report → IsEnd status
+run_end t plan (Ok ties) lines status report (inl r) = inl r.status_is
+run_end t plan (Ok ties) lines status report (inr s) = stop_end _ status report s.stop
+run_end t plan (Err fail) lines status report s = stop_end _ status report s
+
+plot_end : (t : Table) (plan : List ComponentPlan) (p : Result Plot BadLine) (status : Status) (report : List ℕ) → RunsPlot t plan p status report → IsEnd status
+plot_end t plan (Ok p) status report r = run_end t plan (wired plan p) p.lines status report r
+plot_end t plan (Err bad) status report s = stop_end _ status report s
+
+task_end : (task : TaskWords) (sheet : SeenSheet) (input : Result (List ℕ) Stop) (status : Status) (report : List ℕ) → DoesOn task sheet input status report → IsEnd status
+task_end (by_type verb type_name) sheet (Ok input) status report d = work_end verb (type_of sheet) input status report d
+task_end run sheet (Ok input) status report d = plot_end sheet.table d.plan (script_of sheet.table d.plan input) status report d.runs
+task_end task sheet (Err stop) status report s = stop_end stop status report s
 
 does_end : (job : Option JobWords) (files : Files) (sheet : SeenSheet) (status : Status) (report : List ℕ) → DoesBy job files sheet status report → IsEnd status
 does_end None files sheet status report d = inl d.status_is
-does_end (Some job) files sheet status report d = work_end job.verb (type_of sheet) (input_for files job) status report d
+does_end (Some job) files sheet status report d = task_end job.task sheet (input_for files job) status report d
 
 by_end : (job : Option JobWords) (files : Files) (sheet : Result SeenSheet Stop) (status : Status) (report : List ℕ) → AnswersBy job files sheet status report → IsEnd status
 by_end job files (Ok sheet) status report (inl w) = does_end job files sheet status report w.does

@@ -2,7 +2,14 @@ pub mod Unpacking
 pub mod Splitting
 pub mod Targets
 pub mod SheetFiles
+pub mod AlikeRuns
+pub mod SheetRuns
 pub mod OneAnswer
 pub mod AnswerLemmas
 pub mod ValidLemmas
 pub mod Reporting
+pub mod Printing
+pub mod Handing
+pub mod Running
+pub mod OneRun
+pub mod SomeRun

@@ -2,7 +2,7 @@
 use Rattle.eds_base.specs.declared.fault.Fault.{Fault}
 use Rattle.std.proofs.Common.{◌≡◌, ℕ, ◌<◌, ◌≤◌, List, [], ◌++◌, length, Bool, true, false, nat_le, inl, inr, Option, Some, None, is_some, Result, Ok, Err, refl, sym, ◌∙◌, ap, subst, ◌⊎◌, arith}
 use Rattle.std.specs.Prelude.{IfSome}
-use Rattle.std.specs.Option.{option_map, option_map_or}
+use Rattle.std.specs.Option.{option_map_or}
 use Rattle.std.proofs.lemmas.Bool.{cases_lt}
 use Rattle.std.proofs.lemmas.List.{length-append}
 use Rattle.eds_base.specs.Answering.{◌>>=◌}
@@ -35,25 +35,28 @@ use Rattle.eds_cmd.specs.declared.status.What.TheVariants as what
 use Rattle.eds_cmd.specs.declared.stop.Cause.{Cause}
 use Rattle.eds_cmd.specs.declared.stop.Cause.TheVariants as causes
 use Rattle.eds_cmd.specs.declared.stop.Stop.{Stop}
-use Rattle.eds_cmd.specs.Answer.{AnswersBy, AnswersCommand, AnswersFew, DoesBy, IsPast, IsWithin, WorksOn, accepted, input_for, or_refused, sheet_files}
-use Rattle.eds_cmd.specs.Command.{CommandWords, JobWords, command_of, type_name_of}
+use Rattle.eds_cmd.specs.Answer.{AnswersBy, AnswersCommand, AnswersFew, DoesBy, DoesOn, IsPast, IsWithin, Works, accepted, input_for, or_refused, sheet_files}
+use Rattle.eds_cmd.specs.Command.{CommandWords, JobWords, TaskWords, by_type, command_of, job_type, run, task_type, type_name_of}
 use Rattle.eds_cmd.specs.Laws.{OneAnswer, SomeAnswer}
 use Rattle.eds_cmd.specs.Limits.{report_octets, sheet_count}
 use Rattle.eds_cmd.specs.Pack.{PacksGiven, PacksValue, packed_report}
 use Rattle.eds_cmd.specs.Reports.{bits_report, counts_line, usage_line}
+use Rattle.eds_cmd.specs.Run.{HasPlan}
 use Rattle.eds_cmd.specs.Split.{framing_of}
 use Rattle.eds_cmd.specs.Stops.{IsStop, frame_fault, limited, pack_fault, status_of}
 use Rattle.eds_cmd.specs.Target.{TypeIn, type_of}
 use Rattle.eds_cmd.specs.Unpack.{Begins, UnpacksBits, UnpacksFrame, frame_for}
+use Rattle.eds_cmd.proofs.SheetRuns.{ScriptLaws, one_of_sheet, some_of_sheet}
 use Rattle.eds_cmd.proofs.Splitting.{framing_for, one_way, some_way}
 
--- the laws of values and bits
+-- the laws of values and bits, and of runs
 pub record ValueLaws : Type 0 where
   pub outcome : OneOutcome
   pub canonical : OneCanonical
   pub packing : PackingIsDecided
   pub empty : EmptyTypes
   pub cut : OneCut
+  pub scripts : ScriptLaws
 
 -- a stop ends a command as itself
 itself : (stop : Stop) → IsStop stop (status_of stop.cause) stop.report
@@ -168,17 +171,15 @@ module _ (laws : ValueLaws) (type : TypeIn) (is : IsReadable type.table type.id)
   framing : IsFraming (framing_of type)
   framing = framing_for laws.empty type is.rules (record { there = is.there; clear = is.clear; solid = solid })
 
-  one_of_work : (verb : Verb) (input : Result (List ℕ) Stop) → IsOfOne (WorksOn verb type input)
-  one_of_work Unpack (Ok input) = one_of_frame (frame_for input)
-  one_of_work Pack (Ok input) = one_of_given (value_in type.table type.id input)
-  one_of_work Split (Ok input) = one_way laws.cut type framing input
-  one_of_work verb (Err stop) = one_stop stop
+  one_of_work : (verb : Verb) (input : List ℕ) → IsOfOne (Works verb type input)
+  one_of_work Unpack input = one_of_frame (frame_for input)
+  one_of_work Pack input = one_of_given (value_in type.table type.id input)
+  one_of_work Split input = one_way laws.cut type framing input
 
-  some_of_work : (verb : Verb) (input : Result (List ℕ) Stop) → IsOfSome (WorksOn verb type input)
-  some_of_work Unpack (Ok input) = some_of_frame (frame_for input)
-  some_of_work Pack (Ok input) = some_of_given (value_in type.table type.id input)
-  some_of_work Split (Ok input) = some_way laws.cut type framing input
-  some_of_work verb (Err stop) = some_stop stop
+  some_of_work : (verb : Verb) (input : List ℕ) → IsOfSome (Works verb type input)
+  some_of_work Unpack input = some_of_frame (frame_for input)
+  some_of_work Pack input = some_of_given (value_in type.table type.id input)
+  some_of_work Split input = some_way laws.cut type framing input
 
 -- ---- an accepted sheet
 
@@ -213,32 +214,53 @@ accepted_sound sound firsts files c sheet is = go (sheet_files files 0 c.sheets)
     go (Ok octets) e = sound firsts octets (type_name_of c) sheet (unrefused (compiled firsts octets (type_name_of c)) e)
     go (Err stop) e = absurd (cc e)
 
+-- ---- a task by an accepted sheet
+
+-- where a task is to run a script over the components of a sheet, there is a plan of these
+abbrev pub HasPlanFor : TaskWords → SeenSheet → Type 0
+HasPlanFor task sheet = task ≡ run → HasPlan sheet
+
+module _ (laws : ValueLaws) (sheet : SeenSheet) where
+  one_of_task : (task : TaskWords) (input : Result (List ℕ) Stop) → IsSound (task_type task) sheet → IsOfOne (DoesOn task sheet input)
+  one_of_task (by_type verb name) (Ok input) sound = one_of_work laws (type_of sheet) (word_readable name sheet sound) (word_solid name sheet sound) verb input
+  one_of_task run (Ok input) sound = one_of_sheet laws.scripts sheet sound.rules input
+  one_of_task task (Err stop) sound = one_stop stop
+
+  some_of_task : (task : TaskWords) (input : Result (List ℕ) Stop) → IsSound (task_type task) sheet → HasPlanFor task sheet → IsOfSome (DoesOn task sheet input)
+  some_of_task (by_type verb name) (Ok input) sound has = some_of_work laws (type_of sheet) (word_readable name sheet sound) (word_solid name sheet sound) verb input
+  some_of_task run (Ok input) sound has = some_of_sheet laws.scripts sheet sound.rules input (has refl)
+  some_of_task task (Err stop) sound has = some_stop stop
+
 -- ---- the answer
 
-module _ (laws : ValueLaws) (files : Files) where
-  one_by_sheet : (job : Option JobWords) (sheet : SeenSheet) → IsSound (option_map (λ j. j.type_name) job) sheet → IsOfOne (DoesBy job files sheet)
-  one_by_sheet None sheet sound s o r l a b = (a.status_is ∙ sym b.status_is, a.report_is ∙ sym b.report_is)
-  one_by_sheet (Some job) sheet sound s o r l a b = one_of_work laws (type_of sheet) (word_readable job.type_name sheet sound) (word_solid job.type_name sheet sound) job.verb (input_for files job) s o r l a b
+-- the same of a job, where there is one
+abbrev pub HasPlanIn : Option JobWords → SeenSheet → Type 0
+HasPlanIn job sheet = (j : JobWords) → job ≡ Some j → HasPlanFor j.task sheet
 
-  some_by_sheet : (job : Option JobWords) (sheet : SeenSheet) → IsSound (option_map (λ j. j.type_name) job) sheet → IsOfSome (DoesBy job files sheet)
-  some_by_sheet None sheet sound = inl (counts_line sheet.counts, record { status_is = refl; report_is = refl })
-  some_by_sheet (Some job) sheet sound = some_of_work laws (type_of sheet) (word_readable job.type_name sheet sound) (word_solid job.type_name sheet sound) job.verb (input_for files job)
+module _ (laws : ValueLaws) (files : Files) where
+  one_by_sheet : (job : Option JobWords) (sheet : SeenSheet) → IsSound (job_type job) sheet → IsOfOne (DoesBy job files sheet)
+  one_by_sheet None sheet sound s o r l a b = (a.status_is ∙ sym b.status_is, a.report_is ∙ sym b.report_is)
+  one_by_sheet (Some job) sheet sound s o r l a b = one_of_task laws sheet job.task (input_for files job) sound s o r l a b
+
+  some_by_sheet : (job : Option JobWords) (sheet : SeenSheet) → IsSound (job_type job) sheet → HasPlanIn job sheet → IsOfSome (DoesBy job files sheet)
+  some_by_sheet None sheet sound has = inl (counts_line sheet.counts, record { status_is = refl; report_is = refl })
+  some_by_sheet (Some job) sheet sound has = some_of_task laws sheet job.task (input_for files job) sound (has job refl)
 
   -- a report isn't both within its limit and past it
-  not_past : (job : Option JobWords) (sheet : SeenSheet) → IsSound (option_map (λ j. j.type_name) job) sheet → (s o : Status) (r l : List ℕ) → IsWithin job files sheet s r → IsPast job files sheet o l → ⊥
+  not_past : (job : Option JobWords) (sheet : SeenSheet) → IsSound (job_type job) sheet → (s o : Status) (r l : List ℕ) → IsWithin job files sheet s r → IsPast job files sheet o l → ⊥
   not_past job sheet sound s o r l w p =
       let one = one_by_sheet job sheet sound s statuses.Done r p.whole w.does p.does in
       omega (arith, w.within one.0, p.past, ap length one.1)
 
-  one_by : (job : Option JobWords) (sheet : Result SeenSheet Stop) → ((found : SeenSheet) → sheet ≡ Ok found → IsSound (option_map (λ j. j.type_name) job) found) → IsOfOne (AnswersBy job files sheet)
+  one_by : (job : Option JobWords) (sheet : Result SeenSheet Stop) → ((found : SeenSheet) → sheet ≡ Ok found → IsSound (job_type job) found) → IsOfOne (AnswersBy job files sheet)
   one_by job (Ok sheet) sound s o r l (inl w) (inl x) = one_by_sheet job sheet (sound sheet refl) s o r l w.does x.does
   one_by job (Ok sheet) sound s o r l (inl w) (inr p) = absurd (not_past job sheet (sound sheet refl) s o r l w p)
   one_by job (Ok sheet) sound s o r l (inr p) (inl w) = absurd (not_past job sheet (sound sheet refl) o s l r w p)
   one_by job (Ok sheet) sound s o r l (inr p) (inr q) = one_stop _ s o r l p.stop q.stop
   one_by job (Err stop) sound s o r l a b = one_stop stop s o r l a b
 
-  some_by : (job : Option JobWords) (sheet : Result SeenSheet Stop) → ((found : SeenSheet) → sheet ≡ Ok found → IsSound (option_map (λ j. j.type_name) job) found) → (status : Status) × (report : List ℕ) × AnswersBy job files sheet status report
-  some_by job (Ok sheet) sound = go (some_by_sheet job sheet (sound sheet refl))
+  some_by : (job : Option JobWords) (sheet : Result SeenSheet Stop) → ((found : SeenSheet) → sheet ≡ Ok found → IsSound (job_type job) found × HasPlanIn job found) → (status : Status) × (report : List ℕ) × AnswersBy job files sheet status report
+  some_by job (Ok sheet) found = go (some_by_sheet job sheet (found sheet refl).0 (found sheet refl).1)
     where
       go : IsOfSome (DoesBy job files sheet) → (status : Status) × (report : List ℕ) × AnswersBy job files (Ok sheet) status report
       go (inl d) = elim (cases_lt report_octets (length d.0)) [
@@ -247,28 +269,32 @@ module _ (laws : ValueLaws) (files : Files) where
         | inr within ↦ (statuses.Done, d.0, inl (record { does = d.1; within = λ e. within }))
       ]
       go (inr k) = (status_of k.0.cause, k.0.report, inl (record { does = k.1; within = λ e. absurd (not_done k.0.cause e) }))
-  some_by job (Err stop) sound = (status_of stop.cause, stop.report, itself stop)
+  some_by job (Err stop) found = (status_of stop.cause, stop.report, itself stop)
 
 module _ (laws : ValueLaws) (sound : SheetsAreSound) (firsts : Firsts) where
   one_of_few : (few : Bool) (c : CommandWords) (files : Files) → IsOfOne (AnswersFew firsts few c files)
   one_of_few true c files = one_by laws files c.job (accepted firsts files c) (accepted_sound sound firsts files c)
   one_of_few false c files = one_stop _
 
-  some_of_few : (few : Bool) (c : CommandWords) (files : Files) → (status : Status) × (report : List ℕ) × AnswersFew firsts few c files status report
-  some_of_few true c files = some_by laws files c.job (accepted firsts files c) (accepted_sound sound firsts files c)
-  some_of_few false c files = let stop = limited what.Files sheet_count in (status_of stop.cause, stop.report, itself stop)
+  -- the accepted sheet of a command that runs a script has a plan to run
+  abbrev HasPlanOf : CommandWords → Files → Type 0
+  HasPlanOf c files = (sheet : SeenSheet) → accepted firsts files c ≡ Ok sheet → HasPlanIn c.job sheet
 
-  one_of_command : (c : Option CommandWords) (files : Files) → IsOfOne (AnswersCommand firsts c files)
+  some_of_few : (few : Bool) (c : CommandWords) (files : Files) → HasPlanOf c files → (status : Status) × (report : List ℕ) × AnswersFew firsts few c files status report
+  some_of_few true c files has = some_by laws files c.job (accepted firsts files c) (λ sheet is. (accepted_sound sound firsts files c sheet is, has sheet is))
+  some_of_few false c files has = let stop = limited what.Files sheet_count in (status_of stop.cause, stop.report, itself stop)
+
+  pub one_of_command : (c : Option CommandWords) (files : Files) → IsOfOne (AnswersCommand firsts c files)
   one_of_command None files s o r l a b = (a.0 ∙ sym b.0, a.1 ∙ sym b.1)
   one_of_command (Some c) files s o r l a b = one_of_few (nat_le (length c.sheets) sheet_count) c files s o r l a b
 
-  some_of_command : (c : Option CommandWords) (files : Files) → (status : Status) × (report : List ℕ) × AnswersCommand firsts c files status report
-  some_of_command None files = (statuses.Usage, usage_line, (refl, refl))
-  some_of_command (Some c) files = some_of_few (nat_le (length c.sheets) sheet_count) c files
+  some_of_command : (c : Option CommandWords) (files : Files) → ((d : CommandWords) → c ≡ Some d → HasPlanOf d files) → (status : Status) × (report : List ℕ) × AnswersCommand firsts c files status report
+  some_of_command None files has = (statuses.Usage, usage_line, (refl, refl))
+  some_of_command (Some c) files has = some_of_few (nat_le (length c.sheets) sheet_count) c files (has c refl)
 
 module _ (laws : ValueLaws) (sound : SheetsAreSound) where
   pub one_answer : OneAnswer
   one_answer firsts words files s o r l a b = one_of_command laws sound firsts (command_of words) files s o r l a b
 
   pub some_answer : SomeAnswer
-  some_answer firsts words files = some_of_command laws sound firsts (command_of words) files
+  some_answer firsts words files has = some_of_command laws sound firsts (command_of words) files (λ c is sheet found job job_is runs. has c job sheet is job_is runs found)

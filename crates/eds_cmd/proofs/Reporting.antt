@@ -1,5 +1,5 @@
 -- The report of an accepted sheet, which may be longer than a report may be.
-use Rattle.std.proofs.Common.{◌≡◌, ℕ, ◌<◌, ◌≤◌, List, length, nat_le, true, inl, inr, Result, Ok, Err, refl, sym, subst}
+use Rattle.std.proofs.Common.{◌≡◌, ℕ, ◌<◌, List, length, true, inl, inr, Result, Ok, Err, refl, sym, subst}
 use Rattle.std.proofs.lemmas.Bool.{cases_lt, le-leb, lt-leb}
 use Rattle.eds_base.specs.Answering.{StopsAs}
 use Rattle.eds_base.specs.declared.fail.Fail.{Fail}
@@ -10,8 +10,8 @@ use Rattle.eds_sheet.specs.Firsts.{Firsts}
 use Rattle.eds_cmd.specs.declared.status.Status.TheVariants as statuses
 use Rattle.eds_cmd.specs.declared.status.What.TheVariants as what
 use Rattle.eds_cmd.specs.declared.stop.Stop.{Stop}
-use Rattle.eds_cmd.specs.Answer.{AnswersBy, AnswersFew, DoesBy, IsPast, accepted, within_report}
-use Rattle.eds_cmd.specs.Command.{CommandWords, JobWords}
+use Rattle.eds_cmd.specs.Answer.{AnswersBy, AnswersFew, DoesBy, accepted, within_report}
+use Rattle.eds_cmd.specs.Command.{CommandWords}
 use Rattle.eds_cmd.specs.Endings.{EndedSays, ended_of}
 use Rattle.eds_cmd.specs.Limits.{report_octets}
 use Rattle.eds_cmd.specs.Stops.{IsStop, limited, status_of}

@@ -9,7 +9,7 @@ use Rattle.eds_base.specs.declared.fault.Reason.{Reason}
 use Rattle.eds_base.specs.declared.fault.Reason.TheVariants.{Short, OutOfRange, NoLabel, BadDigit, BadText, Unterminated, FixedDiffers, Constraint, NoDerived, LengthDiffers, CheckDiffers, TooLong, Trailing}
 use Rattle.eds_bits.specs.Bits.{Bits, bits_of, octets_for}
 use Rattle.eds_overlap.specs.Laws.{EmptyTypes}
-use Rattle.eds_types.specs.Failing.{FailsAt, fault_at, fault_here}
+use Rattle.eds_types.specs.Failing.{fault_at}
 use Rattle.eds_types.specs.Plain.{Plain}
 use Rattle.eds_types.specs.Rows.{Table}
 use Rattle.eds_types.specs.Rules.{KeepsRules}
@@ -17,7 +17,7 @@ use Rattle.eds_types.specs.Spelling.{Spells}
 use Rattle.eds_unpack.specs.Packets.{AreCut, Framing, Packet, IsPacket}
 use Rattle.eds_unpack.specs.Pieces.{HasOneCut, IsCutUpTo, IsLastFault, OneCut}
 use Rattle.eds_unpack.specs.Split.{is_short}
-use Rattle.eds_unpack.specs.Splitting.{BeginsWith, FailsIn, IsFraming}
+use Rattle.eds_unpack.specs.Splitting.{FailsIn, IsFraming}
 use Rattle.eds_unpack.proofs.Cutting.{packet_of}
 use Rattle.eds_unpack.proofs.Taking.{octets_there, packet_read}
 use Rattle.eds_value.specs.JsonOfValue.{json_text}
@@ -25,7 +25,7 @@ use Rattle.eds_cmd.specs.declared.status.Status.{Status}
 use Rattle.eds_cmd.specs.declared.status.Status.TheVariants as statuses
 use Rattle.eds_cmd.specs.declared.stop.Stop.{Stop}
 use Rattle.eds_cmd.specs.Limits.{packet_octets}
-use Rattle.eds_cmd.specs.Split.{HoldsPacket, IsCutOff, IsWhole, Splits, framing_of, packet_failure, packet_lines, packets_line}
+use Rattle.eds_cmd.specs.Split.{HoldsPacket, Splits, framing_of, packet_failure, packet_lines, packets_line}
 use Rattle.eds_cmd.specs.Stops.{IsStop, packet_fault, status_of}
 use Rattle.eds_cmd.specs.Target.{IsKnown, TypeIn}
 

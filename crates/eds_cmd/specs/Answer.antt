@@ -19,10 +19,11 @@ use Rattle.eds_cmd.specs.declared.status.Status.TheVariants as statuses
 use Rattle.eds_cmd.specs.declared.status.What.{What}
 use Rattle.eds_cmd.specs.declared.status.What.TheVariants as what
 use Rattle.eds_cmd.specs.declared.stop.Stop.{Stop}
-use Rattle.eds_cmd.specs.Command.{CommandWords, JobWords, command_of, input_most, type_name_of}
+use Rattle.eds_cmd.specs.Command.{CommandWords, JobWords, TaskWords, by_type, command_of, input_most, run, type_name_of}
 use Rattle.eds_cmd.specs.Hex.{hex_octets}
 use Rattle.eds_cmd.specs.Pack.{Packs}
 use Rattle.eds_cmd.specs.Reports.{counts_line, usage_line}
+use Rattle.eds_cmd.specs.Run.{IsValidRun, RunsSheet}
 use Rattle.eds_cmd.specs.Split.{Splits, framing_of}
 use Rattle.eds_cmd.specs.Stops.{IsStop, limited, missing, refused}
 use Rattle.eds_cmd.specs.Target.{TypeIn, type_of}
@@ -66,7 +67,7 @@ accepted firsts files c = sheet_files files 0 c.sheets >>= λ octets. or_refused
 
 -- the octets of the input file
 abbrev pub input_for : Files → JobWords → Result (List ℕ) Stop
-input_for files job = whole_file files job.input what.Input (input_most job.verb)
+input_for files job = whole_file files job.input what.Input (input_most job.task)
 
 -- a report that is no longer than a report may be
 abbrev pub within_report : List ℕ → Result (List ℕ) Stop
@@ -80,10 +81,15 @@ Works Unpack type input status report = Unpacks type input status report
 Works Pack type input status report = Packs type input status report
 Works Split type input status report = Splits type input status report
 
+-- what is done with an input by a sheet comes to this status and report
+abbrev pub Does : TaskWords → SeenSheet → List ℕ → Status → List ℕ → Type 0
+Does (by_type verb type_name) sheet input status report = Works verb (type_of sheet) input status report
+Does run sheet input status report = RunsSheet sheet input status report
+
 -- the same, where the input file may have ended the command
-abbrev pub WorksOn : Verb → TypeIn → Result (List ℕ) Stop → Status → List ℕ → Type 0
-WorksOn verb type (Ok input) status report = Works verb type input status report
-WorksOn verb type (Err stop) status report = IsStop stop status report
+abbrev pub DoesOn : TaskWords → SeenSheet → Result (List ℕ) Stop → Status → List ℕ → Type 0
+DoesOn task sheet (Ok input) status report = Does task sheet input status report
+DoesOn task sheet (Err stop) status report = IsStop stop status report
 
 -- the counts of an accepted sheet are reported
 pub record IsCounted (sheet : SeenSheet) (status : Status) (report : List ℕ) : Type 0 where
@@ -93,7 +99,7 @@ pub record IsCounted (sheet : SeenSheet) (status : Status) (report : List ℕ) :
 -- what is done by an accepted sheet comes to this status and report
 abbrev pub DoesBy : Option JobWords → Files → SeenSheet → Status → List ℕ → Type 0
 DoesBy None files sheet status report = IsCounted sheet status report
-DoesBy (Some job) files sheet status report = WorksOn job.verb (type_of sheet) (input_for files job) status report
+DoesBy (Some job) files sheet status report = DoesOn job.task sheet (input_for files job) status report
 
 -- what is done by an accepted sheet comes to this status and report, and the report is no longer than a report may be
 pub record IsWithin (job : Option JobWords) (files : Files) (sheet : SeenSheet) (status : Status) (report : List ℕ) : Type 0 where
@@ -166,23 +172,28 @@ pub record IsValidValue (type : TypeIn) (text : List ℕ) : Type 0 where
   pub canonical : Canon type.table type.id value bits
   pub within : length bits ≤ most_bits
 
--- the input is valid for what is done with it
+-- the input is valid for what is done with it by a type
 abbrev pub IsValidInput : Verb → TypeIn → List ℕ → Type 0
 IsValidInput Unpack type text = IsValidFrame type text
 IsValidInput Pack type text = IsValidValue type text
 IsValidInput Split type octets = (packets : List Packet) × AreCut (framing_of type) packets octets
 
--- the input file is there and within its limit, and valid for the type
-pub record IsValidJob (files : Files) (job : JobWords) (type : TypeIn) : Type 0 where
+-- the input is valid for what is done with it by a sheet
+abbrev pub IsValidTask : TaskWords → SeenSheet → List ℕ → Type 0
+IsValidTask (by_type verb type_name) sheet input = IsValidInput verb (type_of sheet) input
+IsValidTask run sheet text = IsValidRun sheet text
+
+-- the input file is there and within its limit, and valid for the sheet
+pub record IsValidJob (files : Files) (job : JobWords) (sheet : SeenSheet) : Type 0 where
   pub input : List ℕ
   pub there : file_named job.input files ≡ Some input
-  pub within : length input ≤ input_most job.verb
-  pub valid : IsValidInput job.verb type input
+  pub within : length input ≤ input_most job.task
+  pub valid : IsValidTask job.task sheet input
 
 -- a sheet that is only checked has no input
 abbrev pub IsValidFor : Files → Option JobWords → SeenSheet → Type 0
 IsValidFor files None sheet = ⊤
-IsValidFor files (Some job) sheet = IsValidJob files job (type_of sheet)
+IsValidFor files (Some job) sheet = IsValidJob files job sheet
 
 -- each sheet file is there and within its limit
 abbrev pub AreThere : Files → List (List ℕ) → List (List ℕ) → Type 0

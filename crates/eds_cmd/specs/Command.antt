@@ -5,14 +5,20 @@ use Rattle.std.specs.Option.{option_map}
 use Rattle.eds_base.specs.Reading.{◌>>=◌, same}
 use Rattle.eds_cmd.specs.declared.command.Verb.{Verb}
 use Rattle.eds_cmd.specs.declared.command.Verb.TheVariants.{Unpack, Pack, Split}
+use Rattle.eds_cmd.specs.declared.command.Task.{Task}
+use Rattle.eds_cmd.specs.declared.command.Task.TheVariants as tasks
 use Rattle.eds_cmd.specs.declared.command.Job.{Job}
 use Rattle.eds_cmd.specs.declared.command.Command.{Command}
-use Rattle.eds_cmd.specs.Limits.{hex_octets, json_octets, packets_octets}
+use Rattle.eds_cmd.specs.Limits.{hex_octets, json_octets, packets_octets, script_octets}
 
--- what is to be done with an input file, the name of the type by which it is done, and the name of the file
+-- what is to be done with an input file: something by the type of a name, or it is a script that is run over the components
+pub data TaskWords : Type 0 where
+  by_type : Verb → (type_name : List ℕ) → TaskWords
+  run : TaskWords
+
+-- what is to be done with an input file, and the name of the file
 pub record JobWords : Type 0 where
-  pub verb : Verb
-  pub type_name : List ℕ
+  pub task : TaskWords
   pub input : List ℕ
 
 -- what is to be done by a sheet, None where it is only checked, and the names of its files
@@ -20,9 +26,13 @@ pub record CommandWords : Type 0 where
   pub job : Option JobWords
   pub sheets : List (List ℕ)
 
--- the words of a job and of a command, as they stand in memory
+-- the words of a task, of a job and of a command, as they stand in memory
+abbrev pub task_words : Task → TaskWords
+task_words (tasks.ByType verb type_name) = by_type verb type_name.now
+task_words tasks.Run = run
+
 abbrev pub job_words : Job → JobWords
-job_words j = record { verb = j.verb; type_name = j.type_name.now; input = j.input.now }
+job_words j = record { task = task_words j.task; input = j.input.now }
 
 -- a command by its words alone
 abbrev pub words_of : Command → CommandWords
@@ -45,22 +55,41 @@ abbrev pub job_of : Verb → List (List ℕ) → Option CommandWords
 job_of verb [] = None
 job_of verb (type_name ∷ []) = None
 job_of verb (type_name ∷ input ∷ []) = None
-job_of verb (type_name ∷ input ∷ name ∷ names) = Some (record { job = Some (record { verb = verb; type_name = type_name; input = input }); sheets = name ∷ names })
+job_of verb (type_name ∷ input ∷ name ∷ names) = Some (record { job = Some (record { task = by_type verb type_name; input = input }); sheets = name ∷ names })
 
--- `check FILE...`, `unpack TYPE HEXFILE FILE...`, `pack TYPE JSONFILE FILE...` or `split TYPE BINFILE FILE...`
+-- `SCRIPT FILE...`, one FILE or more
+abbrev pub run_of : List (List ℕ) → Option CommandWords
+run_of [] = None
+run_of (script ∷ []) = None
+run_of (script ∷ name ∷ names) = Some (record { job = Some (record { task = run; input = script }); sheets = name ∷ names })
+
+-- `check FILE...`, `unpack TYPE HEXFILE FILE...`, `pack TYPE JSONFILE FILE...`, `split TYPE BINFILE FILE...` or `run SCRIPT FILE...`
 abbrev pub command_of : List (List ℕ) → Option CommandWords
 command_of [] = None
-command_of (first ∷ words) = if same first (codes "check") then check_of words else (verb_of first >>= λ verb. job_of verb words)
+command_of (first ∷ words) =
+    if same first (codes "check") then check_of words else
+    if same first (codes "run") then run_of words else
+    (verb_of first >>= λ verb. job_of verb words)
 
 -- the most octets of the input file
-abbrev pub input_most : Verb → ℕ
-input_most Unpack = hex_octets
-input_most Pack = json_octets
-input_most Split = packets_octets
+abbrev pub input_most : TaskWords → ℕ
+input_most (by_type Unpack type_name) = hex_octets
+input_most (by_type Pack type_name) = json_octets
+input_most (by_type Split type_name) = packets_octets
+input_most run = script_octets
+
+-- the name of the type by which a task is done, if it is by one
+abbrev pub task_type : TaskWords → Option (List ℕ)
+task_type (by_type verb type_name) = Some type_name
+task_type run = None
+
+-- the name of the type, where a job names one
+abbrev pub job_type : Option JobWords → Option (List ℕ)
+job_type job = job >>= λ j. task_type j.task
 
 -- the name of the type, where the command names one
 abbrev pub type_name_of : CommandWords → Option (List ℕ)
-type_name_of c = option_map (λ j. j.type_name) c.job
+type_name_of c = job_type c.job
 
 -- the command reads the file of that name
 abbrev pub ReadsFile : CommandWords → List ℕ → Type 0

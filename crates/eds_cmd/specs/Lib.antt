@@ -9,6 +9,9 @@ pub mod Target
 pub mod Unpack
 pub mod Pack
 pub mod Split
+pub mod Run
+pub mod Running
+pub mod RunLaws
 pub mod Answer
 pub mod Laws
 pub mod Outcome

@@ -21,6 +21,10 @@ hex_octets = 1048576
 abbrev pub json_octets : ℕ
 json_octets = 4194304
 
+-- the octets of a script
+abbrev pub script_octets : ℕ
+script_octets = 4194304
+
 -- the octets of a file of packets
 abbrev pub packets_octets : ℕ
 packets_octets = 16777216

@@ -8,8 +8,12 @@ use Rattle.eds_base.specs.declared.refusal.CommonNumber.{CommonNumber}
 use Rattle.eds_base.specs.declared.refusal.Kept.{Kept}
 use Rattle.eds_base.specs.declared.refusal.Kept.TheVariants.{Nothing, Word, Overlap}
 use Rattle.eds_base.specs.declared.refusal.Refusal.{Refusal}
+use Rattle.eds_host.specs.declared.wiring.WireWhy.{WireWhy}
+use Rattle.eds_host.specs.declared.wiring.WireWhy.TheVariants.{WireEnd, WireType, WireTwice}
+use Rattle.eds_script.specs.declared.why.LineWhy.{LineWhy}
+use Rattle.eds_script.specs.declared.why.LineWhy.TheVariants as line_why
 use Rattle.eds_cmd.specs.declared.status.What.{What}
-use Rattle.eds_cmd.specs.declared.status.What.TheVariants.{Files, File, Sheets, Input, Frame, Report}
+use Rattle.eds_cmd.specs.declared.status.What.TheVariants.{Files, File, Sheets, Input, Frame, Report, Deliveries}
 use Rattle.eds_sheet.specs.declared.sheet.Counts.{Counts}
 
 -- ---- refusals
@@ -55,6 +59,7 @@ what_text Sheets = codes "sheets"
 what_text Input = codes "input"
 what_text Frame = codes "frame"
 what_text Report = codes "report"
+what_text Deliveries = codes "deliveries"
 
 -- `limit WHAT MOST`
 abbrev pub limit_line : What → ℕ → List ℕ
@@ -99,3 +104,41 @@ packet_fault_line reason path packet = fault_words reason path ++ packet_words p
 -- the text of a value or its octets, and how many bits there were
 abbrev pub bits_report : List ℕ → ℕ → List ℕ
 bits_report text count = text ++ codes "\nbits " ++ decimal count ++ codes "\n"
+
+-- ---- scripts
+
+-- why a line means nothing
+abbrev pub line_why_text : LineWhy → List ℕ
+line_why_text line_why.Text = codes "Text"
+line_why_text line_why.Words = codes "Words"
+line_why_text line_why.Late = codes "Late"
+line_why_text line_why.Number = codes "Number"
+line_why_text line_why.Time = codes "Time"
+line_why_text line_why.End = codes "End"
+line_why_text line_why.Wired = codes "Wired"
+line_why_text line_why.Way = codes "Way"
+line_why_text line_why.Member = codes "Member"
+line_why_text line_why.ReadOnly = codes "ReadOnly"
+line_why_text line_why.Args = codes "Args"
+line_why_text line_why.Hex = codes "Hex"
+line_why_text line_why.Json = codes "Json"
+line_why_text line_why.Shape = codes "Shape"
+line_why_text line_why.Value = codes "Value"
+
+-- why a wire ties nothing
+abbrev pub wire_why_text : WireWhy → List ℕ
+wire_why_text WireEnd = codes "WireEnd"
+wire_why_text WireType = codes "WireType"
+wire_why_text WireTwice = codes "WireTwice"
+
+-- `bad line N WHY`
+abbrev pub bad_line_line : (line : ℕ) → (why : List ℕ) → List ℕ
+bad_line_line line why = codes "bad line " ++ decimal line ++ codes " " ++ why ++ codes "\n"
+
+-- `limit deliveries 10000 at line N`
+abbrev pub deliveries_line : (line : ℕ) → List ℕ
+deliveries_line line = codes "limit deliveries 10000 at line " ++ decimal line ++ codes "\n"
+
+-- `end T`, the time in nanoseconds
+abbrev pub end_line : (time : ℕ) → List ℕ
+end_line time = codes "end " ++ decimal time ++ codes "\n"

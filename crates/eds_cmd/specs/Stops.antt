@@ -1,9 +1,11 @@
 -- What ends a command before it is done, with the report.
-use Rattle.std.specs.Prelude.{◌≡◌, ℕ, List, codes}
+use Rattle.std.specs.Prelude.{◌≡◌, ◌++◌, ℕ, List, codes}
 use Rattle.eds_base.specs.Faults.{reason_name}
 use Rattle.eds_base.specs.declared.fault.Reason.{Reason}
 use Rattle.eds_base.specs.declared.fault.Step.{Step}
 use Rattle.eds_base.specs.declared.refusal.Refusal.{Refusal}
+use Rattle.eds_host.specs.declared.wiring.HostFail.{HostFail}
+use Rattle.eds_script.specs.declared.why.BadLine.{BadLine}
 use Rattle.eds_types.specs.declared.reason.PackReason.{PackReason}
 use Rattle.eds_types.specs.Reasons as pack_reasons
 use Rattle.eds_types.specs.Rows.{Table}
@@ -14,10 +16,11 @@ use Rattle.eds_cmd.specs.declared.status.Status.{Status}
 use Rattle.eds_cmd.specs.declared.status.Status.TheVariants as statuses
 use Rattle.eds_cmd.specs.declared.status.DataFault.TheVariants as faults
 use Rattle.eds_cmd.specs.declared.status.What.{What}
+use Rattle.eds_cmd.specs.declared.status.What.TheVariants.{Deliveries}
 use Rattle.eds_cmd.specs.declared.stop.Cause.{Cause}
 use Rattle.eds_cmd.specs.declared.stop.Cause.TheVariants.{Sheet as Refused, Data, Limit, NoFile}
 use Rattle.eds_cmd.specs.declared.stop.Stop.{Stop}
-use Rattle.eds_cmd.specs.Reports.{fault_line, limit_line, no_file_line, packet_fault_line, refusal_line}
+use Rattle.eds_cmd.specs.Reports.{bad_line_line, deliveries_line, fault_line, limit_line, line_why_text, no_file_line, packet_fault_line, refusal_line, wire_why_text}
 
 -- the status of a command that ends for this cause
 abbrev pub status_of : Cause → Status
@@ -72,3 +75,15 @@ packet_fault t packet reason path = record {
   cause = Data (faults.Packet packet (record { reason = reason; path = path }));
   report = packet_fault_line (reason_name reason) (path_text t path) packet;
 }
+
+-- a line of a script means nothing
+abbrev pub bad_line : BadLine → Stop
+bad_line bad = record { cause = Data (faults.Line bad); report = bad_line_line bad.line (line_why_text bad.why) }
+
+-- a wire of a script ties nothing
+abbrev pub bad_wire : HostFail → Stop
+bad_wire fail = record { cause = Data (faults.Wire fail); report = bad_line_line fail.line (wire_why_text fail.why) }
+
+-- a line of a script is a storm, behind the lines of these events
+abbrev pub storm : (events : List ℕ) → (line : ℕ) → Stop
+storm events line = record { cause = Limit Deliveries line; report = events ++ deliveries_line line }

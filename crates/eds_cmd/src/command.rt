@@ -1,12 +1,12 @@
 //! The words of a command.
 
-ghost use Rattle.std.specs.Prelude.{◌≡◌, ◌≤◌, option_map};
-ghost use Rattle.eds_cmd.specs.Command.{check_of as check_in, command_of as command_in, input_most as most_input, job_of as job_in, verb_of as verb_in, type_name_of as type_name_in, words_of};
+ghost use Rattle.std.specs.Prelude.{◌≡◌, ◌≤◌, is_some, option_map};
+ghost use Rattle.eds_cmd.specs.Command.{check_of as check_in, command_of as command_in, input_most as most_input, job_of as job_in, run_of as run_in, task_type, task_words, verb_of as verb_in, type_name_of as type_name_in, words_of};
 
-use crate::limits::{HEX_OCTETS, JSON_OCTETS, PACKETS_OCTETS};
+use crate::limits::{HEX_OCTETS, JSON_OCTETS, PACKETS_OCTETS, SCRIPT_OCTETS};
 use eds_base::Text;
 
-/// What is done with an input file.
+/// What is done with an input file by a type.
 #[derive(Clone, Copy, Debug, PartialEq, Eq)]
 pub enum Verb {
     /// Reads the value of a frame.
@@ -17,12 +17,32 @@ pub enum Verb {
     Split,
 }
 
-/// What is to be done with an input file, the name of the type by which it is done, and the name of
-/// the file.
+/// What is to be done with an input file.
+#[derive(Clone, Copy, Debug)]
+pub enum Task<'a> {
+    /// Something by the type of that name.
+    ByType(Verb, &'a str),
+    /// It is a script, which is run over the components of the sheet.
+    Run,
+}
+
+impl<'a> Task<'a> {
+    /// The name of the type by which it is done, if it is by one.
+    pub fn type_name(&self) -> Option<&'a str>
+        ensures name { option_map (λ w. w.now) result ≡ task_type (task_words self.now) }
+        ensures given { is_some result ≡ is_some (task_type (task_words self.now)) }
+    {
+        match self {
+            Task::ByType(_, type_name) => Some(type_name),
+            Task::Run => None,
+        }
+    }
+}
+
+/// What is to be done with an input file, and the name of the file.
 #[derive(Clone, Copy, Debug)]
 pub struct Job<'a> {
-    pub verb: Verb,
-    pub type_name: &'a str,
+    pub task: Task<'a>,
     pub input: &'a str,
 }
 
@@ -37,9 +57,10 @@ pub struct Command<'a> {
 impl<'a> Command<'a> {
     /// The name of the type, where the command names one.
     pub fn type_name(&self) -> Option<&'a str>
-        ensures { option_map (λ w. w.now) result ≡ type_name_in (words_of self.now) }
+        ensures name { option_map (λ w. w.now) result ≡ type_name_in (words_of self.now) }
+        ensures given { is_some result ≡ is_some (type_name_in (words_of self.now)) }
     {
-        Some(self.job?.type_name)
+        self.job?.task.type_name()
     }
 }
 
@@ -80,9 +101,25 @@ fn job_of(verb: Verb, words: &[Text]) -> Option<Command<'_>>
         [_, _] => None,
         [type_name, input, sheets @ ..] => Some(Command {
             job: Some(Job {
-                verb,
-                type_name: type_name.as_str(),
+                task: Task::ByType(verb, type_name.as_str()),
                 input: input.as_str(),
+            }),
+            sheets,
+        }),
+    }
+}
+
+// The names of a script and of sheet files, of which there is at least one.
+fn run_of(words: &[Text]) -> Option<Command<'_>>
+    ensures { option_map words_of result ≡ run_in words.now }
+{
+    match words {
+        [] => None,
+        [_] => None,
+        [script, sheets @ ..] => Some(Command {
+            job: Some(Job {
+                task: Task::Run,
+                input: script.as_str(),
             }),
             sheets,
         }),
@@ -98,6 +135,8 @@ pub fn command_of(words: &[Text]) -> Option<Command<'_>>
         [first, rest @ ..] => {
             if first.as_str() == "check" {
                 check_of(rest)
+            } else if first.as_str() == "run" {
+                run_of(rest)
             } else {
                 job_of(verb_of(first.as_str())?, rest)
             }
@@ -106,13 +145,14 @@ pub fn command_of(words: &[Text]) -> Option<Command<'_>>
 }
 
 /// The most octets of the input file.
-pub fn input_most(verb: Verb) -> u64
-    ensures most { result ≡ most_input verb }
+pub fn input_most(task: &Task<'_>) -> u64
+    ensures most { result ≡ most_input (task_words task.now) }
     ensures few { result ≤ PACKETS_OCTETS }
 {
-    match verb {
-        Verb::Unpack => HEX_OCTETS,
-        Verb::Pack => JSON_OCTETS,
-        Verb::Split => PACKETS_OCTETS,
+    match task {
+        Task::ByType(Verb::Unpack, _) => HEX_OCTETS,
+        Task::ByType(Verb::Pack, _) => JSON_OCTETS,
+        Task::ByType(Verb::Split, _) => PACKETS_OCTETS,
+        Task::Run => SCRIPT_OCTETS,
     }
 }

@@ -9,6 +9,7 @@ mod limits;
 mod pack;
 mod perform;
 mod report;
+mod run;
 mod split;
 mod status;
 mod stop;
@@ -17,7 +18,7 @@ mod top;
 mod unpack;
 mod words;
 
-pub use law::answer_is_one;
+pub use law::{answer_is_one, run_is_one};
 pub use status::{DataFault, Status, What};
 pub use top::eds;
 pub use words::Words;

@@ -15,6 +15,9 @@ pub const HEX_OCTETS: u64 = 1048576;
 /// The octets of the text of a value.
 pub const JSON_OCTETS: u64 = 4194304;
 
+/// The octets of a script.
+pub const SCRIPT_OCTETS: u64 = 4194304;
+
 /// The octets of a file of packets.
 pub const PACKETS_OCTETS: u64 = 16777216;
 

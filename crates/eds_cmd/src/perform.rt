@@ -7,22 +7,25 @@ ghost use Rattle.eds_io.specs.Counts.{HasRisen};
 ghost use Rattle.eds_io.specs.Files.{Files};
 ghost use Rattle.eds_sheet.specs.Compiled.{compiled, seen_sheet};
 ghost use Rattle.eds_sheet.specs.Firsts.{WhereFirstsAreTold};
-ghost use Rattle.eds_cmd.specs.Answer.{AnswersFew, DoesBy, IsReached, IsReachedSheet, Works, accepted, input_for as input_of, or_refused, sheet_file as sheet_of_name, sheet_files as sheets_of_names, whole_file as whole, within_report as within_limit};
-ghost use Rattle.eds_cmd.specs.Command.{ReadsFile, job_words, words_of};
+ghost use Rattle.eds_cmd.specs.Answer.{AnswersFew, Does, DoesBy, IsReached, IsReachedSheet, Works, accepted, input_for as input_of, or_refused, sheet_file as sheet_of_name, sheet_files as sheets_of_names, whole_file as whole, within_report as within_limit};
+ghost use Rattle.eds_cmd.specs.Command.{ReadsFile, job_type, job_words, task_type, task_words, type_name_of, words_of};
 ghost use Rattle.eds_cmd.specs.Endings.{Comes, CommandEndsAs, EndsAs, OnUnread};
-ghost use Rattle.eds_cmd.specs.Target.{IsKnown, MayBeRead, type_in};
+ghost use Rattle.eds_cmd.specs.Run.{RunsSheet};
+ghost use Rattle.eds_cmd.specs.Target.{IsKnown, IsUsable, MayBeRead, type_in, type_of};
 
-use crate::command::{Command, Job, Verb, input_most};
+use crate::command::{Command, Job, Task, Verb, input_most};
 use crate::ended::Ended;
 use crate::limits::{PACKETS_OCTETS, REPORT_OCTETS, SHEET_OCTETS, SHEETS, SHEETS_OCTETS};
 use crate::pack::packed;
-use crate::report::counts_line;
+use crate::report::{counts_line, octets_of};
+use crate::run::{Components, run_script};
 use crate::split::split;
 use crate::status::What;
 use crate::stop::{Stop, limited, missing, refused};
 use crate::target::{Target, target_of};
 use crate::unpack::unpacked;
 use eds_base::{Fail, Items, Octets, Text};
+use eds_host::arguments_are_clear;
 use eds_io::{ReadEnd, Shelf, read_whole};
 use eds_sheet::{Sheet, compile};
 use std::alloc::Global;
@@ -115,8 +118,7 @@ fn sheet_by(
     requires few { length files.now ≤ SHEETS }
     requires short { All (λ file. length file < 2 ^ 32) files.now }
     ensures answer { WhereFirstsAreTold (λ firsts. Answers seen_sheet result (or_refused (compiled firsts files.now (option_map (λ w. w.now) type_name.entry)))) }
-    ensures word { IfOk result (λ s. IfSome s.asked_type (λ id. id.0 < length s.table)) }
-    ensures readable { IfOk result (λ s. MayBeRead (seen_sheet s)) }
+    ensures usable { IfOk result IsUsable }
     ensures given { IfOk result (λ s. is_some s.asked_type ≡ is_some type_name.entry) }
 {
     match compile(alloc, files, type_name) {
@@ -131,9 +133,8 @@ fn sheet_for<S: Shelf>(alloc: Global, command: &Command<'_>, shelf: &mut S) -> R
     requires { length command.now.sheets.now ≤ SHEETS }
     ensures told { WhereFirstsAreTold (λ firsts. (files : Files) → S.files shelf.old ≡ Some files
         → Comes seen_sheet result (accepted firsts files (words_of command.now))) }
-    ensures word { IfOk result (λ s. IfSome s.asked_type (λ id. id.0 < length s.table)) }
-    ensures readable { IfOk result (λ s. MayBeRead (seen_sheet s)) }
-    ensures given { IfOk result (λ s. is_some s.asked_type ≡ is_some command.now.job) }
+    ensures usable { IfOk result IsUsable }
+    ensures given { IfOk result (λ s. is_some s.asked_type ≡ is_some (type_name_of (words_of command.now))) }
     ensures files { S.files shelf.new ≡ S.files shelf.old }
     ensures calm { (other : List ℕ) → S.faults shelf.old other ≤ S.faults shelf.new other }
     ensures cause { IfErr result (λ ended. OnUnread ended
@@ -164,6 +165,54 @@ fn run_verb(
     }
 }
 
+// What is done with the octets of an input file by the type that a command names.
+fn do_by_type(alloc: Global, verb: Verb, sheet: &Sheet, input: &[u8]) -> Result<Octets, Fail<Stop>>
+    requires word { IsSomeAnd sheet.now.asked_type (λ id. id.0 < length sheet.now.table) }
+    requires readable { MayBeRead (seen_sheet sheet.now) }
+    requires few { length input.now ≤ PACKETS_OCTETS }
+    ensures { EndsAs (λ o. o) (Works verb (type_of (seen_sheet sheet.now)) input.now) result }
+{
+    let target = target_of(sheet);
+    let report = run_verb(alloc, verb, &target, input)?;
+    Ok(octets_of(report))
+}
+
+// Runs a script over the components of a sheet.
+fn run_sheet(alloc: Global, sheet: &Sheet, script: &[u8]) -> Result<Octets, Fail<Stop>>
+    requires { IsUsable sheet.now }
+    ensures { EndsAs (λ o. o) (RunsSheet (seen_sheet sheet.now) script.now) result }
+{
+    // The arguments of commands have used types, none of them an open binary: so they always are.
+    let clear = arguments_are_clear(alloc, &sheet.table, &sheet.used, &sheet.plan)?;
+    if clear {
+        let components = Components {
+            table: &sheet.table,
+            plan: &sheet.plan,
+        };
+        run_script(alloc, &components, script)
+    } else {
+        Err(Fail::Memory)
+    }
+}
+
+// What is done with the octets of an input file by a sheet.
+fn do_task(
+    alloc: Global,
+    task: &Task<'_>,
+    sheet: &Sheet,
+    input: &[u8],
+) -> Result<Octets, Fail<Stop>>
+    requires usable { IsUsable sheet.now }
+    requires given { is_some sheet.now.asked_type ≡ is_some (task_type (task_words task.now)) }
+    requires few { length input.now ≤ PACKETS_OCTETS }
+    ensures { EndsAs (λ o. o) (Does (task_words task.now) (seen_sheet sheet.now) input.now) result }
+{
+    match task {
+        Task::ByType(verb, _) => do_by_type(alloc, *verb, sheet, input),
+        Task::Run => run_sheet(alloc, sheet, input),
+    }
+}
+
 // The octets of the input file.
 fn input_for<S: Shelf>(alloc: Global, job: &Job<'_>, shelf: &mut S) -> Result<Octets, Ended>
     ensures told { (files : Files) → S.files shelf.old ≡ Some files
@@ -173,27 +222,26 @@ fn input_for<S: Shelf>(alloc: Global, job: &Job<'_>, shelf: &mut S) -> Result<Oc
     ensures unread { IfErr result (λ ended. OnUnread ended
         (λ n. (n ≡ job.now.input.now) × HasRisen (S.faults shelf.old n) (S.faults shelf.new n))) }
 {
-    whole_file(alloc, shelf, job.input, What::Input, input_most(job.verb))
+    whole_file(alloc, shelf, job.input, What::Input, input_most(&job.task))
 }
 
-// What is done with an input file by the type of a sheet.
+// What is done with an input file by a sheet.
 fn run_job<S: Shelf>(
     alloc: Global,
     job: &Job<'_>,
     sheet: &Sheet,
     shelf: &mut S,
-) -> Result<String, Ended>
-    requires word { IsSomeAnd sheet.now.asked_type (λ id. id.0 < length sheet.now.table) }
-    requires readable { MayBeRead (seen_sheet sheet.now) }
+) -> Result<Octets, Ended>
+    requires usable { IsUsable sheet.now }
+    requires given { is_some sheet.now.asked_type ≡ is_some (task_type (job_words job.now).task) }
     ensures told { (files : Files) → S.files shelf.old ≡ Some files
-        → CommandEndsAs string_bytes (DoesBy (Some (job_words job.now)) files (seen_sheet sheet.now)) result }
+        → CommandEndsAs (λ o. o) (DoesBy (Some (job_words job.now)) files (seen_sheet sheet.now)) result }
     ensures calm { (other : List ℕ) → S.faults shelf.old other ≤ S.faults shelf.new other }
     ensures unread { IfErr result (λ ended. OnUnread ended
         (λ n. (n ≡ job.now.input.now) × HasRisen (S.faults shelf.old n) (S.faults shelf.new n))) }
 {
-    let target = target_of(sheet);
     let input = input_for(alloc, job, shelf)?;
-    Ok(run_verb(alloc, job.verb, &target, input.as_slice())?)
+    Ok(do_task(alloc, &job.task, sheet, input.as_slice())?)
 }
 
 // What is done by an accepted sheet.
@@ -202,12 +250,11 @@ fn report_for<S: Shelf>(
     job: Option<Job<'_>>,
     sheet: &Sheet,
     shelf: &mut S,
-) -> Result<String, Ended>
-    requires word { IfSome sheet.now.asked_type (λ id. id.0 < length sheet.now.table) }
-    requires readable { MayBeRead (seen_sheet sheet.now) }
-    requires given { is_some sheet.now.asked_type ≡ is_some job }
+) -> Result<Octets, Ended>
+    requires usable { IsUsable sheet.now }
+    requires given { is_some sheet.now.asked_type ≡ is_some (job_type (option_map job_words job)) }
     ensures told { (files : Files) → S.files shelf.old ≡ Some files
-        → CommandEndsAs string_bytes (DoesBy (option_map job_words job.entry) files (seen_sheet sheet.now)) result }
+        → CommandEndsAs (λ o. o) (DoesBy (option_map job_words job.entry) files (seen_sheet sheet.now)) result }
     ensures calm { (other : List ℕ) → S.faults shelf.old other ≤ S.faults shelf.new other }
     ensures cause { IfErr result (λ ended. OnUnread ended
         (λ n. HasRisen (S.faults shelf.old n) (S.faults shelf.new n))) }
@@ -215,13 +262,13 @@ fn report_for<S: Shelf>(
 {
     match job {
         Some(job) => run_job(alloc, &job, sheet, shelf),
-        None => Ok(counts_line(alloc, sheet.counts)?),
+        None => Ok(octets_of(counts_line(alloc, sheet.counts)?)),
     }
 }
 
 // A report that is no longer than a report may be.
-fn within_report(alloc: Global, report: String) -> Result<String, Fail<Stop>>
-    ensures { Answers string_bytes result (within_limit (string_bytes report)) }
+fn within_report(alloc: Global, report: Octets) -> Result<Octets, Fail<Stop>>
+    ensures { Answers (λ o. o) result (within_limit report) }
 {
     if report.len() as u64 <= REPORT_OCTETS {
         Ok(report)
@@ -235,10 +282,10 @@ pub fn perform<S: Shelf>(
     alloc: Global,
     command: &Command<'_>,
     shelf: &mut S,
-) -> Result<String, Ended>
+) -> Result<Octets, Ended>
     requires { length command.now.sheets.now ≤ SHEETS }
     ensures told { WhereFirstsAreTold (λ firsts. (files : Files) → S.files shelf.old ≡ Some files
-        → CommandEndsAs string_bytes (AnswersFew firsts true (words_of command.now) files) result) }
+        → CommandEndsAs (λ o. o) (AnswersFew firsts true (words_of command.now) files) result) }
     ensures calm { (other : List ℕ) → S.faults shelf.old other ≤ S.faults shelf.new other }
     ensures cause { IfErr result (λ ended. OnUnread ended
         (λ n. HasRisen (S.faults shelf.old n) (S.faults shelf.new n))) }

@@ -1,10 +1,12 @@
 //! The lines that are reported.
 
 ghost use Rattle.std.specs.Prelude.{◌≡◌, IfOk, string_bytes};
-ghost use Rattle.eds_cmd.specs.Reports.{bits_report as report_of_bits, common_text as text_of_common, count_text as text_of_count, counts_line as line_of_counts, fault_line as line_of_fault, fault_words as words_of_fault, kept_text as text_of_kept, limit_line as line_of_limit, no_file_line as line_of_no_file, packet_fault_line as line_of_packet_fault, packet_words as words_of_packet, place_text as text_of_place, read_fault_line as line_of_read_fault, refusal_line as line_of_refusal, rule_text as text_of_rule, what_text as text_of_what};
+ghost use Rattle.eds_cmd.specs.Reports.{bad_line_line as line_of_bad_line, bits_report as report_of_bits, common_text as text_of_common, count_text as text_of_count, counts_line as line_of_counts, deliveries_line as line_of_deliveries, end_line as line_of_end, fault_line as line_of_fault, fault_words as words_of_fault, kept_text as text_of_kept, limit_line as line_of_limit, line_why_text as text_of_line_why, no_file_line as line_of_no_file, packet_fault_line as line_of_packet_fault, packet_words as words_of_packet, place_text as text_of_place, read_fault_line as line_of_read_fault, refusal_line as line_of_refusal, rule_text as text_of_rule, what_text as text_of_what, wire_why_text as text_of_wire_why};
 
 use crate::status::What;
-use eds_base::{CommonNumber, Kept, Place, Refusal, Rule};
+use eds_base::{CommonNumber, Kept, Octets, Place, Refusal, Rule};
+use eds_host::WireWhy;
+use eds_script::LineWhy;
 use eds_sheet::Counts;
 use std::alloc::{AllocError, Global};
 
@@ -99,6 +101,7 @@ fn what_text(what: What) -> &'static str
         What::Input => "input",
         What::Frame => "frame",
         What::Report => "report",
+        What::Deliveries => "deliveries",
     }
 }
 
@@ -173,4 +176,66 @@ pub fn bits_report(alloc: Global, text: &str, count: u32) -> Result<String, Allo
     ensures { IfOk result (λ s. string_bytes s ≡ report_of_bits text.now count) }
 {
     Ok(format!(in alloc; "{text}\nbits {count}\n")?)
+}
+
+/// The octets of a text, with no copy.
+pub fn octets_of(text: String) -> Octets
+    ensures { result ≡ string_bytes text }
+{
+    Octets::from_vec(text.into_bytes())
+}
+
+/// The word for why a line of a script means nothing.
+pub fn line_why_text(why: LineWhy) -> &'static str
+    ensures { result.now ≡ text_of_line_why why }
+{
+    match why {
+        LineWhy::Text => "Text",
+        LineWhy::Words => "Words",
+        LineWhy::Late => "Late",
+        LineWhy::Number => "Number",
+        LineWhy::Time => "Time",
+        LineWhy::End => "End",
+        LineWhy::Wired => "Wired",
+        LineWhy::Way => "Way",
+        LineWhy::Member => "Member",
+        LineWhy::ReadOnly => "ReadOnly",
+        LineWhy::Args => "Args",
+        LineWhy::Hex => "Hex",
+        LineWhy::Json => "Json",
+        LineWhy::Shape => "Shape",
+        LineWhy::Value => "Value",
+    }
+}
+
+/// The word for why a wire of a script ties nothing.
+pub fn wire_why_text(why: WireWhy) -> &'static str
+    ensures { result.now ≡ text_of_wire_why why }
+{
+    match why {
+        WireWhy::WireEnd => "WireEnd",
+        WireWhy::WireType => "WireType",
+        WireWhy::WireTwice => "WireTwice",
+    }
+}
+
+/// The line for a line of a script, by its number, that means or ties nothing.
+pub fn bad_line_line(alloc: Global, line: u32, why: &str) -> Result<String, AllocError>
+    ensures { IfOk result (λ s. string_bytes s ≡ line_of_bad_line line why.now) }
+{
+    Ok(format!(in alloc; "bad line {line} {why}\n")?)
+}
+
+/// The line for a line of a script, by its number, that more deliveries and firings would follow than may.
+pub fn deliveries_line(alloc: Global, line: u32) -> Result<String, AllocError>
+    ensures { IfOk result (λ s. string_bytes s ≡ line_of_deliveries line) }
+{
+    Ok(format!(in alloc; "limit deliveries 10000 at line {line}\n")?)
+}
+
+/// The line of the time at which a run ends, in nanoseconds.
+pub fn end_line(alloc: Global, time: u64) -> Result<String, AllocError>
+    ensures { IfOk result (λ s. string_bytes s ≡ line_of_end time) }
+{
+    Ok(format!(in alloc; "end {time}\n")?)
 }

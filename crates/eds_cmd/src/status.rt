@@ -1,7 +1,9 @@
 //! How a command ended.
 
 use eds_base::{Fault, Refusal, Text};
+use eds_host::HostFail;
 use eds_pack::PackFail;
+use eds_script::BadLine;
 use eds_value::ValueFail;
 
 /// What has passed its limit.
@@ -19,6 +21,8 @@ pub enum What {
     Frame,
     /// The octets of a report.
     Report,
+    /// The deliveries and firings of a line of a script.
+    Deliveries,
 }
 
 /// What is wrong with the input file.
@@ -34,6 +38,10 @@ pub enum DataFault {
     Pack(PackFail),
     /// A packet of that number, from 1, can't be read.
     Packet(u32, Fault),
+    /// A line of a script means nothing: the first one.
+    Line(BadLine),
+    /// A wire of a script ties nothing: the first one.
+    Wire(HostFail),
 }
 
 /// How a command ended.
@@ -53,7 +61,7 @@ pub enum Status {
     WriteFault,
     /// An allocation was refused. Nothing was written.
     Memory,
-    /// A limit was passed: the stated most, as a number.
+    /// A limit was passed: the stated most, as a number. Of deliveries and firings it is the number of the line.
     Limit(What, u64),
     /// There is no file of that name.
     NoFile(Text),

@@ -3,10 +3,15 @@
 ghost use Rattle.std.specs.Prelude.{◌≡◌, IfOk};
 ghost use Rattle.eds_cmd.specs.Stops as stops;
 
-use crate::report::{fault_line, limit_line, no_file_line, packet_fault_line, refusal_line};
+use crate::report::{
+    bad_line_line, deliveries_line, fault_line, limit_line, line_why_text, no_file_line, octets_of,
+    packet_fault_line, refusal_line, wire_why_text,
+};
 use crate::status::{DataFault, Status, What};
-use eds_base::{Fault, Memory, Refusal, Text};
+use eds_base::{Fault, Memory, Octets, Refusal, Text};
+use eds_host::HostFail;
 use eds_pack::PackFail;
+use eds_script::BadLine;
 use eds_types::TypeTable;
 use eds_value::{ValueFail, path_text};
 use std::alloc::Global;
@@ -42,7 +47,7 @@ impl Cause {
 #[derive(Debug, Drop)]
 pub struct Stop {
     pub cause: Cause,
-    pub report: Text,
+    pub report: Octets,
 }
 
 /// A file is missing.
@@ -52,7 +57,7 @@ pub fn missing(alloc: Global, name: &str) -> Result<Stop, Memory>
     let report = no_file_line(alloc, name)?;
     Ok(Stop {
         cause: Cause::NoFile(Text::of(alloc, name)?),
-        report: Text::from_string(report),
+        report: octets_of(report),
     })
 }
 
@@ -63,7 +68,7 @@ pub fn limited(alloc: Global, what: What, most: u64) -> Result<Stop, Memory>
     let report = limit_line(alloc, what, most)?;
     Ok(Stop {
         cause: Cause::Limit(what, most),
-        report: Text::from_string(report),
+        report: octets_of(report),
     })
 }
 
@@ -74,7 +79,7 @@ pub fn refused(alloc: Global, refusal: Refusal) -> Result<Stop, Memory>
     let report = refusal_line(alloc, &refusal)?;
     Ok(Stop {
         cause: Cause::Sheet(refusal),
-        report: Text::from_string(report),
+        report: octets_of(report),
     })
 }
 
@@ -85,7 +90,7 @@ pub fn bad_hex(alloc: Global) -> Result<Stop, Memory>
     let report = fault_line(alloc, "BadHex", "$")?;
     Ok(Stop {
         cause: Cause::Data(DataFault::Hex),
-        report: Text::from_string(report),
+        report: octets_of(report),
     })
 }
 
@@ -97,7 +102,7 @@ pub fn frame_fault(alloc: Global, table: &TypeTable, fault: Fault) -> Result<Sto
     let report = fault_line(alloc, fault.reason.name(), place.as_str())?;
     Ok(Stop {
         cause: Cause::Data(DataFault::Frame(fault)),
-        report: Text::from_string(report),
+        report: octets_of(report),
     })
 }
 
@@ -114,7 +119,7 @@ pub fn packet_fault(
     let report = packet_fault_line(alloc, fault.reason.name(), place.as_str(), packet)?;
     Ok(Stop {
         cause: Cause::Data(DataFault::Packet(packet, fault)),
-        report: Text::from_string(report),
+        report: octets_of(report),
     })
 }
 
@@ -131,7 +136,7 @@ pub fn value_fault(alloc: Global, table: &TypeTable, fail: ValueFail) -> Result<
     };
     Ok(Stop {
         cause: Cause::Data(DataFault::Json(fail)),
-        report: Text::from_string(report),
+        report: octets_of(report),
     })
 }
 
@@ -144,6 +149,41 @@ pub fn pack_fault(alloc: Global, table: &TypeTable, fail: PackFail) -> Result<St
     let report = fault_line(alloc, fail.reason.name(), place.as_str())?;
     Ok(Stop {
         cause: Cause::Data(DataFault::Pack(fail)),
-        report: Text::from_string(report),
+        report: octets_of(report),
+    })
+}
+
+/// A line of a script means nothing.
+pub fn bad_line(alloc: Global, bad: BadLine) -> Result<Stop, Memory>
+    ensures { IfOk result (λ s. s ≡ stops.bad_line bad) }
+{
+    let report = bad_line_line(alloc, bad.line, line_why_text(bad.why))?;
+    Ok(Stop {
+        cause: Cause::Data(DataFault::Line(bad)),
+        report: octets_of(report),
+    })
+}
+
+/// A wire of a script ties nothing.
+pub fn bad_wire(alloc: Global, fail: HostFail) -> Result<Stop, Memory>
+    ensures { IfOk result (λ s. s ≡ stops.bad_wire fail) }
+{
+    let report = bad_line_line(alloc, fail.line, wire_why_text(fail.why))?;
+    Ok(Stop {
+        cause: Cause::Data(DataFault::Wire(fail)),
+        report: octets_of(report),
+    })
+}
+
+/// A line of a script, by its number, is a storm, behind the lines of what left the run until then.
+pub fn storm(alloc: Global, events: Vec<u8>, line: u32) -> Result<Stop, Memory>
+    ensures { IfOk result (λ s. s ≡ stops.storm events.items line) }
+{
+    let mut report = events;
+    let last = deliveries_line(alloc, line)?;
+    report.extend_from_slice(last.as_bytes())?;
+    Ok(Stop {
+        cause: Cause::Limit(What::Deliveries, u64::from(line)),
+        report: Octets::from_vec(report),
     })
 }

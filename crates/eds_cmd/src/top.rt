@@ -15,11 +15,11 @@ use crate::ended::Ended;
 use crate::law::answer_is_one;
 use crate::limits::SHEETS;
 use crate::perform::perform;
-use crate::report::read_fault_line;
+use crate::report::{octets_of, read_fault_line};
 use crate::status::{Status, What};
 use crate::stop::Stop;
 use crate::words::Words;
-use eds_base::{Memory, Text};
+use eds_base::{Memory, Octets, Text};
 use eds_io::{Shelf, Sink, write_whole};
 use std::alloc::Global;
 
@@ -31,7 +31,7 @@ const TOO_MANY_SHEETS: &str = "limit files 64\n";
 #[derive(Debug, Drop)]
 pub struct Outcome {
     pub status: Status,
-    pub report: Text,
+    pub report: Octets,
 }
 
 // A read of the file of that name failed.
@@ -41,7 +41,7 @@ fn unread(alloc: Global, name: Text) -> Result<Outcome, Memory>
     let line = read_fault_line(alloc, name.as_str())?;
     Ok(Outcome {
         status: Status::ReadFault(name),
-        report: Text::from_string(line),
+        report: octets_of(line),
     })
 }
 
@@ -66,7 +66,7 @@ fn run_command<S: Shelf>(
     match perform(alloc, command, shelf) {
         Ok(report) => Ok(Outcome {
             status: Status::Done,
-            report: Text::from_string(report),
+            report,
         }),
         Err(Ended::Stopped(Stop { cause, report })) => Ok(Outcome {
             status: cause.status(),
@@ -78,7 +78,7 @@ fn run_command<S: Shelf>(
 }
 
 // Writes the report, and gives the status, or that of a write that fails.
-fn finish<K: Sink>(sink: &mut K, status: Status, report: &str) -> Status
+fn finish<K: Sink>(sink: &mut K, status: Status, report: &[u8]) -> Status
     ensures whole { (before : List ℕ) → K.written sink.old ≡ Some before → result ≢ Status.WriteFault
         → K.written sink.new ≡ Some (before ++ report.now) }
     ensures kept { result ≢ Status.WriteFault → result ≡ status }
@@ -86,7 +86,7 @@ fn finish<K: Sink>(sink: &mut K, status: Status, report: &str) -> Status
         → (n : ℕ) × (K.written sink.new ≡ Some (before ++ take n report.now)) }
     ensures cause { has_report status ≡ true → result ≡ Status.WriteFault → HasRisen (K.faults sink.old) (K.faults sink.new) }
 {
-    match write_whole(sink, report.as_bytes()) {
+    match write_whole(sink, report) {
         Ok(()) => status,
         Err(_) => Status::WriteFault,
     }
@@ -138,16 +138,16 @@ pub fn eds<S: Shelf, K: Sink>(alloc: Global, words: &Words, shelf: &mut S, sink:
         → (result ≡ Status.Done) ⊎ (result ≡ Status.Memory)) }
 {
     let Some(command) = command_of(words.as_slice()) else {
-        return finish(sink, Status::Usage, USAGE);
+        return finish(sink, Status::Usage, USAGE.as_bytes());
     };
     if command.sheets.len() > SHEETS {
         let status = Status::Limit(What::Files, SHEETS as u64);
-        return finish(sink, status, TOO_MANY_SHEETS);
+        return finish(sink, status, TOO_MANY_SHEETS.as_bytes());
     }
     // No other answer stands beside that of a valid command.
     answer_is_one();
     match run_command(alloc, &command, shelf) {
-        Ok(Outcome { status, report }) => finish(sink, status, report.as_str()),
+        Ok(Outcome { status, report }) => finish(sink, status, report.as_slice()),
         Err(_) => Status::Memory,
     }
 }

@@ -1,8 +1,49 @@
-use Rattle.eds_cmd.proofs.OneAnswer.{one_answer, some_answer}
+use Rattle.eds_host.specs.Alike.{AlikeRuns, AlikeSystems, AlikeWires}
+use Rattle.eds_overlap.specs.Laws.{EmptyTypes, OneCanonical, OneOutcome, PackingIsDecided}
+use Rattle.eds_read_comp.specs.Laws.{SeenPlansAreAlike}
+use Rattle.eds_script.specs.Alike.{AlikeEvents, AlikeScripts, AlikeStates}
+use Rattle.eds_unpack.specs.Pieces.{OneCut}
+use Rattle.eds_cmd.specs.RunLaws.{OneRun, SomeRun, ValidScriptsRun}
+use Rattle.eds_cmd.proofs.OneAnswer.{ValueLaws, one_answer, some_answer}
+use Rattle.eds_cmd.proofs.SheetRuns.{ScriptLaws}
+use Rattle.eds_cmd.proofs.ValidLemmas.{valid_done}
 use Rattle.eds_cmd.proofs.law.answer_is_one.Goals as goal
 
+-- the laws of runs
+script_laws : SeenPlansAreAlike → AlikeSystems → AlikeWires → AlikeRuns → AlikeScripts → AlikeEvents → AlikeStates → OneRun → SomeRun → ValidScriptsRun → ScriptLaws
+script_laws seen systems wires runs scripts events states one some valid = record {
+  alike = record { seen = seen; systems = systems; wires = wires; runs = runs; scripts = scripts; events = events; states = states };
+  one = one;
+  some = some;
+  valid = valid;
+}
+
+-- and all laws
+laws : OneOutcome → OneCanonical → PackingIsDecided → EmptyTypes → OneCut → ScriptLaws → ValueLaws
+laws outcome canonical packing empty cut scripts = record { outcome = outcome; canonical = canonical; packing = packing; empty = empty; cut = cut; scripts = scripts }
+
 pub returns-clause-one : goal.returns-clause-one
-returns-clause-one c = one_answer (record { outcome = c.one_outcome.ensures; canonical = c.canonical_spelling.ensures.one; packing = c.packing_is_decided.ensures; empty = c.empty_types.ensures; cut = c.one_cut.ensures }) c.sheets_are_sound.ensures
+returns-clause-one c =
+    let alike = c.alike_plans_run_alike.ensures in
+    let told = c.alike_plans_are_told_alike.ensures in
+    let run = c.run_is_one.ensures in
+    let scripts = script_laws c.seen_plans_are_alike.ensures alike.systems alike.wires alike.runs told.scripts told.events told.states run.one run.some run.valid in
+    one_answer (laws c.one_outcome.ensures c.canonical_spelling.ensures.one c.packing_is_decided.ensures c.empty_types.ensures c.one_cut.ensures scripts) c.sheets_are_sound.ensures
 
 pub returns-clause-some : goal.returns-clause-some
-returns-clause-some c = some_answer (record { outcome = c.one_outcome.ensures; canonical = c.canonical_spelling.ensures.one; packing = c.packing_is_decided.ensures; empty = c.empty_types.ensures; cut = c.one_cut.ensures }) c.sheets_are_sound.ensures
+returns-clause-some c =
+    let alike = c.alike_plans_run_alike.ensures in
+    let told = c.alike_plans_are_told_alike.ensures in
+    let run = c.run_is_one.ensures in
+    let scripts = script_laws c.seen_plans_are_alike.ensures alike.systems alike.wires alike.runs told.scripts told.events told.states run.one run.some run.valid in
+    some_answer (laws c.one_outcome.ensures c.canonical_spelling.ensures.one c.packing_is_decided.ensures c.empty_types.ensures c.one_cut.ensures scripts) c.sheets_are_sound.ensures
+
+pub returns-clause-valid : goal.returns-clause-valid
+returns-clause-valid c =
+    let alike = c.alike_plans_run_alike.ensures in
+    let told = c.alike_plans_are_told_alike.ensures in
+    let run = c.run_is_one.ensures in
+    let scripts = script_laws c.seen_plans_are_alike.ensures alike.systems alike.wires alike.runs told.scripts told.events told.states run.one run.some run.valid in
+    λ firsts files command status report valid answer.
+    valid_done (laws c.one_outcome.ensures c.canonical_spelling.ensures.one c.packing_is_decided.ensures c.empty_types.ensures c.one_cut.ensures scripts) c.sheets_are_sound.ensures
+    firsts files command valid status report answer

@@ -1,13 +1,12 @@
-use Rattle.std.proofs.Common.{◌≡◌, ◌≢◌, ◌∙◌, sym, ap, subst, refl, inl, ⊎_elim, Some, None}
+use Rattle.std.proofs.Common.{◌≡◌, ◌≢◌, ◌∙◌, ◌++◌, ℕ, List, take, sym, ap, subst, refl, inl, ⊎_elim, Some, None}
 use Rattle.eds_cmd.specs.declared.status.Status.{Status}
 use Rattle.eds_cmd.specs.declared.status.Status.TheVariants as statuses
-use Rattle.eds_cmd.specs.Command.{CommandWords, command_of, words_of}
+use Rattle.eds_cmd.specs.Command.{command_of, words_of}
 use Rattle.eds_cmd.specs.Outcome.{IsFault}
 use Rattle.eds_cmd.specs.declared.status.What.TheVariants as what
 use Rattle.eds_cmd.specs.Limits.{sheet_count}
 use Rattle.eds_cmd.specs.Reports.{usage_line}
 use Rattle.eds_cmd.proofs.AnswerLemmas.{past_answer, past_line, past_line_is, unread_reached}
-use Rattle.eds_cmd.proofs.ValidLemmas.{valid_done}
 use Rattle.eds_cmd.proofs.top.eds.Goals as goal
 
 -- what is no fault is no write fault
@@ -18,7 +17,7 @@ pub returns-in_default-clause-answer : goal.returns-in_default-clause-answer
 returns-in_default-clause-answer g c = λ firsts tells files before told written calm.
     let none : command_of c.args.words.now ≡ None = rw (← c.as_slice.ensures) (sym c.in_default.ensures) in
     let whole = not_write_fault c.finish.result calm in
-    (usage_line, rw none (c.finish.ensures.kept whole, refl), c.finish.ensures.whole before written whole)
+    (usage_line, rw none (c.finish.ensures.kept whole, refl), c.finish.ensures.whole before written whole ∙ ap (λ (line : List ℕ). Some (before ++ line)) c.as_bytes.ensures.value)
 
 pub returns-in_default-clause-status : goal.returns-in_default-clause-status
 returns-in_default-clause-status g c = λ firsts tells files told calm.
@@ -26,20 +25,23 @@ returns-in_default-clause-status g c = λ firsts tells files told calm.
     (usage_line, rw none (c.finish.ensures.kept (not_write_fault c.finish.result calm), refl))
 
 pub returns-in_default-clause-usage_line : goal.returns-in_default-clause-usage_line
-returns-in_default-clause-usage_line g c = λ before written usage. c.finish.ensures.whole before written (λ fault. cc (usage, fault))
+returns-in_default-clause-usage_line g c = λ before written usage. c.finish.ensures.whole before written (λ fault. cc (usage, fault)) ∙ ap (λ (line : List ℕ). Some (before ++ line)) c.as_bytes.ensures.value
 
 pub returns-in_default-clause-write_prefix : goal.returns-in_default-clause-write_prefix
 returns-in_default-clause-write_prefix g c = λ firsts tells files before told written fault.
     let none : command_of c.args.words.now ≡ None = rw (← c.as_slice.ensures) (sym c.in_default.ensures) in
     let front = c.finish.ensures.prefix before written refl fault in
-    (usage_line, front.0, (statuses.Usage, inl (rw none (refl, refl))), front.1)
+    (usage_line, front.0, (statuses.Usage, inl (rw none (refl, refl))), front.1 ∙ ap (λ (line : List ℕ). Some (before ++ take front.0 line)) c.as_bytes.ensures.value)
 
 pub returns-then-command-gt-SHEETS-clause-answer : goal.returns-then-command-gt-SHEETS-clause-answer
 returns-then-command-gt-SHEETS-clause-answer g c = λ firsts tells files before told written calm.
     let some : command_of c.args.words.now ≡ Some (words_of c.in-Some.command) = rw (← c.as_slice.ensures) (sym c.in-Some.ensures) in
     let whole = not_write_fault c.finish-then-command-gt-SHEETS.result calm in
-    let answer = past_answer firsts files (words_of c.in-Some.command) c.if-command-gt-SHEETS.true in
-    (past_line, rw (some, c.finish-then-command-gt-SHEETS.ensures.kept whole) answer, c.finish-then-command-gt-SHEETS.ensures.whole before written whole)
+    let answer = past_answer firsts files (words_of c.in-Some.command) c.if-command-gt-SHEETS.true in (
+      past_line,
+      rw (some, c.finish-then-command-gt-SHEETS.ensures.kept whole) answer,
+      c.finish-then-command-gt-SHEETS.ensures.whole before written whole ∙ ap (λ (line : List ℕ). Some (before ++ line)) c.as_bytes-then-command-gt-SHEETS.ensures.value,
+    )
 
 pub returns-then-command-gt-SHEETS-clause-status : goal.returns-then-command-gt-SHEETS-clause-status
 returns-then-command-gt-SHEETS-clause-status g c = λ firsts tells files told calm.
@@ -49,14 +51,15 @@ returns-then-command-gt-SHEETS-clause-status g c = λ firsts tells files told ca
 
 pub returns-then-command-gt-SHEETS-clause-too_many_line : goal.returns-then-command-gt-SHEETS-clause-too_many_line
 returns-then-command-gt-SHEETS-clause-too_many_line g c = λ before written many calm.
-    rw (← past_line_is) (c.finish-then-command-gt-SHEETS.ensures.whole before written (not_write_fault c.finish-then-command-gt-SHEETS.result calm))
+    rw (← past_line_is)
+    (c.finish-then-command-gt-SHEETS.ensures.whole before written (not_write_fault c.finish-then-command-gt-SHEETS.result calm) ∙ ap (λ (line : List ℕ). Some (before ++ line)) c.as_bytes-then-command-gt-SHEETS.ensures.value)
 
 pub returns-then-command-gt-SHEETS-clause-write_prefix : goal.returns-then-command-gt-SHEETS-clause-write_prefix
 returns-then-command-gt-SHEETS-clause-write_prefix g c = λ firsts tells files before told written fault.
     let some : command_of c.args.words.now ≡ Some (words_of c.in-Some.command) = rw (← c.as_slice.ensures) (sym c.in-Some.ensures) in
     let front = c.finish-then-command-gt-SHEETS.ensures.prefix before written refl fault in
     let answer = past_answer firsts files (words_of c.in-Some.command) c.if-command-gt-SHEETS.true in
-    (past_line, front.0, (statuses.Limit what.Files sheet_count, inl (rw some answer)), front.1)
+    (past_line, front.0, (statuses.Limit what.Files sheet_count, inl (rw some answer)), front.1 ∙ ap (λ (line : List ℕ). Some (before ++ take front.0 line)) c.as_bytes-then-command-gt-SHEETS.ensures.value)
 
 pub returns-in-Ok-clause-read_first : goal.returns-in-Ok-clause-read_first
 returns-in-Ok-clause-read_first g c = λ firsts tells files name told fault.
@@ -68,7 +71,7 @@ returns-in-Ok-clause-read_first g c = λ firsts tells files name told fault.
 pub returns-in-Ok-clause-write_prefix : goal.returns-in-Ok-clause-write_prefix
 returns-in-Ok-clause-write_prefix g c = λ firsts tells files before told written fault.
     let some : command_of c.args.words.now ≡ Some (words_of c.in-Some.command) = rw (← c.as_slice.ensures) (sym c.in-Some.ensures) in
-    let front = rw c.as_str.ensures at (c.finish-in-Ok.ensures.prefix before written c.in-Ok.ensures.written fault) in
+    let front = rw c.as_slice-in-Ok.ensures at (c.finish-in-Ok.ensures.prefix before written c.in-Ok.ensures.written fault) in
     (c.in-Ok.field-0.report, front.0, (c.in-Ok.field-0.status, rw some (c.in-Ok.ensures.told firsts tells files told)), front.1)
 
 pub returns-in-Ok-clause-complete : goal.returns-in-Ok-clause-complete
@@ -77,6 +80,6 @@ returns-in-Ok-clause-complete g c = λ firsts tells files words told is valid re
     let same : words_of c.in-Some.command ≡ words = cc some in
     let kept = c.finish-in-Ok.ensures.kept (λ e. writes_calm (c.finish-in-Ok.ensures.cause c.in-Ok.ensures.written e)) in
     ⊎_elim
-    (λ answer. inl (kept ∙ valid_done c.answer_is_one.ensures.one firsts c.args.words.now files (words_of c.in-Some.command) c.in-Ok.field-0.status c.in-Ok.field-0.report (is ∙ ap (λ (w : CommandWords). Some w) (sym same)) (rw same valid) answer))
+    (λ answer. inl (kept ∙ c.answer_is_one.ensures.valid firsts files (words_of c.in-Some.command) c.in-Ok.field-0.status c.in-Ok.field-0.report (rw same valid) answer))
     (λ unread. absurd (reads_calm unread.name unread.risen))
     (c.in-Ok.ensures.told firsts tells files told)

@@ -6,7 +6,7 @@ use Rattle.eds_cmd.proofs.AnswerLemmas.{few_answer}
 use Rattle.eds_cmd.proofs.top.run_command.Goals as goal
 
 pub returns-in-Ok-clause-told : goal.returns-in-Ok-clause-told
-returns-in-Ok-clause-told g c = λ firsts tells files told. inl (few_answer firsts files (words_of c.args.command.now) _ _ c.requires (rw c.from_string.ensures (c.in-Ok.ensures.told firsts tells files told)))
+returns-in-Ok-clause-told g c = λ firsts tells files told. inl (few_answer firsts files (words_of c.args.command.now) _ _ c.requires (c.in-Ok.ensures.told firsts tells files told))
 
 pub returns-in-Err-Stopped-clause-told : goal.returns-in-Err-Stopped-clause-told
 returns-in-Err-Stopped-clause-told g c = λ firsts tells files told.
