@@ -26,7 +26,7 @@ sys.dont_write_bytecode = True
 import cases as case_files  # noqa: E402
 
 TOP = os.path.dirname(os.path.dirname(os.path.abspath(__file__)))
-FEW = ["flat/check", "flat/unpack", "flat/pack", "flat/short", "packages/check", "packages/alone"]
+FEW = ["flat/check", "flat/unpack", "flat/pack", "flat/short", "packages/check", "packages/alone", "bus/alone", "bus/wired"]
 MEMORY = ["flat/unpack", "flat/pack", "packages/check"]
 SECONDS = 20
 

@@ -1,5 +1,5 @@
 #!/usr/bin/env python3
-"""Runs the program on sheets, frames and values that are made to hurt, and holds it to its answers and to bounds.
+"""Runs the program on sheets, frames, values and scripts that are made to hurt, and holds it to its answers and to bounds.
 
   .ci/hostile.py [--measure] [PROGRAM]
 
@@ -15,6 +15,8 @@ import subprocess
 import sys
 import tempfile
 from concurrent.futures import ThreadPoolExecutor
+
+import cases
 
 TOP = os.path.dirname(os.path.dirname(os.path.abspath(__file__)))
 SECONDS, MEMORY, STACK = 2, 256 << 20, 1 << 20
@@ -229,6 +231,45 @@ def inputs():
     yield "a value 100,000 lists deep", "pack P/Word v s", {"s": WORD, "v": "[" * 100000 + "]" * 100000}, (3, "fault NotJson at $\n")
 
 
+def scripts():
+    """Scripts that are made to hurt: what each shows, the script, and the answer. They are run over the sheet of a heater."""
+    beats = [f"{n}000 frame Dev/Heater:bus send a5{n:02x}" for n in range(1, 256)] + [f"{n}000 halt Dev/Heater m OutOfRange" for n in range(256, 10001)]
+    end = ["end %d", "state Dev/Heater m %s", "var Dev/Heater n %d", 'var Dev/Heater b {"$type":"Dev/Beat","N":%d}']
+    last = "".join(f"{line}\n" for line in beats)
+    on = "cmd Dev/Heater:ctl On {}\n"
+
+    def ends(time=0, state="Off", count=0):
+        return "\n".join(end) % (time, state, count, count) + "\n"
+
+    yield "a timer that comes 10,000 times", on + "tick 10000000\n", (0, last + ends(10000000, "Run", 255))
+    yield "a timer that comes 10,001 times", on + "tick 10001000\n", (7, last + "limit deliveries 10000 at line 2\n")
+    yield "4 MiB of empty lines", "\n" * FILE, (0, ends())
+    yield "a comment of 4 MiB", "#" * FILE, (0, ends())
+    yield "a word of 4 MiB", "x" * FILE, (3, "bad line 1 Words\n")
+    yield "600,000 ticks", "tick 0\n" * (FILE // 7), (0, ends())
+    yield "100,000 ticks, of which the last is bad", "tick 1\n" * 100000 + "tick\n", (3, "bad line 100001 Words\n")
+    yield "2 million spaces", " " * (FILE // 2), (3, "bad line 1 Words\n")
+    yield "100,000 wires", "wire Dev/Heater:bus Dev/Heater:bus\n" * 100000, (3, "bad line 1 WireEnd\n")
+    yield "100,000 wires, and a line that is none", "wire a b\n" * 100000 + "tock\n", (3, "bad line 100001 Words\n")
+    yield "arguments 100,000 lists deep", "cmd Dev/Heater:bus recv " + "[" * 100000 + "]" * 100000, (3, "bad line 1 Json\n")
+    yield "100,000 arguments", "cmd Dev/Heater:bus recv {" + ",".join(f'"a{i}":1' for i in range(100000)) + "}", (3, "bad line 1 Shape\n")
+    yield "a frame of 2 million digits", "frame Dev/Heater:bus recv " + "0" * 2000000, (3, "bad line 1 Hex\n")
+    yield "30 frames of 65,536 octets", ("frame Dev/Heater:bus recv " + "a5" * 65536 + "\n") * 30, (
+        0, "0 reject Dev/Heater:bus recv Trailing at $\n" * 30 + ends())  # fmt: skip
+
+
+def sheet_of_cases(name):
+    parts = cases.with_parts({}, json.loads((cases.DATA / "elements.json").read_text()))
+    return cases.with_parts(parts, json.loads((cases.DATA / "sheets.json").read_text()))[name]
+
+
+def runs():
+    """The inputs of scripts."""
+    dev = sheet_of_cases("Dev")
+    for what, script, answer in scripts():
+        yield what, "run r s", {"r": script, "s": dev}, answer
+
+
 def run(program, words, room, stack=STACK, memory=MEMORY):
     """The answer and the processor seconds of a run with so many octets of stack and of memory in all."""
 
@@ -283,7 +324,7 @@ def main():
     program = os.path.abspath(words[0]) if words else os.path.join(TOP, "crates/eds_prog/out/eds_prog")
     measures = "--measure" in sys.argv
     with ThreadPoolExecutor(1 if measures else os.cpu_count()) as pool:
-        held = list(pool.map(lambda it: hold(program, it, measures), inputs()))
+        held = list(pool.map(lambda it: hold(program, it, measures), [*inputs(), *runs()]))
     for what, wrong, took in held:
         if measures:
             print(f"{took}  {what}")
