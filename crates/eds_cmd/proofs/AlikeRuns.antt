@@ -21,7 +21,9 @@ use Rattle.eds_types.specs.Rows.{Table}
 use Rattle.eds_cmd.specs.declared.status.Status.{Status}
 use Rattle.eds_cmd.specs.Reports.{end_line}
 use Rattle.eds_cmd.specs.Run.{AreEventLines, IsValidScript, Runs, RunsOver, RunsPlot, RunsScript, all_events, end_text, states_text, wired}
+use Rattle.eds_cmd.specs.Demonstrated.{RunsTo}
 use Rattle.eds_cmd.specs.Running.{happenings}
+use Rattle.eds_cmd.specs.declared.tally.Tally.{Tally}
 
 -- plans of which a sheet says the same are seen alike, and such plans run and are told alike
 pub record AlikeLaws : Type 0 where
@@ -100,4 +102,18 @@ module _ (laws : AlikeLaws) (t : Table) (p q : List ComponentPlan) (alike : AreA
     outs = v.outs;
     world = v.world;
     calm = runs_alike v.ties v.plot.lines v.outs (Some v.world) v.calm;
+  }
+
+  -- so much is counted in it
+  pub counted_alike : (text : List ℕ) (tally : Tally) (time : ℕ) → RunsTo t p text tally time → RunsTo t q text tally time
+  counted_alike text tally time r = record {
+    plot = r.plot;
+    good = sym (laws.scripts t p q alike text) ∙ r.good;
+    ties = r.ties;
+    tied = sym (laws.wires p q alike r.plot.wires) ∙ r.tied;
+    outs = r.outs;
+    world = r.world;
+    runs = runs_alike r.ties r.plot.lines r.outs (Some r.world) r.runs;
+    counted = r.counted;
+    end_is = r.end_is;
   }

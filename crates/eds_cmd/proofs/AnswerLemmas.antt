@@ -1,5 +1,5 @@
 -- What the answer of a command is, and is not.
-use Rattle.std.proofs.Common.{◌≡◌, ℕ, ◌<◌, ◌≤◌, List, codes, length, Bool, true, false, nat_le, inl, inr, Option, Some, None, Result, Ok, Err, refl, sym, ◌∙◌, subst, ◌⊎◌}
+use Rattle.std.proofs.Common.{◌≡◌, ◌≢◌, ℕ, ◌<◌, ◌≤◌, List, codes, length, Bool, true, false, nat_le, inl, inr, Option, Some, None, Result, Ok, Err, refl, sym, ◌∙◌, subst, ◌⊎◌}
 use Rattle.std.proofs.lemmas.Bool.{le-leb, lt-leb}
 use Rattle.std.specs.Fmt.{digits}
 use Rattle.eds_io.specs.Files.{Files}
@@ -26,7 +26,7 @@ use Rattle.eds_cmd.specs.declared.stop.Stop.{Stop}
 use Rattle.eds_cmd.specs.Answer.{AnswersBy, AnswersCommand, AnswersFew, DoesBy, DoesOn, IsReached, Works, accepted, input_for}
 use Rattle.eds_cmd.specs.Command.{CommandWords, JobWords, TaskWords, by_type, run}
 use Rattle.eds_cmd.specs.Limits.{sheet_count}
-use Rattle.eds_cmd.specs.Outcome.{ComesTo}
+use Rattle.eds_cmd.specs.Outcome.{ComesTo, IsFault}
 use Rattle.eds_cmd.specs.Pack.{PacksGiven}
 use Rattle.eds_cmd.specs.Reports.{limit_line}
 use Rattle.eds_cmd.specs.Run.{RunsOver, RunsPlot, wired}
@@ -36,7 +36,7 @@ use Rattle.eds_cmd.specs.Target.{TypeIn, type_of}
 use Rattle.eds_cmd.specs.Unpack.{UnpacksFrame, frame_for}
 
 -- the answer of a command of no more sheet files than there may be
-pub few_answer : (firsts : Firsts) (files : Files) (c : CommandWords) (status : Status) (report : List ℕ) → length c.sheets ≤ sheet_count → AnswersFew firsts true c files status report → AnswersCommand firsts (Some c) files status report
+pub few_answer : (firsts : Firsts) (files : Files) (c : CommandWords) (status : Status) (report : List ℕ) → length c.sheets ≤ sheet_count → AnswersFew firsts true c files status report → AnswersCommand firsts c files status report
 few_answer firsts files c status report few answer = rw (le-leb (length c.sheets) sheet_count few) answer
 
 -- ---- more sheet files than there may be
@@ -48,10 +48,14 @@ pub past_line_is : past_line ≡ limit_line what.Files sheet_count
 unfolding digits
 past_line_is = refl
 
-pub past_answer : (firsts : Firsts) (files : Files) (c : CommandWords) → sheet_count < length c.sheets → AnswersCommand firsts (Some c) files (statuses.Limit what.Files sheet_count) past_line
+pub past_answer : (firsts : Firsts) (files : Files) (c : CommandWords) → sheet_count < length c.sheets → AnswersCommand firsts c files (statuses.Limit what.Files sheet_count) past_line
 past_answer firsts files c past = rw (lt-leb (length c.sheets) sheet_count past) (record { status_is = refl; report_is = past_line_is })
 
 -- ---- the answer is no fault of the outside
+
+-- what is no fault is no write fault
+pub not_write_fault : (status : Status) → (IsFault status → ⊥) → status ≢ statuses.WriteFault
+not_write_fault status calm e = calm (subst IsFault (sym e) tt)
 
 -- the status of a command that is done, or of a stop
 abbrev IsEnd : Status → Type 0

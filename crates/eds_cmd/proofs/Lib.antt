@@ -1,9 +1,11 @@
+pub mod Demonstrating
 pub mod Unpacking
 pub mod Splitting
 pub mod Targets
 pub mod SheetFiles
 pub mod AlikeRuns
 pub mod SheetRuns
+pub mod OneDemonstration
 pub mod OneAnswer
 pub mod AnswerLemmas
 pub mod ValidLemmas

@@ -35,8 +35,9 @@ use Rattle.eds_cmd.specs.declared.status.What.TheVariants as what
 use Rattle.eds_cmd.specs.declared.stop.Cause.{Cause}
 use Rattle.eds_cmd.specs.declared.stop.Cause.TheVariants as causes
 use Rattle.eds_cmd.specs.declared.stop.Stop.{Stop}
-use Rattle.eds_cmd.specs.Answer.{AnswersBy, AnswersCommand, AnswersFew, DoesBy, DoesOn, IsPast, IsWithin, Works, accepted, input_for, or_refused, sheet_files}
-use Rattle.eds_cmd.specs.Command.{CommandWords, JobWords, TaskWords, by_type, command_of, job_type, run, task_type, type_name_of}
+use Rattle.eds_cmd.specs.Answer.{AnswersBy, AnswersCommand, AnswersFew, AnswersWords, DoesBy, DoesOn, IsPast, IsWithin, Works, accepted, input_for, or_refused, sheet_files}
+use Rattle.eds_cmd.specs.Command.{CommandWords, JobWords, TaskWords, by_type, command_of, demo_of, job_type, run, task_type, type_name_of}
+use Rattle.eds_cmd.specs.Demonstrated.{IsDemonstrated}
 use Rattle.eds_cmd.specs.Laws.{OneAnswer, SomeAnswer}
 use Rattle.eds_cmd.specs.Limits.{report_octets, sheet_count}
 use Rattle.eds_cmd.specs.Pack.{PacksGiven, PacksValue, packed_report}
@@ -46,6 +47,7 @@ use Rattle.eds_cmd.specs.Split.{framing_of}
 use Rattle.eds_cmd.specs.Stops.{IsStop, frame_fault, limited, pack_fault, status_of}
 use Rattle.eds_cmd.specs.Target.{TypeIn, type_of}
 use Rattle.eds_cmd.specs.Unpack.{Begins, UnpacksBits, UnpacksFrame, frame_for}
+use Rattle.eds_cmd.proofs.OneDemonstration.{one_demonstration}
 use Rattle.eds_cmd.proofs.SheetRuns.{ScriptLaws, one_of_sheet, some_of_sheet}
 use Rattle.eds_cmd.proofs.Splitting.{framing_for, one_way, some_way}
 
@@ -284,17 +286,26 @@ module _ (laws : ValueLaws) (sound : SheetsAreSound) (firsts : Firsts) where
   some_of_few true c files has = some_by laws files c.job (accepted firsts files c) (λ sheet is. (accepted_sound sound firsts files c sheet is, has sheet is))
   some_of_few false c files has = let stop = limited what.Files sheet_count in (status_of stop.cause, stop.report, itself stop)
 
-  pub one_of_command : (c : Option CommandWords) (files : Files) → IsOfOne (AnswersCommand firsts c files)
-  one_of_command None files s o r l a b = (a.0 ∙ sym b.0, a.1 ∙ sym b.1)
-  one_of_command (Some c) files s o r l a b = one_of_few (nat_le (length c.sheets) sheet_count) c files s o r l a b
+  pub one_of_command : (c : CommandWords) (files : Files) → IsOfOne (AnswersCommand firsts c files)
+  one_of_command c files s o r l a b = one_of_few (nat_le (length c.sheets) sheet_count) c files s o r l a b
 
-  some_of_command : (c : Option CommandWords) (files : Files) → ((d : CommandWords) → c ≡ Some d → HasPlanOf d files) → (status : Status) × (report : List ℕ) × AnswersCommand firsts c files status report
-  some_of_command None files has = (statuses.Usage, usage_line, (refl, refl))
-  some_of_command (Some c) files has = some_of_few (nat_le (length c.sheets) sheet_count) c files (has c refl)
+  one_of_words : (c : Option CommandWords) (packets : Option ℕ) (files : Files) → IsOfOne (AnswersWords firsts c packets files)
+  one_of_words (Some c) packets files s o r l a b = one_of_command c files s o r l a b
+  one_of_words None (Some n) files s o r l a b = one_demonstration laws.scripts sound firsts n s o r l a b
+  one_of_words None None files s o r l a b = (a.0 ∙ sym b.0, a.1 ∙ sym b.1)
+
+  -- a demonstration that is asked for may be given
+  abbrev HasDemonstrationOf : Option ℕ → Type 0
+  HasDemonstrationOf packets = (n : ℕ) → packets ≡ Some n → (report : List ℕ) × IsDemonstrated firsts n statuses.Done report
+
+  some_of_words : (c : Option CommandWords) (packets : Option ℕ) (files : Files) → ((d : CommandWords) → c ≡ Some d → HasPlanOf d files) → HasDemonstrationOf packets → (status : Status) × (report : List ℕ) × AnswersWords firsts c packets files status report
+  some_of_words (Some c) packets files has demo = some_of_few (nat_le (length c.sheets) sheet_count) c files (has c refl)
+  some_of_words None (Some n) files has demo = let given = demo n refl in (statuses.Done, given.0, given.1)
+  some_of_words None None files has demo = (statuses.Usage, usage_line, (refl, refl))
 
 module _ (laws : ValueLaws) (sound : SheetsAreSound) where
   pub one_answer : OneAnswer
-  one_answer firsts words files s o r l a b = one_of_command laws sound firsts (command_of words) files s o r l a b
+  one_answer firsts words files s o r l a b = one_of_words laws sound firsts (command_of words) (demo_of words) files s o r l a b
 
   pub some_answer : SomeAnswer
-  some_answer firsts words files has = some_of_command laws sound firsts (command_of words) files (λ c is sheet found job job_is runs. has c job sheet is job_is runs found)
+  some_answer firsts words files has demo = some_of_words laws sound firsts (command_of words) (demo_of words) files (λ c is sheet found job job_is runs. has c job sheet is job_is runs found) demo

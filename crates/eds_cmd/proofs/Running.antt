@@ -1,7 +1,8 @@
 -- A script is run line after line.
-use Rattle.std.proofs.Common.{◌≡◌, ℕ, suc, ◌+◌, ◌-◌, ◌<◌, ◌⊎◌, List, [], ◌∷◌, ◌++◌, length, map, drop, zero, Some, None, Ok, slice_get, inl, inr, refl, sym, ap, subst, ◌∙◌, arith}
+use Rattle.std.proofs.Common.{◌≡◌, ℕ, Bool, cond, count_by, suc, ◌+◌, ◌-◌, ◌<◌, ◌⊎◌, List, [], ◌∷◌, ◌++◌, length, map, drop, zero, Some, None, Ok, slice_get, inl, inr, refl, sym, ap, subst, ◌∙◌, arith}
 use Rattle.std.specs.List.{AllByRecursion}
 use Rattle.std.specs.Option.{option_map_or}
+use Rattle.std.proofs.lemmas.List.Sums.{sum_by-append}
 use Rattle.std.proofs.lemmas.List.{append-nil, append_assoc, length-append}
 use Rattle.std.proofs.lemmas.List.Concat.{flat_map-append}
 use Rattle.eds_act.specs.Does.{Conforms}
@@ -33,6 +34,8 @@ use Rattle.eds_types.specs.Rows.{Table}
 use Rattle.eds_types.specs.Rules.{KeepsRules}
 use Rattle.eds_cmd.specs.Run.{AreEventLines, IsRunnable, IsStormy, Runs, all_events, last_of, states_text}
 use Rattle.eds_cmd.specs.Running.{HasRun, IsCalm, IsOver, IsReady, IsRunTo, Tells, happenings}
+use Rattle.eds_cmd.specs.Tally.{Counts, CountsMore, is_reject, is_sent}
+use Rattle.eds_cmd.specs.declared.tally.Tally.{Tally}
 use Rattle.eds_cmd.specs.RunLaws.{OutsMayBePrinted, ScriptsMayBeHandled}
 use Rattle.eds_cmd.specs.Stops.{status_of, storm}
 use Rattle.eds_cmd.specs.declared.stop.Stop.{Stop}
@@ -48,6 +51,30 @@ events_more t plan (r ∷ rs) qs text more h k =
 -- of one line more
 pub all_events_more : (outs : List (List Report)) (rs : List Report) → all_events (outs ++ rs ∷ []) ≡ all_events outs ++ rs
 all_events_more outs rs = flat_map-append (λ (x : List Report). x) outs (rs ∷ []) ∙ ap (λ x. all_events outs ++ x) (append-nil rs)
+
+-- ---- counting
+
+counted_append : (p : Report → Bool) (rs qs : List Report) → count_by p (rs ++ qs) ≡ count_by p rs + count_by p qs
+counted_append p rs qs = sum_by-append (λ r. cond (p r) 1 0) rs qs
+
+-- some of all events are counted, and these are left
+pub record IsCountedTo (all rest : List Out) (start now : Tally) : Type 0 where
+  pub sent : now.sent + count_by is_sent (map report rest) ≡ start.sent + count_by is_sent (map report all)
+  pub rejects : now.rejects + count_by is_reject (map report rest) ≡ start.rejects + count_by is_reject (map report all)
+
+-- one more is counted
+pub counted_next : (all rest after : List Out) (x : Out) (start old new : Tally) → rest ≡ x ∷ after → CountsMore (report x ∷ []) old new → IsCountedTo all rest start old → IsCountedTo all after start new
+counted_next all rest after x start old new e k h =
+    let one : map report rest ≡ report x ∷ map report after = ap (map report) e in
+    record {
+      sent = omega (arith, k.sent, h.sent, ap (count_by is_sent) one, counted_append is_sent (report x ∷ []) (map report after));
+      rejects = omega (arith, k.rejects, h.rejects, ap (count_by is_reject) one, counted_append is_reject (report x ∷ []) (map report after));
+    }
+
+-- all are counted
+pub all_counted : (all rest : List Out) (start now : Tally) → length rest < 1 → IsCountedTo all rest start now → CountsMore (map report all) start now
+all_counted all [] start now lt h = record { sent = omega (arith, h.sent); rejects = omega (arith, h.rejects) }
+all_counted all (x ∷ rest) start now lt h = absurd (omega (arith, lt))
 
 -- what may go out has a line
 pub all_printed : OutsMayBePrinted → (t : Table) (plan : List ComponentPlan) (rs : List Report) → AllByRecursion (MayGoOut t plan) rs → AllByRecursion (FitsPlan t plan) rs
@@ -144,18 +171,26 @@ module _ (t : Table) (plan : List ComponentPlan) (ties : List Tie) where
   sys = system t plan (other_end ties)
 
   -- nothing is done yet
-  pub none_run : (lines : List (ℕ × Told)) (w : World) → w ≡ unbegun sys → IsRunTo t plan ties lines lines w []
-  none_run lines w e = record { done = []; split = refl; outs = []; count = refl; told = refl; on = λ more end g. subst (λ u. RunGoes sys (reading t plan) (happenings lines) u more end) e g }
+  pub none_run : (lines : List (ℕ × Told)) (w : World) (tally : Tally) → w ≡ unbegun sys → Counts [] tally → IsRunTo t plan ties lines lines w [] tally
+  none_run lines w tally e k = record { done = []; split = refl; outs = []; count = refl; told = refl; counted = k; on = λ more end g. subst (λ u. RunGoes sys (reading t plan) (happenings lines) u more end) e g }
 
   -- what is told after one line more
   told_more : (outs : List (List Report)) (rs after : List Report) (report events : List ℕ) → AreEventLines t plan (all_events outs) report → after ≡ rs → AreEventLines t plan after events → AreEventLines t plan (all_events (outs ++ rs ∷ [])) (report ++ events)
   told_more outs rs after report events told e lines =
       subst (λ x. AreEventLines t plan x (report ++ events)) (sym (all_events_more outs rs)) (events_more t plan (all_events outs) rs report events told (subst (λ x. AreEventLines t plan x events) e lines))
 
+  -- and what is counted
+  counted_more : (outs : List (List Report)) (rs after : List Report) (old new : Tally) → Counts (all_events outs) old → after ≡ rs → CountsMore after old new → Counts (all_events (outs ++ rs ∷ [])) new
+  counted_more outs rs after old new c e k =
+      subst (λ x. Counts x new) (sym (all_events_more outs rs)) (record {
+        sent = k.sent ∙ omega (arith, c.sent, ap (count_by is_sent) e, counted_append is_sent (all_events outs) rs);
+        rejects = k.rejects ∙ omega (arith, c.rejects, ap (count_by is_reject) e, counted_append is_reject (all_events outs) rs);
+      })
+
   -- one more line is done
-  pub run_more : (lines : List (ℕ × Told)) (l : ℕ × Told) (rest : List (ℕ × Told)) (h g : HostNow) (report after : List ℕ) → IsOver t plan ties h → IsCalm h.phase
-      → IsRunTo t plan ties lines (l ∷ rest) h.world report → Tells t plan l.1 h g handled.Done report after → IsRunTo t plan ties lines rest g.world after
-  run_more lines l rest h g report after o calm r k =
+  pub run_more : (lines : List (ℕ × Told)) (l : ℕ × Told) (rest : List (ℕ × Told)) (h g : HostNow) (report after : List ℕ) (old new : Tally) → IsOver t plan ties h → IsCalm h.phase
+      → IsRunTo t plan ties lines (l ∷ rest) h.world report old → Tells t plan l.1 h g handled.Done report after old new → IsRunTo t plan ties lines rest g.world after new
+  run_more lines l rest h g report after old new o calm r k =
       let w : Went t plan ties l.1 h g handled.Done k.outs = went t plan ties l.1 h g handled.Done k.outs o calm k.handles in
       let c : Course = w.course in
       record {
@@ -164,18 +199,19 @@ module _ (t : Table) (plan : List ComponentPlan) (ties : List Tie) where
         outs = r.outs ++ c.outs ∷ [];
         count = length-append r.outs (c.outs ∷ []) ∙ ap (λ n. n + 1) r.count ∙ sym (length-append r.done (l ∷ []));
         told = subst (AreEventLines t plan (all_events (r.outs ++ c.outs ∷ []))) (sym k.told) (told_more r.outs c.outs k.outs report k.events r.told w.is.1 k.lines);
+        counted = counted_more r.outs c.outs k.outs old new r.counted w.is.1 k.counted;
         on = λ more end goes. subst (λ x. Runs t plan ties lines x end) (sym (append_assoc r.outs (c.outs ∷ []) more))
             (r.on (c.outs ∷ more) end (c, more, w.goes, subst (λ o. RestGoes o more end (λ v os. RunGoes sys (reading t plan) (happenings rest) v os end)) (sym w.is.0) goes, refl));
       }
 
   -- all are done
-  pub all_run : (lines : List (ℕ × Told)) (w : World) (report : List ℕ) → IsRunTo t plan ties lines [] w report → HasRun t plan ties lines w report
-  all_run lines w report r = record { outs = r.outs; runs = subst (λ x. Runs t plan ties lines x (Some w)) (append-nil r.outs) (r.on [] (Some w) (refl, refl)); told = r.told }
+  pub all_run : (lines : List (ℕ × Told)) (w : World) (report : List ℕ) (tally : Tally) → IsRunTo t plan ties lines [] w report tally → HasRun t plan ties lines w report tally
+  all_run lines w report tally r = record { outs = r.outs; runs = subst (λ x. Runs t plan ties lines x (Some w)) (append-nil r.outs) (r.on [] (Some w) (refl, refl)); told = r.told; counted = r.counted }
 
   -- a line is a storm
-  pub stormed : (lines : List (ℕ × Told)) (l : ℕ × Told) (rest : List (ℕ × Told)) (h g : HostNow) (report after : List ℕ) (stop : Stop) → IsOver t plan ties h → IsCalm h.phase
-      → IsRunTo t plan ties lines (l ∷ rest) h.world report → Tells t plan l.1 h g handled.Storm report after → stop ≡ storm after l.0 → IsStormy t plan ties lines (status_of stop.cause) stop.report
-  stormed lines l rest h g report after stop o calm r k is =
+  pub stormed : (lines : List (ℕ × Told)) (l : ℕ × Told) (rest : List (ℕ × Told)) (h g : HostNow) (report after : List ℕ) (old new : Tally) (stop : Stop) → IsOver t plan ties h → IsCalm h.phase
+      → IsRunTo t plan ties lines (l ∷ rest) h.world report old → Tells t plan l.1 h g handled.Storm report after old new → stop ≡ storm after l.0 → IsStormy t plan ties lines (status_of stop.cause) stop.report
+  stormed lines l rest h g report after old new stop o calm r k is =
       let w : Went t plan ties l.1 h g handled.Storm k.outs = went t plan ties l.1 h g handled.Storm k.outs o calm k.handles in
       let c : Course = w.course in
       let outs : List (List Report) = r.outs ++ c.outs ∷ [] in
@@ -212,14 +248,14 @@ host_ready run handled t plan text p h rules runnable said et ep tied world fres
 -- ---- between two lines
 
 -- some lines of a script are done, and a host may go on with the rest
-pub record IsBetween (t : Table) (plan : List ComponentPlan) (ties : List Tie) (lines rest : List (ℕ × Line)) (h : HostNow) (report : List ℕ) : Type 0 where
+pub record IsBetween (t : Table) (plan : List ComponentPlan) (ties : List Tie) (lines rest : List (ℕ × Line)) (h : HostNow) (report : List ℕ) (tally : Tally) : Type 0 where
   pub over : IsOver t plan ties h
   pub stands : HasGoneOn h.phase (map numbered_told lines) (map numbered_told rest)
   pub may : MayAllBeHandled h.phase h (happenings (map numbered_told rest))
-  pub run : IsRunTo t plan ties (map numbered_told lines) (map numbered_told rest) h.world report
+  pub run : IsRunTo t plan ties (map numbered_told lines) (map numbered_told rest) h.world report tally
 
-pub between_first : (t : Table) (plan : List ComponentPlan) (lines rest : List (ℕ × Line)) (h : HostNow) (report : List ℕ) → rest ≡ lines → report ≡ [] → IsReady t plan (map numbered_told lines) h → IsBetween t plan h.wires lines rest h report
-between_first t plan lines rest h report e none r =
+pub between_first : (t : Table) (plan : List ComponentPlan) (lines rest : List (ℕ × Line)) (h : HostNow) (report : List ℕ) (tally : Tally) → rest ≡ lines → report ≡ [] → Counts [] tally → IsReady t plan (map numbered_told lines) h → IsBetween t plan h.wires lines rest h report tally
+between_first t plan lines rest h report tally e none k r =
     let ls : List (ℕ × Told) = map numbered_told lines in
     let same : map numbered_told rest ≡ ls = ap (map numbered_told) e in
     let world : h.world ≡ unbegun (system t plan (other_end h.wires)) = r.world ∙ ap (λ x. unbegun (system x h.plan (other_end h.wires))) r.over.table ∙ ap (λ x. unbegun (system t x (other_end h.wires))) r.over.plan_is in
@@ -227,30 +263,30 @@ between_first t plan lines rest h report e none r =
       over = r.over;
       stands = inl (r.fresh, same);
       may = subst (λ xs. MayAllBeHandled h.phase h (happenings xs)) (sym same) (subst (λ p. MayAllBeHandled p h (happenings ls)) (sym r.fresh) r.may);
-      run = subst (λ xs. IsRunTo t plan h.wires ls xs h.world report) (sym same) (subst (IsRunTo t plan h.wires ls ls h.world) (sym none) (none_run t plan h.wires ls h.world world));
+      run = subst (λ xs. IsRunTo t plan h.wires ls xs h.world report tally) (sym same) (subst (λ x. IsRunTo t plan h.wires ls ls h.world x tally) (sym none) (none_run t plan h.wires ls h.world tally world k));
     }
 
-pub between_next : (t : Table) (plan : List ComponentPlan) (ties : List Tie) (lines rest after : List (ℕ × Line)) (x : ℕ × Line) (h g : HostNow) (went : Handled) (old new : List ℕ) → rest ≡ x ∷ after → IsBetween t plan ties lines rest h old
+pub between_next : (t : Table) (plan : List ComponentPlan) (ties : List Tie) (lines rest after : List (ℕ × Line)) (x : ℕ × Line) (h g : HostNow) (went : Handled) (old new : List ℕ) (before now : Tally) → rest ≡ x ∷ after → IsBetween t plan ties lines rest h old before
     → g.table ≡ h.table → g.plan ≡ h.plan → g.wires ≡ h.wires → g.phase ≡ standing_after went → ((ls : List Told) → MayAllBeHandled h.phase h (told x.1 ∷ ls) → MayAllBeHandled g.phase g ls)
-    → Tells t plan (told x.1) h g went old new → went ≡ handled.Done → IsBetween t plan ties lines after g new
-between_next t plan ties lines rest after x h g went old new e k et ep ew phase more tells done =
+    → Tells t plan (told x.1) h g went old new before now → went ≡ handled.Done → IsBetween t plan ties lines after g new now
+between_next t plan ties lines rest after x h g went old new before now e k et ep ew phase more tells done =
     record {
       over = record { table = et ∙ k.over.table; plan_is = ep ∙ k.over.plan_is; wires = ew ∙ k.over.wires };
       stands = inr (phase ∙ ap standing_after done);
       may = more (happenings (map numbered_told after)) (subst (λ (xs : List (ℕ × Line)). MayAllBeHandled h.phase h (happenings (map numbered_told xs))) e k.may);
-      run = run_more t plan ties (map numbered_told lines) (numbered_told x) (map numbered_told after) h g old new k.over (is_calm h.phase (map numbered_told lines) (map numbered_told rest) k.stands)
-          (subst (λ (xs : List (ℕ × Line)). IsRunTo t plan ties (map numbered_told lines) (map numbered_told xs) h.world old) e k.run) (subst (λ w. Tells t plan (told x.1) h g w old new) done tells);
+      run = run_more t plan ties (map numbered_told lines) (numbered_told x) (map numbered_told after) h g old new before now k.over (is_calm h.phase (map numbered_told lines) (map numbered_told rest) k.stands)
+          (subst (λ (xs : List (ℕ × Line)). IsRunTo t plan ties (map numbered_told lines) (map numbered_told xs) h.world old before) e k.run) (subst (λ w. Tells t plan (told x.1) h g w old new before now) done tells);
     }
 
-pub between_storm : (t : Table) (plan : List ComponentPlan) (ties : List Tie) (lines rest after : List (ℕ × Line)) (x : ℕ × Line) (h g : HostNow) (went : Handled) (old new : List ℕ) (stop : Stop) → rest ≡ x ∷ after → IsBetween t plan ties lines rest h old
-    → Tells t plan (told x.1) h g went old new → went ≡ handled.Storm → stop ≡ storm new x.0 → IsStormy t plan ties (map numbered_told lines) (status_of stop.cause) stop.report
-between_storm t plan ties lines rest after x h g went old new stop e k tells storm is =
-    stormed t plan ties (map numbered_told lines) (numbered_told x) (map numbered_told after) h g old new stop k.over (is_calm h.phase (map numbered_told lines) (map numbered_told rest) k.stands)
-    (subst (λ (xs : List (ℕ × Line)). IsRunTo t plan ties (map numbered_told lines) (map numbered_told xs) h.world old) e k.run) (subst (λ w. Tells t plan (told x.1) h g w old new) storm tells) is
+pub between_storm : (t : Table) (plan : List ComponentPlan) (ties : List Tie) (lines rest after : List (ℕ × Line)) (x : ℕ × Line) (h g : HostNow) (went : Handled) (old new : List ℕ) (before now : Tally) (stop : Stop) → rest ≡ x ∷ after → IsBetween t plan ties lines rest h old before
+    → Tells t plan (told x.1) h g went old new before now → went ≡ handled.Storm → stop ≡ storm new x.0 → IsStormy t plan ties (map numbered_told lines) (status_of stop.cause) stop.report
+between_storm t plan ties lines rest after x h g went old new before now stop e k tells storm is =
+    stormed t plan ties (map numbered_told lines) (numbered_told x) (map numbered_told after) h g old new before now stop k.over (is_calm h.phase (map numbered_told lines) (map numbered_told rest) k.stands)
+    (subst (λ (xs : List (ℕ × Line)). IsRunTo t plan ties (map numbered_told lines) (map numbered_told xs) h.world old before) e k.run) (subst (λ w. Tells t plan (told x.1) h g w old new before now) storm tells) is
 
-pub between_last : (t : Table) (plan : List ComponentPlan) (ties : List Tie) (lines rest : List (ℕ × Line)) (h : HostNow) (report : List ℕ) → length rest < 1 → IsBetween t plan ties lines rest h report → HasRun t plan ties (map numbered_told lines) h.world report
-between_last t plan ties lines [] h report lt k = all_run t plan ties (map numbered_told lines) h.world report k.run
-between_last t plan ties lines (x ∷ rest) h report lt k = absurd (omega (arith, lt))
+pub between_last : (t : Table) (plan : List ComponentPlan) (ties : List Tie) (lines rest : List (ℕ × Line)) (h : HostNow) (report : List ℕ) (tally : Tally) → length rest < 1 → IsBetween t plan ties lines rest h report tally → HasRun t plan ties (map numbered_told lines) h.world report tally
+between_last t plan ties lines [] h report tally lt k = all_run t plan ties (map numbered_told lines) h.world report tally k.run
+between_last t plan ties lines (x ∷ rest) h report tally lt k = absurd (omega (arith, lt))
 
 -- the host has gone on in the end
 pub rests_last : (phase : Phase) (lines rest : List (ℕ × Line)) → length rest < 1 → 0 < length (map numbered_told lines) → HasGoneOn phase (map numbered_told lines) (map numbered_told rest) → phase ≡ Rests

@@ -1,5 +1,6 @@
 -- Running a script over the components of a sheet comes to one thing.
 use Rattle.std.proofs.Common.{◌≡◌, ◌∙◌, ◌⊎◌, ℕ, List, inl, inr, sym}
+use Rattle.eds_host.specs.Hosts.{RunsHaveOneOutcome}
 use Rattle.eds_plan.specs.Alike.{AreAlike}
 use Rattle.eds_plan.specs.declared.component.ComponentPlan.{ComponentPlan}
 use Rattle.eds_read_comp.specs.Plans.{seen_plan}
@@ -16,6 +17,7 @@ use Rattle.eds_cmd.proofs.AlikeRuns.{AlikeLaws, scripts_alike, valid_alike}
 -- the laws of runs
 pub record ScriptLaws : Type 0 where
   pub alike : AlikeLaws
+  pub outcome : RunsHaveOneOutcome
   pub one : OneRun
   pub some : SomeRun
   pub valid : ValidScriptsRun

@@ -94,16 +94,16 @@ module _ (laws : ValueLaws) (sound : SheetsAreSound) (firsts : Firsts) (files : 
   rules = (sound firsts v.octets (type_name_of c) v.sheet v.sheet_accepted).rules
 
   -- its answer is that it is done, where there is a plan to run
-  done : HasPlanIn c.job v.sheet → (report : List ℕ) × AnswersCommand firsts (Some c) files statuses.Done report
+  done : HasPlanIn c.job v.sheet → (report : List ℕ) × AnswersCommand firsts c files statuses.Done report
   done has =
       let does = valid_does laws.scripts files c.job v.sheet rules v.input_valid has in
       let by : AnswersBy c.job files (compiled_as v.sheet) statuses.Done does.0 = inl (record { does = does.1; within = λ e. v.short does.0 does.1 }) in
       (does.0, subst (λ b. AnswersFew firsts b c files statuses.Done does.0) (sym few) (subst (λ r. AnswersBy c.job files r statuses.Done does.0) (sym sheet_is) by))
 
   -- and it has no other answer
-  pub valid_done : (status : Status) (report : List ℕ) → AnswersCommand firsts (Some c) files status report → status ≡ statuses.Done
+  pub valid_done : (status : Status) (report : List ℕ) → AnswersCommand firsts c files status report → status ≡ statuses.Done
   valid_done status report answer =
       let by : AnswersBy c.job files (accepted firsts files c) status report = subst (λ b. AnswersFew firsts b c files status report) few answer in
       let has = sheet_planned files c.job v.sheet status report v.input_valid (subst (λ r. AnswersBy c.job files r status report) sheet_is by) in
       let valid = done has in
-      (one_of_command laws sound firsts (Some c) files status statuses.Done report valid.0 answer valid.1).0
+      (one_of_command laws sound firsts c files status statuses.Done report valid.0 answer valid.1).0

@@ -19,7 +19,8 @@ use Rattle.eds_cmd.specs.declared.status.Status.TheVariants as statuses
 use Rattle.eds_cmd.specs.declared.status.What.{What}
 use Rattle.eds_cmd.specs.declared.status.What.TheVariants as what
 use Rattle.eds_cmd.specs.declared.stop.Stop.{Stop}
-use Rattle.eds_cmd.specs.Command.{CommandWords, JobWords, TaskWords, by_type, command_of, input_most, run, type_name_of}
+use Rattle.eds_cmd.specs.Command.{CommandWords, JobWords, TaskWords, by_type, command_of, demo_of, input_most, run, type_name_of}
+use Rattle.eds_cmd.specs.Demonstrated.{IsDemonstrated}
 use Rattle.eds_cmd.specs.Hex.{hex_octets}
 use Rattle.eds_cmd.specs.Pack.{Packs}
 use Rattle.eds_cmd.specs.Reports.{counts_line, usage_line}
@@ -123,14 +124,19 @@ abbrev pub AnswersFew : Firsts → Bool → CommandWords → Files → Status �
 AnswersFew firsts true c files status report = AnswersBy c.job files (accepted firsts files c) status report
 AnswersFew firsts false c files status report = IsStop (limited what.Files sheet_count) status report
 
--- what the command comes to that words are, where they are one
-abbrev pub AnswersCommand : Firsts → Option CommandWords → Files → Status → List ℕ → Type 0
-AnswersCommand firsts None files status report = (status ≡ statuses.Usage) × (report ≡ usage_line)
-AnswersCommand firsts (Some c) files status report = AnswersFew firsts (nat_le (length c.sheets) sheet_count) c files status report
+-- what a command over files comes to
+abbrev pub AnswersCommand : Firsts → CommandWords → Files → Status → List ℕ → Type 0
+AnswersCommand firsts c files status report = AnswersFew firsts (nat_le (length c.sheets) sheet_count) c files status report
+
+-- what the command over files comes to that words are, or the demonstration that they ask for, where they are one of these
+abbrev pub AnswersWords : Firsts → Option CommandWords → (packets : Option ℕ) → Files → Status → List ℕ → Type 0
+AnswersWords firsts (Some c) packets files status report = AnswersCommand firsts c files status report
+AnswersWords firsts None (Some n) files status report = IsDemonstrated firsts n status report
+AnswersWords firsts None None files status report = (status ≡ statuses.Usage) × (report ≡ usage_line)
 
 -- The answer to words over files is this status and report, where a function tells what the variables of sheets start with.
 abbrev pub Answer : Firsts → List (List ℕ) → Files → Status → List ℕ → Type 0
-Answer firsts words files status report = AnswersCommand firsts (command_of words) files status report
+Answer firsts words files status report = AnswersWords firsts (command_of words) (demo_of words) files status report
 
 -- ---- a read fault, and a command that is done
 

@@ -1,8 +1,10 @@
 -- The words of a command.
-use Rattle.std.specs.Prelude.{◌≡◌, ℕ, List, [], ◌∷◌, codes, Option, Some, None, IsSomeAnd, if◌then◌else◌, ◌⊎◌}
-use Rattle.std.specs.List.{Contains}
+use Rattle.std.specs.Prelude.{◌≡◌, ℕ, List, [], ◌∷◌, codes, length, nat_eq, nat_le, not, ◌&&◌, Bool, false, Option, Some, None, IsSomeAnd, if◌then◌else◌, ◌⊎◌}
+use Rattle.std.specs.Char.{is_ascii_digit}
+use Rattle.std.specs.List.{Contains, list_all}
 use Rattle.std.specs.Option.{option_map}
-use Rattle.eds_base.specs.Reading.{◌>>=◌, same}
+use Rattle.eds_base.specs.Numbers.{decimal_value}
+use Rattle.eds_base.specs.Reading.{◌>>=◌, only, same}
 use Rattle.eds_cmd.specs.declared.command.Verb.{Verb}
 use Rattle.eds_cmd.specs.declared.command.Verb.TheVariants.{Unpack, Pack, Split}
 use Rattle.eds_cmd.specs.declared.command.Task.{Task}
@@ -70,6 +72,26 @@ command_of (first ∷ words) =
     if same first (codes "check") then check_of words else
     if same first (codes "run") then run_of words else
     (verb_of first >>= λ verb. job_of verb words)
+
+-- digits, the first of them no 0
+abbrev pub is_plain_number : List ℕ → Bool
+is_plain_number [] = false
+is_plain_number (c ∷ cs) = not (nat_eq c 48) && list_all is_ascii_digit (c ∷ cs)
+
+-- a number of packets of a demonstration: 1 to 500
+abbrev pub up_to_packets : ℕ → Option ℕ
+up_to_packets n = only (nat_le 1 n && nat_le n 500) n
+
+-- the number of packets that a word is, in digits of which the first is no 0
+abbrev pub packets_of : List ℕ → Option ℕ
+packets_of word = if is_plain_number word && nat_le (length word) 3 then up_to_packets (decimal_value 0 word) else None
+
+-- `demo N`, a demonstration with N packets, which reads no file
+abbrev pub demo_of : List (List ℕ) → Option ℕ
+demo_of [] = None
+demo_of (first ∷ []) = None
+demo_of (first ∷ number ∷ []) = if same first (codes "demo") then packets_of number else None
+demo_of (first ∷ number ∷ other ∷ words) = None
 
 -- the most octets of the input file
 abbrev pub input_most : TaskWords → ℕ

@@ -9,9 +9,12 @@ pub mod Target
 pub mod Unpack
 pub mod Pack
 pub mod Split
+pub mod Tally
 pub mod Run
 pub mod Running
 pub mod RunLaws
+pub mod Demo
+pub mod Demonstrated
 pub mod Answer
 pub mod Laws
 pub mod Outcome

@@ -54,7 +54,7 @@ pub record IsUnread (firsts : Firsts) (Rises : List ℕ → Type 0) (files : Fil
 
 -- over told files, a command comes to its answer, or to a read fault
 abbrev pub ComesTo : Firsts → (List ℕ → Type 0) → Files → CommandWords → Status → List ℕ → Type 0
-ComesTo firsts Rises files c status report = AnswersCommand firsts (Some c) files status report ⊎ IsUnread firsts Rises files c status report
+ComesTo firsts Rises files c status report = AnswersCommand firsts c files status report ⊎ IsUnread firsts Rises files c status report
 
 -- what is to be written for the words: the report of the answer, or the line of a read fault
 abbrev pub IsReport : Firsts → (List ℕ → Type 0) → List (List ℕ) → Files → List ℕ → Type 0

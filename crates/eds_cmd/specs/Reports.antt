@@ -14,6 +14,7 @@ use Rattle.eds_script.specs.declared.why.LineWhy.{LineWhy}
 use Rattle.eds_script.specs.declared.why.LineWhy.TheVariants as line_why
 use Rattle.eds_cmd.specs.declared.status.What.{What}
 use Rattle.eds_cmd.specs.declared.status.What.TheVariants.{Files, File, Sheets, Input, Frame, Report, Deliveries}
+use Rattle.eds_cmd.specs.declared.tally.Tally.{Tally}
 use Rattle.eds_sheet.specs.declared.sheet.Counts.{Counts}
 
 -- ---- refusals
@@ -142,3 +143,17 @@ deliveries_line line = codes "limit deliveries 10000 at line " ++ decimal line +
 -- `end T`, the time in nanoseconds
 abbrev pub end_line : (time : ℕ) → List ℕ
 end_line time = codes "end " ++ decimal time ++ codes "\n"
+
+-- ---- demonstrations
+
+-- `demo N types T containers C`
+abbrev pub sheet_words : (packets : ℕ) → Counts → List ℕ
+sheet_words n c = codes "demo " ++ decimal n ++ count_text (codes "types") c.types ++ count_text (codes "containers") c.containers
+
+-- ` sent S rejects R end E`
+abbrev pub run_words : Tally → (end : ℕ) → List ℕ
+run_words tally end = count_text (codes "sent") tally.sent ++ count_text (codes "rejects") tally.rejects ++ codes " " ++ end_line end
+
+-- `demo N types T containers C sent S rejects R end E`
+abbrev pub demo_line : (packets : ℕ) → Counts → Tally → (end : ℕ) → List ℕ
+demo_line n c tally end = sheet_words n c ++ run_words tally end

@@ -13,7 +13,9 @@ use Rattle.eds_plan.specs.Lines.{Told}
 use Rattle.eds_plan.specs.Outs.{Report}
 use Rattle.eds_plan.specs.declared.component.ComponentPlan.{ComponentPlan}
 use Rattle.eds_types.specs.Rows.{Table}
+use Rattle.eds_cmd.specs.declared.tally.Tally.{Tally}
 use Rattle.eds_cmd.specs.Run.{AreEventLines, Runs, all_events}
+use Rattle.eds_cmd.specs.Tally.{Counts, CountsMore}
 
 -- what lines have happen, without their numbers
 abbrev pub happenings : List (ℕ × Told) → List Told
@@ -44,29 +46,32 @@ IsCalm Spent = ⊥
 
 -- ---- one line
 
--- a host handled a line, and what left the run in it is told behind what was told before
-pub record Tells (t : Table) (plan : List ComponentPlan) (l : Told) (h g : HostNow) (went : Handled) (before after : List ℕ) : Type 0 where
+-- a host handled a line, and what left the run in it is told behind what was told before, and counted beside what was counted
+pub record Tells (t : Table) (plan : List ComponentPlan) (l : Told) (h g : HostNow) (went : Handled) (before after : List ℕ) (old new : Tally) : Type 0 where
   pub outs : List Report
   pub handles : Handles h.phase l h g went [] outs
   pub events : List ℕ
   pub lines : AreEventLines t plan outs events
   pub told : after ≡ before ++ events
+  pub counted : CountsMore outs old new
 
 -- ---- all lines
 
--- all lines are done: this is told of what left the run, and this is the world
-pub record HasRun (t : Table) (plan : List ComponentPlan) (ties : List Tie) (lines : List (ℕ × Told)) (w : World) (report : List ℕ) : Type 0 where
+-- all lines are done: this is told of what left the run, so much is counted, and this is the world
+pub record HasRun (t : Table) (plan : List ComponentPlan) (ties : List Tie) (lines : List (ℕ × Told)) (w : World) (report : List ℕ) (tally : Tally) : Type 0 where
   pub outs : List (List Report)
   pub runs : Runs t plan ties lines outs (Some w)
   pub told : AreEventLines t plan (all_events outs) report
+  pub counted : Counts (all_events outs) tally
 
 -- some lines are done, and these are left
-pub record IsRunTo (t : Table) (plan : List ComponentPlan) (ties : List Tie) (lines rest : List (ℕ × Told)) (w : World) (report : List ℕ) : Type 0 where
+pub record IsRunTo (t : Table) (plan : List ComponentPlan) (ties : List Tie) (lines rest : List (ℕ × Told)) (w : World) (report : List ℕ) (tally : Tally) : Type 0 where
   pub done : List (ℕ × Told)
   pub split : lines ≡ done ++ rest
   pub outs : List (List Report)
   pub count : length outs ≡ length done
   pub told : AreEventLines t plan (all_events outs) report
+  pub counted : Counts (all_events outs) tally
   -- whatever comes of those that are left comes of all
   pub on : (more : List (List Report)) (end : Option World) → (let sys : System = system t plan (other_end ties) in RunGoes sys (reading t plan) (happenings rest) w more end)
       → Runs t plan ties lines (outs ++ more) end

@@ -1,7 +1,10 @@
 //! The words of a command.
 
-ghost use Rattle.std.specs.Prelude.{◌≡◌, ◌≤◌, is_some, option_map};
-ghost use Rattle.eds_cmd.specs.Command.{check_of as check_in, command_of as command_in, input_most as most_input, job_of as job_in, run_of as run_in, task_type, task_words, verb_of as verb_in, type_name_of as type_name_in, words_of};
+ghost use Rattle.std.specs.Prelude.{◌≡◌, ◌≤◌, ◌<◌, ◌∷◌, [], IfSome, is_some, length, option_map};
+ghost use Rattle.std.specs.Char.{is_ascii_digit};
+ghost use Rattle.std.specs.List.{list_all};
+ghost use Rattle.eds_base.specs.Numbers.{decimal_value};
+ghost use Rattle.eds_cmd.specs.Command.{check_of as check_in, command_of as command_in, demo_of as demo_in, input_most as most_input, is_plain_number as plain_number, job_of as job_in, packets_of as packets_in, run_of as run_in, task_type, task_words, verb_of as verb_in, type_name_of as type_name_in, words_of};
 
 use crate::limits::{HEX_OCTETS, JSON_OCTETS, PACKETS_OCTETS, SCRIPT_OCTETS};
 use eds_base::Text;
@@ -141,6 +144,72 @@ pub fn command_of(words: &[Text]) -> Option<Command<'_>>
                 job_of(verb_of(first.as_str())?, rest)
             }
         }
+    }
+}
+
+fn are_digits(text: &[u8]) -> bool
+    ensures { result ≡ list_all is_ascii_digit text.now }
+{
+    text.iter().all(|c| c.is_ascii_digit())
+}
+
+// Whether a text is digits, the first of them no 0.
+fn is_plain_number(text: &[u8]) -> bool
+    ensures { result ≡ plain_number text.now }
+{
+    match text {
+        [] => false,
+        [first, ..] => *first != b'0' && are_digits(text),
+    }
+}
+
+fn digit(c: u8) -> u64
+    ensures value { result ≡ decimal_value 0 (c ∷ []) }
+    ensures few { result < 256 }
+{
+    u64::from(c.saturating_sub(b'0'))
+}
+
+// The number that at most three digits spell.
+fn short_value(digits: &[u8]) -> u64
+    requires { length digits.now ≤ 3 }
+    ensures { result ≡ decimal_value 0 digits.now }
+{
+    match digits {
+        [a, b, c] => 10 * (10 * digit(*a) + digit(*b)) + digit(*c),
+        [a, b] => 10 * digit(*a) + digit(*b),
+        [a] => digit(*a),
+        _ => 0,
+    }
+}
+
+// The number of packets that a word is: 1 to 500, in digits of which the first is no 0.
+fn packets_of(word: &str) -> Option<u64>
+    ensures number { result ≡ packets_in word.now }
+    ensures some { IfSome result (λ n. 1 ≤ n) }
+    ensures few { IfSome result (λ n. n ≤ 500) }
+{
+    let digits = word.as_bytes();
+    if !(is_plain_number(digits) && digits.len() <= 3) {
+        return None;
+    }
+    let number = short_value(digits);
+    if 1 <= number && number <= 500 {
+        Some(number)
+    } else {
+        None
+    }
+}
+
+/// The number of packets of the demonstration that words ask for, None where they ask for none.
+pub fn demo_of(words: &[Text]) -> Option<u64>
+    ensures number { result ≡ demo_in words.now }
+    ensures some { IfSome result (λ n. 1 ≤ n) }
+    ensures few { IfSome result (λ n. n ≤ 500) }
+{
+    match words {
+        [first, number] if first.as_str() == "demo" => packets_of(number.as_str()),
+        _ => None,
     }
 }
 

@@ -16,7 +16,8 @@ use eds_unpack::law::one_cut;
 
 /// Words have exactly one answer over files, a status and a report, whatever function tells what the variables of sheets start
 /// with; and there is a function that tells it. Where the words run a script, there is one if there is a plan to be run: to
-/// compile an accepted sheet gives one, or memory runs out. A valid command is done.
+/// compile an accepted sheet gives one, or memory runs out. Where they ask for a demonstration, there is one if its sheet may be
+/// compiled and its script be run: the demonstration is this, or memory runs out. A valid command is done.
 pub fn answer_is_one()
     ensures one { OneAnswer }
     ensures some { SomeAnswer }
@@ -33,6 +34,7 @@ pub fn answer_is_one()
     seen_plans_are_alike();
     alike_plans_run_alike();
     alike_plans_are_told_alike();
+    runs_join();
     run_is_one();
 }
 

@@ -2,6 +2,7 @@
 #![tactic(auto)]
 
 mod command;
+mod demonstration;
 mod ended;
 mod hex_text;
 mod law;
@@ -13,11 +14,13 @@ mod run;
 mod split;
 mod status;
 mod stop;
+mod tally;
 mod target;
 mod top;
 mod unpack;
 mod words;
 
+pub use demonstration::demo;
 pub use law::{answer_is_one, run_is_one};
 pub use status::{DataFault, Status, What};
 pub use top::eds;

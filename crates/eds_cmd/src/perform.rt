@@ -10,7 +10,7 @@ ghost use Rattle.eds_sheet.specs.Firsts.{WhereFirstsAreTold};
 ghost use Rattle.eds_cmd.specs.Answer.{AnswersFew, Does, DoesBy, IsReached, IsReachedSheet, Works, accepted, input_for as input_of, or_refused, sheet_file as sheet_of_name, sheet_files as sheets_of_names, whole_file as whole, within_report as within_limit};
 ghost use Rattle.eds_cmd.specs.Command.{ReadsFile, job_type, job_words, task_type, task_words, type_name_of, words_of};
 ghost use Rattle.eds_cmd.specs.Endings.{Comes, CommandEndsAs, EndsAs, OnUnread};
-ghost use Rattle.eds_cmd.specs.Run.{RunsSheet};
+ghost use Rattle.eds_cmd.specs.Run.{IsRunnable, RunsSheet};
 ghost use Rattle.eds_cmd.specs.Target.{IsKnown, IsUsable, MayBeRead, type_in, type_of};
 
 use crate::command::{Command, Job, Task, Verb, input_most};
@@ -24,7 +24,7 @@ use crate::status::What;
 use crate::stop::{Stop, limited, missing, refused};
 use crate::target::{Target, target_of};
 use crate::unpack::unpacked;
-use eds_base::{Fail, Items, Octets, Text};
+use eds_base::{Fail, Items, Memory, Octets, Text};
 use eds_host::arguments_are_clear;
 use eds_io::{ReadEnd, Shelf, read_whole};
 use eds_sheet::{Sheet, compile};
@@ -109,8 +109,8 @@ fn sheet_files<S: Shelf>(
     Ok(sheets)
 }
 
-// The sheet of files, with the type that a command names.
-fn sheet_by(
+/// The sheet of files, with the type that a command names.
+pub fn sheet_by(
     alloc: Global,
     files: &Items<Octets>,
     type_name: Option<&str>,
@@ -177,22 +177,32 @@ fn do_by_type(alloc: Global, verb: Verb, sheet: &Sheet, input: &[u8]) -> Result<
     Ok(octets_of(report))
 }
 
+/// The types and the components of a sheet, which may be run.
+pub fn components_of<'a>(alloc: Global, sheet: &'a Sheet) -> Result<Components<'a>, Memory>
+    requires { IsUsable sheet.now }
+    ensures table { IfOk result (λ c. c.table.now ≡ sheet.now.table) }
+    ensures plan { IfOk result (λ c. c.plan.now ≡ sheet.now.plan) }
+    ensures runnable { IfOk result (λ c. IsRunnable c.table.now c.plan.now) }
+{
+    // The arguments of commands have used types, none of them an open binary: so they always are.
+    let clear = arguments_are_clear(alloc, &sheet.table, &sheet.used, &sheet.plan)?;
+    if clear {
+        Ok(Components {
+            table: &sheet.table,
+            plan: &sheet.plan,
+        })
+    } else {
+        Err(Memory)
+    }
+}
+
 // Runs a script over the components of a sheet.
 fn run_sheet(alloc: Global, sheet: &Sheet, script: &[u8]) -> Result<Octets, Fail<Stop>>
     requires { IsUsable sheet.now }
     ensures { EndsAs (λ o. o) (RunsSheet (seen_sheet sheet.now) script.now) result }
 {
-    // The arguments of commands have used types, none of them an open binary: so they always are.
-    let clear = arguments_are_clear(alloc, &sheet.table, &sheet.used, &sheet.plan)?;
-    if clear {
-        let components = Components {
-            table: &sheet.table,
-            plan: &sheet.plan,
-        };
-        run_script(alloc, &components, script)
-    } else {
-        Err(Fail::Memory)
-    }
+    let components = components_of(alloc, sheet)?;
+    run_script(alloc, &components, script)
 }
 
 // What is done with the octets of an input file by a sheet.

@@ -1,9 +1,10 @@
 //! The lines that are reported.
 
 ghost use Rattle.std.specs.Prelude.{◌≡◌, IfOk, string_bytes};
-ghost use Rattle.eds_cmd.specs.Reports.{bad_line_line as line_of_bad_line, bits_report as report_of_bits, common_text as text_of_common, count_text as text_of_count, counts_line as line_of_counts, deliveries_line as line_of_deliveries, end_line as line_of_end, fault_line as line_of_fault, fault_words as words_of_fault, kept_text as text_of_kept, limit_line as line_of_limit, line_why_text as text_of_line_why, no_file_line as line_of_no_file, packet_fault_line as line_of_packet_fault, packet_words as words_of_packet, place_text as text_of_place, read_fault_line as line_of_read_fault, refusal_line as line_of_refusal, rule_text as text_of_rule, what_text as text_of_what, wire_why_text as text_of_wire_why};
+ghost use Rattle.eds_cmd.specs.Reports.{bad_line_line as line_of_bad_line, bits_report as report_of_bits, common_text as text_of_common, count_text as text_of_count, counts_line as line_of_counts, deliveries_line as line_of_deliveries, demo_line as line_of_demo, end_line as line_of_end, fault_line as line_of_fault, fault_words as words_of_fault, kept_text as text_of_kept, limit_line as line_of_limit, line_why_text as text_of_line_why, no_file_line as line_of_no_file, packet_fault_line as line_of_packet_fault, packet_words as words_of_packet, place_text as text_of_place, read_fault_line as line_of_read_fault, refusal_line as line_of_refusal, rule_text as text_of_rule, run_words as words_of_run, sheet_words as words_of_sheet, what_text as text_of_what, wire_why_text as text_of_wire_why};
 
 use crate::status::What;
+use crate::tally::Tally;
 use eds_base::{CommonNumber, Kept, Octets, Place, Refusal, Rule};
 use eds_host::WireWhy;
 use eds_script::LineWhy;
@@ -114,7 +115,7 @@ pub fn limit_line(alloc: Global, what: What, most: u64) -> Result<String, AllocE
 }
 
 #[tactic(auto, unfolding(crate::specs::Reports::count_text))]
-fn count_text(alloc: Global, name: &str, count: u32) -> Result<String, AllocError>
+fn count_text(alloc: Global, name: &str, count: u64) -> Result<String, AllocError>
     ensures { IfOk result (λ s. string_bytes s ≡ text_of_count name.now count) }
 {
     Ok(format!(in alloc; " {name} {count}")?)
@@ -124,10 +125,10 @@ fn count_text(alloc: Global, name: &str, count: u32) -> Result<String, AllocErro
 pub fn counts_line(alloc: Global, counts: Counts) -> Result<String, AllocError>
     ensures { IfOk result (λ s. string_bytes s ≡ line_of_counts counts) }
 {
-    let types = count_text(alloc, "types", counts.types)?;
-    let containers = count_text(alloc, "containers", counts.containers)?;
-    let interfaces = count_text(alloc, "interfaces", counts.interfaces)?;
-    let components = count_text(alloc, "components", counts.components)?;
+    let types = count_text(alloc, "types", u64::from(counts.types))?;
+    let containers = count_text(alloc, "containers", u64::from(counts.containers))?;
+    let interfaces = count_text(alloc, "interfaces", u64::from(counts.interfaces))?;
+    let components = count_text(alloc, "components", u64::from(counts.components))?;
     let mut line = String::from_str(alloc, "accepted")?;
     line.push_str(types.as_str())?;
     line.push_str(containers.as_str())?;
@@ -238,4 +239,43 @@ pub fn end_line(alloc: Global, time: u64) -> Result<String, AllocError>
     ensures { IfOk result (λ s. string_bytes s ≡ line_of_end time) }
 {
     Ok(format!(in alloc; "end {time}\n")?)
+}
+
+fn sheet_words(alloc: Global, n: u64, counts: Counts) -> Result<String, AllocError>
+    ensures { IfOk result (λ s. string_bytes s ≡ words_of_sheet n counts) }
+{
+    let types = count_text(alloc, "types", u64::from(counts.types))?;
+    let containers = count_text(alloc, "containers", u64::from(counts.containers))?;
+    let mut words = format!(in alloc; "demo {n}")?;
+    words.push_str(types.as_str())?;
+    words.push_str(containers.as_str())?;
+    Ok(words)
+}
+
+fn run_words(alloc: Global, tally: Tally, end: u64) -> Result<String, AllocError>
+    ensures { IfOk result (λ s. string_bytes s ≡ words_of_run tally end) }
+{
+    let mut words = count_text(alloc, "sent", tally.sent)?;
+    let rejects = count_text(alloc, "rejects", tally.rejects)?;
+    let last = end_line(alloc, end)?;
+    words.push_str(rejects.as_str())?;
+    words.push_str(" ")?;
+    words.push_str(last.as_str())?;
+    Ok(words)
+}
+
+/// The line of a demonstration: its number of packets, what its sheet declares, and what is sent and refused until when in its run.
+pub fn demo_line(
+    alloc: Global,
+    n: u64,
+    counts: Counts,
+    tally: Tally,
+    end: u64,
+) -> Result<String, AllocError>
+    ensures { IfOk result (λ s. string_bytes s ≡ line_of_demo n counts tally end) }
+{
+    let mut line = sheet_words(alloc, n, counts)?;
+    let words = run_words(alloc, tally, end)?;
+    line.push_str(words.as_str())?;
+    Ok(line)
 }

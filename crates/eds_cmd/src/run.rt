@@ -5,6 +5,8 @@ ghost use Rattle.std.specs.List.{AllByRecursion};
 ghost use Rattle.eds_cmd.specs.Endings.{EndsAs, StopSays};
 ghost use Rattle.eds_cmd.specs.Run.{AreEventLines, IsRunnable, IsStormy, RunsOver, RunsScript, end_text as text_of_end, states_text, wired};
 ghost use Rattle.eds_cmd.specs.Running.{HasRun, IsReady, Tells};
+ghost use Rattle.eds_cmd.specs.Demonstrated.{RunsTo};
+ghost use Rattle.eds_cmd.specs.Tally.{CountsMore};
 ghost use Rattle.eds_host.specs.Hosts.{MayAllBeHandled, MayBeHandled, standing_after};
 ghost use Rattle.eds_host.specs.declared.host.Phase.TheVariants.{Rests};
 ghost use Rattle.eds_plan.specs.Lines.{Told, told};
@@ -18,6 +20,7 @@ use crate::law::{
 };
 use crate::report::end_line;
 use crate::stop::{Stop, bad_line, bad_wire, storm};
+use crate::tally::Tally;
 use eds_base::{CompId, Fail, Memory, Octets};
 use eds_host::law::first_may_be_handled;
 use eds_host::{Handled, Host};
@@ -32,6 +35,20 @@ use std::alloc::Global;
 pub struct Components<'a> {
     pub table: &'a TypeTable,
     pub plan: &'a Plan,
+}
+
+/// What is told of a run: a line for each event, and how many of them are counted.
+#[derive(Debug, Drop)]
+pub struct Telling {
+    report: Vec<u8>,
+    tally: Tally,
+}
+
+/// How much is counted in a run, and when it ends.
+#[derive(Clone, Copy, Debug)]
+pub struct Counted {
+    pub tally: Tally,
+    pub end: u64,
 }
 
 // Puts the line of each event last.
@@ -53,13 +70,26 @@ fn add_events(
     Ok(())
 }
 
-// Has a line happen, and puts the line of each event that leaves the run in it last.
+// Counts each event.
+fn count_events(outs: &Outs, tally: &mut Tally) -> Result<(), Memory>
+    ensures { OnOk result (CountsMore (map told_report outs.now) tally.old tally.new) }
+{
+    let mut rest = outs.as_slice();
+    while let [event, after @ ..] = rest {
+        *tally = tally.with(event)?;
+        rest = after;
+    }
+    Ok(())
+}
+
+// Has a line happen, puts the line of each event that leaves the run in it last, and counts these events.
 fn tell_line(
     alloc: Global,
     of: &Components<'_>,
     host: &mut Host<'_>,
     line: &Line,
     report: &mut Vec<u8>,
+    tally: &mut Tally,
 ) -> Result<Handled, Memory>
     requires table { host.old.table ≡ of.now.table.now }
     requires plan { host.old.plan ≡ of.now.plan.now }
@@ -69,40 +99,42 @@ fn tell_line(
     ensures wires { host.new.wires ≡ host.old.wires }
     ensures phase { IfOk result (λ h. host.new.phase ≡ standing_after h) }
     ensures more { (ls : List Told) → MayAllBeHandled host.old.phase host.old (told line.now ∷ ls) → MayAllBeHandled host.new.phase host.new ls }
-    ensures tells { IfOk result (λ h. Tells of.now.table.now of.now.plan.now (told line.now) host.old host.new h report.old.items report.new.items) }
+    ensures tells { IfOk result (λ h. Tells of.now.table.now of.now.plan.now (told line.now) host.old host.new h report.old.items report.new.items tally.old tally.new) }
 {
     outs_may_be_printed();
     let mut outs = Outs::new(alloc);
     let handled = host.handle(line, &mut outs)?;
     add_events(alloc, of, &outs, report)?;
+    count_events(&outs, tally)?;
     Ok(handled)
 }
 
-// Handles the lines of a script one after another, and tells what leaves the run in them.
+// Handles the lines of a script one after another, and tells and counts what leaves the run in them.
 fn run_lines(
     alloc: Global,
     of: &Components<'_>,
     host: &mut Host<'_>,
     script: &Script,
-) -> Result<Vec<u8>, Fail<Stop>>
+) -> Result<Telling, Fail<Stop>>
     requires { IsReady of.now.table.now of.now.plan.now (map numbered_told script.now.lines) host.old }
     ensures table { OnOk result (host.new.table ≡ of.now.table.now) }
     ensures plan { OnOk result (host.new.plan ≡ of.now.plan.now) }
     ensures phase { OnOk result (host.new.phase ≡ Rests) }
-    ensures run { IfOk result (λ v. HasRun of.now.table.now of.now.plan.now host.old.wires (map numbered_told script.now.lines) host.new.world v.items) }
+    ensures run { IfOk result (λ v. HasRun of.now.table.now of.now.plan.now host.old.wires (map numbered_told script.now.lines) host.new.world v.report.items v.tally) }
     ensures storm { IfErr result (StopSays (IsStormy of.now.table.now of.now.plan.now host.old.wires (map numbered_told script.now.lines))) }
 {
     first_may_be_handled();
     let mut report = Vec::new(alloc);
+    let mut tally = Tally::new();
     let mut rest = script.lines.as_slice();
     while let [(number, line), after @ ..] = rest {
-        let handled = tell_line(alloc, of, host, line, &mut report)?;
+        let handled = tell_line(alloc, of, host, line, &mut report, &mut tally)?;
         if handled == Handled::Storm {
             return Err(Fail::Named(storm(alloc, report, *number)?));
         }
         rest = after;
     }
-    Ok(report)
+    Ok(Telling { report, tally })
 }
 
 // Puts the lines that tell where components stand last, in document order.
@@ -184,7 +216,7 @@ fn run_over(alloc: Global, of: &Components<'_>, script: &Script) -> Result<Octet
     ensures { EndsAs (λ o. o) (RunsOver of.now.table.now of.now.plan.now (wired of.now.plan.now (plot_seen script.now)) (map numbered_told script.now.lines)) result }
 {
     let mut host = host_for(alloc, of, script)?;
-    let mut report = run_lines(alloc, of, &mut host, script)?;
+    let Telling { mut report, .. } = run_lines(alloc, of, &mut host, script)?;
     add_end(alloc, of, &host, &mut report)?;
     Ok(Octets::from_vec(report))
 }
@@ -199,4 +231,34 @@ pub fn run_script(alloc: Global, of: &Components<'_>, text: &[u8]) -> Result<Oct
 {
     let script = script_for(alloc, of, text)?;
     run_over(alloc, of, &script)
+}
+
+// Runs a script over components to its end, and counts.
+fn count_over(alloc: Global, of: &Components<'_>, script: &Script) -> Result<Counted, Fail<Stop>>
+    requires runnable { IsRunnable of.now.table.now of.now.plan.now }
+    requires script { (text : List ℕ) × (script_of of.now.table.now of.now.plan.now text ≡ Ok (plot_seen script.now)) }
+    ensures { (text : List ℕ) → script_of of.now.table.now of.now.plan.now text ≡ Ok (plot_seen script.now)
+        → IfOk result (λ c. RunsTo of.now.table.now of.now.plan.now text c.tally c.end) }
+{
+    let mut host = host_for(alloc, of, script)?;
+    let Telling { tally, .. } = run_lines(alloc, of, &mut host, script)?;
+    Ok(Counted {
+        tally,
+        end: host.now(),
+    })
+}
+
+/// How much is counted in a run of a script over the components of a sheet, and when it ends. Where the script can't be run to its
+/// end, no more is told than that there is no such run.
+pub fn count_script(alloc: Global, of: &Components<'_>, text: &[u8]) -> Result<Counted, Memory>
+    requires { IsRunnable of.now.table.now of.now.plan.now }
+    ensures { IfOk result (λ c. RunsTo of.now.table.now of.now.plan.now text.now c.tally c.end) }
+{
+    let Ok(script) = script_for(alloc, of, text) else {
+        return Err(Memory);
+    };
+    match count_over(alloc, of, &script) {
+        Ok(counted) => Ok(counted),
+        Err(_) => Err(Memory),
+    }
 }

@@ -1,16 +1,17 @@
 //! The top call.
 
-ghost use Rattle.std.specs.Prelude.{◌≡◌, ◌≢◌, ◌≤◌, ◌<◌, ◌++◌, ◌⊎◌, ℕ, List, Some, length, take, true, false, string_bytes, IfOk, IfSome, IsNone, IsSomeAnd};
+ghost use Rattle.std.specs.Prelude.{◌≡◌, ◌≢◌, ◌≤◌, ◌<◌, ◌++◌, ◌⊎◌, ℕ, List, Some, length, take, true, false, string_bytes, IfOk, IfSome, IsNone, IsSome, IsSomeAnd};
 ghost use Rattle.eds_io.specs.Counts.{HasRisen};
 ghost use Rattle.eds_io.specs.Files.{Files};
 ghost use Rattle.eds_sheet.specs.Firsts.{WhereFirstsAreTold};
-ghost use Rattle.eds_cmd.specs.Answer.{Answer, IsReached, IsValid};
-ghost use Rattle.eds_cmd.specs.Command.{CommandWords, ReadsFile, command_of as command_in, words_of};
+ghost use Rattle.eds_cmd.specs.Answer.{Answer, AnswersWords, IsReached, IsValid};
+ghost use Rattle.eds_cmd.specs.Command.{CommandWords, ReadsFile, command_of as command_in, demo_of as demo_in, words_of};
 ghost use Rattle.eds_cmd.specs.Outcome.{ComesTo, IsFault, IsReport, has_report, is_usage};
 ghost use Rattle.eds_cmd.specs.Limits.{sheet_count};
 ghost use Rattle.eds_cmd.specs.Reports.{limit_line, read_fault_line as line_of_read_fault, usage_line as line_of_usage};
 
-use crate::command::{Command, command_of};
+use crate::command::{Command, command_of, demo_of};
+use crate::demonstration::demonstrate;
 use crate::ended::Ended;
 use crate::law::answer_is_one;
 use crate::limits::SHEETS;
@@ -92,6 +93,31 @@ fn finish<K: Sink>(sink: &mut K, status: Status, report: &[u8]) -> Status
     }
 }
 
+// What words come to that are no command over files: a demonstration, or usage.
+fn without_files<K: Sink>(alloc: Global, words: &Words, sink: &mut K) -> Status
+    ensures status { WhereFirstsAreTold (λ firsts. (files : Files) → ¬ (IsFault result) → (report : List ℕ) × AnswersWords firsts None (demo_in words.now) files result report) }
+    ensures answer { WhereFirstsAreTold (λ firsts. (files : Files) (before : List ℕ) → K.written sink.old ≡ Some before → ¬ (IsFault result)
+        → (report : List ℕ) × AnswersWords firsts None (demo_in words.now) files result report × (K.written sink.new ≡ Some (before ++ report))) }
+    ensures usage { IsNone (demo_in words.now) → ¬ (IsFault result) → result ≡ Status.Usage }
+    ensures usage_only { result ≡ Status.Usage → IsNone (demo_in words.now) }
+    ensures usage_line { (before : List ℕ) → K.written sink.old ≡ Some before → result ≡ Status.Usage → K.written sink.new ≡ Some (before ++ line_of_usage) }
+    ensures demo { IsSome (demo_in words.now) → ¬ (IsFault result) → result ≡ Status.Done }
+    ensures read { (name : List ℕ) → result ≢ Status.ReadFault name }
+    ensures write_cause { result ≡ Status.WriteFault → HasRisen (K.faults sink.old) (K.faults sink.new) }
+    ensures write_prefix { WhereFirstsAreTold (λ firsts. (files : Files) (before : List ℕ) → K.written sink.old ≡ Some before → result ≡ Status.WriteFault
+        → (status : Status) × (report : List ℕ) × (n : ℕ) × AnswersWords firsts None (demo_in words.now) files status report × (K.written sink.new ≡ Some (before ++ take n report))) }
+    ensures memory_command { result ≡ Status.Memory → IsSome (demo_in words.now) }
+    ensures memory_nothing { result ≡ Status.Memory → K.written sink.new ≡ K.written sink.old }
+{
+    let Some(n) = demo_of(words.as_slice()) else {
+        return finish(sink, Status::Usage, USAGE.as_bytes());
+    };
+    match demonstrate(alloc, n) {
+        Ok(report) => finish(sink, Status::Done, report.as_slice()),
+        Err(Memory) => Status::Memory,
+    }
+}
+
 /// Runs a command on the files of a shelf, and writes its report to a sink. What depends on a sheet is said of every function that
 /// tells what the variables of sheets start with, and there is one (`answer_is_one`), so none of it is empty.
 pub fn eds<S: Shelf, K: Sink>(alloc: Global, words: &Words, shelf: &mut S, sink: &mut K) -> Status
@@ -102,9 +128,10 @@ pub fn eds<S: Shelf, K: Sink>(alloc: Global, words: &Words, shelf: &mut S, sink:
     ensures answer { WhereFirstsAreTold (λ firsts. (files : Files) (before : List ℕ) → S.files shelf.old ≡ Some files → K.written sink.old ≡ Some before → ¬ (IsFault result)
         → (report : List ℕ) × Answer firsts words.now files result report × (K.written sink.new ≡ Some (before ++ report))) }
 
-    // Over any shelf, usage comes exactly where the words are no command, and its line is written.
-    ensures usage { IsNone (command_in words.now) → ¬ (IsFault result) → result ≡ Status.Usage }
-    ensures usage_only { result ≡ Status.Usage → IsNone (command_in words.now) }
+    // Over any shelf, usage comes exactly where the words are no command over files and ask for no demonstration, and its line
+    // is written.
+    ensures usage { IsNone (command_in words.now) → IsNone (demo_in words.now) → ¬ (IsFault result) → result ≡ Status.Usage }
+    ensures usage_only { result ≡ Status.Usage → IsNone (command_in words.now) × IsNone (demo_in words.now) }
     ensures usage_line { (before : List ℕ) → K.written sink.old ≡ Some before → result ≡ Status.Usage → K.written sink.new ≡ Some (before ++ line_of_usage) }
 
     // Over any shelf, a command of more sheet files than there may be passes that limit, and its line is written.
@@ -128,8 +155,12 @@ pub fn eds<S: Shelf, K: Sink>(alloc: Global, words: &Words, shelf: &mut S, sink:
         → (report : List ℕ) × (n : ℕ) × IsReport firsts (λ name. HasRisen (S.faults shelf.old name) (S.faults shelf.new name)) words.now files report
         × (K.written sink.new ≡ Some (before ++ take n report))) }
 
-    // Where memory is refused, the words are a command of no more sheet files than there may be, and nothing is written.
-    ensures memory_command { result ≡ Status.Memory → IsSomeAnd (command_in words.now) (λ c. length c.sheets ≤ sheet_count) }
+    // Over any shelf, a demonstration is done, unless memory is refused or a write fails.
+    ensures demo { IsNone (command_in words.now) → IsSome (demo_in words.now) → ¬ (IsFault result) → result ≡ Status.Done }
+
+    // Where memory is refused, the words are a command of no more sheet files than there may be, or ask for a demonstration, and
+    // nothing is written.
+    ensures memory_command { result ≡ Status.Memory → IsSomeAnd (command_in words.now) (λ c. length c.sheets ≤ sheet_count) ⊎ IsSome (demo_in words.now) }
     ensures memory_nothing { result ≡ Status.Memory → K.written sink.new ≡ K.written sink.old }
 
     // A valid command over told files is done, where no fault is counted.
@@ -138,7 +169,7 @@ pub fn eds<S: Shelf, K: Sink>(alloc: Global, words: &Words, shelf: &mut S, sink:
         → (result ≡ Status.Done) ⊎ (result ≡ Status.Memory)) }
 {
     let Some(command) = command_of(words.as_slice()) else {
-        return finish(sink, Status::Usage, USAGE.as_bytes());
+        return without_files(alloc, words, sink);
     };
     if command.sheets.len() > SHEETS {
         let status = Status::Limit(What::Files, SHEETS as u64);

@@ -1,3 +1,4 @@
+use Rattle.eds_host.specs.Hosts.{RunsHaveOneOutcome}
 use Rattle.eds_host.specs.Alike.{AlikeRuns, AlikeSystems, AlikeWires}
 use Rattle.eds_overlap.specs.Laws.{EmptyTypes, OneCanonical, OneOutcome, PackingIsDecided}
 use Rattle.eds_read_comp.specs.Laws.{SeenPlansAreAlike}
@@ -10,9 +11,10 @@ use Rattle.eds_cmd.proofs.ValidLemmas.{valid_done}
 use Rattle.eds_cmd.proofs.law.answer_is_one.Goals as goal
 
 -- the laws of runs
-script_laws : SeenPlansAreAlike → AlikeSystems → AlikeWires → AlikeRuns → AlikeScripts → AlikeEvents → AlikeStates → OneRun → SomeRun → ValidScriptsRun → ScriptLaws
-script_laws seen systems wires runs scripts events states one some valid = record {
+script_laws : RunsHaveOneOutcome → SeenPlansAreAlike → AlikeSystems → AlikeWires → AlikeRuns → AlikeScripts → AlikeEvents → AlikeStates → OneRun → SomeRun → ValidScriptsRun → ScriptLaws
+script_laws outcome seen systems wires runs scripts events states one some valid = record {
   alike = record { seen = seen; systems = systems; wires = wires; runs = runs; scripts = scripts; events = events; states = states };
+  outcome = outcome;
   one = one;
   some = some;
   valid = valid;
@@ -27,7 +29,7 @@ returns-clause-one c =
     let alike = c.alike_plans_run_alike.ensures in
     let told = c.alike_plans_are_told_alike.ensures in
     let run = c.run_is_one.ensures in
-    let scripts = script_laws c.seen_plans_are_alike.ensures alike.systems alike.wires alike.runs told.scripts told.events told.states run.one run.some run.valid in
+    let scripts = script_laws c.runs_join.ensures.one c.seen_plans_are_alike.ensures alike.systems alike.wires alike.runs told.scripts told.events told.states run.one run.some run.valid in
     one_answer (laws c.one_outcome.ensures c.canonical_spelling.ensures.one c.packing_is_decided.ensures c.empty_types.ensures c.one_cut.ensures scripts) c.sheets_are_sound.ensures
 
 pub returns-clause-some : goal.returns-clause-some
@@ -35,7 +37,7 @@ returns-clause-some c =
     let alike = c.alike_plans_run_alike.ensures in
     let told = c.alike_plans_are_told_alike.ensures in
     let run = c.run_is_one.ensures in
-    let scripts = script_laws c.seen_plans_are_alike.ensures alike.systems alike.wires alike.runs told.scripts told.events told.states run.one run.some run.valid in
+    let scripts = script_laws c.runs_join.ensures.one c.seen_plans_are_alike.ensures alike.systems alike.wires alike.runs told.scripts told.events told.states run.one run.some run.valid in
     some_answer (laws c.one_outcome.ensures c.canonical_spelling.ensures.one c.packing_is_decided.ensures c.empty_types.ensures c.one_cut.ensures scripts) c.sheets_are_sound.ensures
 
 pub returns-clause-valid : goal.returns-clause-valid
@@ -43,7 +45,7 @@ returns-clause-valid c =
     let alike = c.alike_plans_run_alike.ensures in
     let told = c.alike_plans_are_told_alike.ensures in
     let run = c.run_is_one.ensures in
-    let scripts = script_laws c.seen_plans_are_alike.ensures alike.systems alike.wires alike.runs told.scripts told.events told.states run.one run.some run.valid in
+    let scripts = script_laws c.runs_join.ensures.one c.seen_plans_are_alike.ensures alike.systems alike.wires alike.runs told.scripts told.events told.states run.one run.some run.valid in
     λ firsts files command status report valid answer.
     valid_done (laws c.one_outcome.ensures c.canonical_spelling.ensures.one c.packing_is_decided.ensures c.empty_types.ensures c.one_cut.ensures scripts) c.sheets_are_sound.ensures
     firsts files command valid status report answer

@@ -14,7 +14,7 @@ invariant-loop-rest l =
       over : IsOver t plan ties l.host;
       stands : HasGoneOn l.host.phase (map numbered_told l.script.lines) (map numbered_told l.rest);
       may : MayAllBeHandled l.host.phase l.host (happenings (map numbered_told l.rest));
-      run : IsRunTo t plan ties (map numbered_told l.script.lines) (map numbered_told l.rest) l.host.world l.report.items;
+      run : IsRunTo t plan ties (map numbered_told l.script.lines) (map numbered_told l.rest) l.host.world l.report.items l.tally;
     }
 
 abbrev pub decreases-loop-rest : goal.decreases-loop-rest

@@ -1,65 +1,54 @@
-use Rattle.std.proofs.Common.{◌≡◌, ◌≢◌, ◌∙◌, ◌++◌, ℕ, List, take, sym, ap, subst, refl, inl, ⊎_elim, Some, None}
-use Rattle.eds_cmd.specs.declared.status.Status.{Status}
+use Rattle.std.proofs.Common.{◌≡◌, ◌∙◌, ◌++◌, ℕ, List, take, sym, ap, refl, inl, ⊎_elim, Some, None}
 use Rattle.eds_cmd.specs.declared.status.Status.TheVariants as statuses
 use Rattle.eds_cmd.specs.Command.{command_of, words_of}
-use Rattle.eds_cmd.specs.Outcome.{IsFault}
 use Rattle.eds_cmd.specs.declared.status.What.TheVariants as what
 use Rattle.eds_cmd.specs.Limits.{sheet_count}
-use Rattle.eds_cmd.specs.Reports.{usage_line}
-use Rattle.eds_cmd.proofs.AnswerLemmas.{past_answer, past_line, past_line_is, unread_reached}
+use Rattle.eds_cmd.proofs.AnswerLemmas.{not_write_fault, past_answer, past_line, past_line_is, unread_reached}
 use Rattle.eds_cmd.proofs.top.eds.Goals as goal
-
--- what is no fault is no write fault
-not_write_fault : (status : Status) → (IsFault status → ⊥) → status ≢ statuses.WriteFault
-not_write_fault status calm e = calm (subst IsFault (sym e) tt)
 
 pub returns-in_default-clause-answer : goal.returns-in_default-clause-answer
 returns-in_default-clause-answer g c = λ firsts tells files before told written calm.
     let none : command_of c.args.words.now ≡ None = rw (← c.as_slice.ensures) (sym c.in_default.ensures) in
-    let whole = not_write_fault c.finish.result calm in
-    (usage_line, rw none (c.finish.ensures.kept whole, refl), c.finish.ensures.whole before written whole ∙ ap (λ (line : List ℕ). Some (before ++ line)) c.as_bytes.ensures.value)
+    rw none (c.without_files.ensures.answer firsts tells files before written calm)
 
 pub returns-in_default-clause-status : goal.returns-in_default-clause-status
 returns-in_default-clause-status g c = λ firsts tells files told calm.
     let none : command_of c.args.words.now ≡ None = rw (← c.as_slice.ensures) (sym c.in_default.ensures) in
-    (usage_line, rw none (c.finish.ensures.kept (not_write_fault c.finish.result calm), refl))
-
-pub returns-in_default-clause-usage_line : goal.returns-in_default-clause-usage_line
-returns-in_default-clause-usage_line g c = λ before written usage. c.finish.ensures.whole before written (λ fault. cc (usage, fault)) ∙ ap (λ (line : List ℕ). Some (before ++ line)) c.as_bytes.ensures.value
+    rw none (c.without_files.ensures.status firsts tells files calm)
 
 pub returns-in_default-clause-write_prefix : goal.returns-in_default-clause-write_prefix
 returns-in_default-clause-write_prefix g c = λ firsts tells files before told written fault.
     let none : command_of c.args.words.now ≡ None = rw (← c.as_slice.ensures) (sym c.in_default.ensures) in
-    let front = c.finish.ensures.prefix before written refl fault in
-    (usage_line, front.0, (statuses.Usage, inl (rw none (refl, refl))), front.1 ∙ ap (λ (line : List ℕ). Some (before ++ take front.0 line)) c.as_bytes.ensures.value)
+    let front = c.without_files.ensures.write_prefix firsts tells files before written fault in
+    (front.1, front.2, (front.0, inl (rw none front.3)), front.4)
 
 pub returns-then-command-gt-SHEETS-clause-answer : goal.returns-then-command-gt-SHEETS-clause-answer
 returns-then-command-gt-SHEETS-clause-answer g c = λ firsts tells files before told written calm.
     let some : command_of c.args.words.now ≡ Some (words_of c.in-Some.command) = rw (← c.as_slice.ensures) (sym c.in-Some.ensures) in
-    let whole = not_write_fault c.finish-then-command-gt-SHEETS.result calm in
+    let whole = not_write_fault c.finish.result calm in
     let answer = past_answer firsts files (words_of c.in-Some.command) c.if-command-gt-SHEETS.true in (
       past_line,
-      rw (some, c.finish-then-command-gt-SHEETS.ensures.kept whole) answer,
-      c.finish-then-command-gt-SHEETS.ensures.whole before written whole ∙ ap (λ (line : List ℕ). Some (before ++ line)) c.as_bytes-then-command-gt-SHEETS.ensures.value,
+      rw (some, c.finish.ensures.kept whole) answer,
+      c.finish.ensures.whole before written whole ∙ ap (λ (line : List ℕ). Some (before ++ line)) c.as_bytes.ensures.value,
     )
 
 pub returns-then-command-gt-SHEETS-clause-status : goal.returns-then-command-gt-SHEETS-clause-status
 returns-then-command-gt-SHEETS-clause-status g c = λ firsts tells files told calm.
     let some : command_of c.args.words.now ≡ Some (words_of c.in-Some.command) = rw (← c.as_slice.ensures) (sym c.in-Some.ensures) in
-    let kept = c.finish-then-command-gt-SHEETS.ensures.kept (not_write_fault c.finish-then-command-gt-SHEETS.result calm) in
+    let kept = c.finish.ensures.kept (not_write_fault c.finish.result calm) in
     (past_line, rw (some, kept) (past_answer firsts files (words_of c.in-Some.command) c.if-command-gt-SHEETS.true))
 
 pub returns-then-command-gt-SHEETS-clause-too_many_line : goal.returns-then-command-gt-SHEETS-clause-too_many_line
 returns-then-command-gt-SHEETS-clause-too_many_line g c = λ before written many calm.
     rw (← past_line_is)
-    (c.finish-then-command-gt-SHEETS.ensures.whole before written (not_write_fault c.finish-then-command-gt-SHEETS.result calm) ∙ ap (λ (line : List ℕ). Some (before ++ line)) c.as_bytes-then-command-gt-SHEETS.ensures.value)
+    (c.finish.ensures.whole before written (not_write_fault c.finish.result calm) ∙ ap (λ (line : List ℕ). Some (before ++ line)) c.as_bytes.ensures.value)
 
 pub returns-then-command-gt-SHEETS-clause-write_prefix : goal.returns-then-command-gt-SHEETS-clause-write_prefix
 returns-then-command-gt-SHEETS-clause-write_prefix g c = λ firsts tells files before told written fault.
     let some : command_of c.args.words.now ≡ Some (words_of c.in-Some.command) = rw (← c.as_slice.ensures) (sym c.in-Some.ensures) in
-    let front = c.finish-then-command-gt-SHEETS.ensures.prefix before written refl fault in
+    let front = c.finish.ensures.prefix before written refl fault in
     let answer = past_answer firsts files (words_of c.in-Some.command) c.if-command-gt-SHEETS.true in
-    (past_line, front.0, (statuses.Limit what.Files sheet_count, inl (rw some answer)), front.1 ∙ ap (λ (line : List ℕ). Some (before ++ take front.0 line)) c.as_bytes-then-command-gt-SHEETS.ensures.value)
+    (past_line, front.0, (statuses.Limit what.Files sheet_count, inl (rw some answer)), front.1 ∙ ap (λ (line : List ℕ). Some (before ++ take front.0 line)) c.as_bytes.ensures.value)
 
 pub returns-in-Ok-clause-read_first : goal.returns-in-Ok-clause-read_first
 returns-in-Ok-clause-read_first g c = λ firsts tells files name told fault.
