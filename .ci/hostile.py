@@ -263,11 +263,28 @@ def sheet_of_cases(name):
     return cases.with_parts(parts, json.loads((cases.DATA / "sheets.json").read_text()))[name]
 
 
+def chatty(length):
+    """A component that sends a text of so many octets each nanosecond."""
+    send = ["SendCommandPrimitive", {"interface": "p", "command": "c"}, ["ArgumentValue", {"name": "a"}, ["VariableRef", {"variableRef": "v"}]]]
+    timer = ["Transition", {"fromState": "S", "toState": "S"}, ["OnTimer", {"nanosecondsAfterEntry": "1"}], ["Do", {"activity": "send"}]]
+    commands = ["CommandSet", ["Command", {"name": "c"}, ["Argument", {"name": "a", "type": "T"}]]]
+    package = interfaces(["Interface", {"name": "X"}, commands], types=[["StringDataType", {"name": "T", "length": str(length)}]])
+    inner = [
+        ["VariableSet", ["Variable", {"name": "v", "type": "T", "initialValue": "x" * length}]],
+        ["ActivitySet", ["Activity", {"name": "send"}, ["Body", send]]],
+        ["StateMachineSet", ["StateMachine", {"name": "m"}, ["EntryState", {"name": "S"}], timer]],
+    ]
+    ends = ["RequiredInterfaceSet", ["Interface", {"name": "p", "type": "X"}]]
+    package[1].append(["ComponentSet", ["Component", {"name": "C"}, ends, ["Implementation", *inner]]])
+    return package
+
+
 def runs():
     """The inputs of scripts."""
     dev = sheet_of_cases("Dev")
     for what, script, answer in scripts():
         yield what, "run r s", {"r": script, "s": dev}, answer
+    yield "a run that tells 72 million octets", "run r s", {"r": "tick 100\n" * 12, "s": chatty(60000)}, (7, "limit report 67108864\n")
 
 
 def run(program, words, room, stack=STACK, memory=MEMORY):
