@@ -3,28 +3,21 @@
 ghost use Rattle.std.specs.Prelude.{◌≡◌, ◌≤◌, ◌<◌, ◌^◌, ℕ, length, Some, None, IfSome};
 ghost use Rattle.std.specs.List.{AllByRecursion};
 ghost use Rattle.eds_plan.specs.declared.machine.Transition.{Transition as transition_plan};
+ghost use Rattle.eds_plan.specs.declared.machine.Trigger.TheVariants as trigger;
 ghost use Rattle.eds_plan.specs.declared.run.MachineState.{MachineState as machine_state};
 ghost use Rattle.eds_plan.specs.Plans.{component_at};
-ghost use Rattle.eds_machine.specs.Moments.{moment as moment_of, sooner as sooner_of, next_moment as next_moment_of, first_due as first_due_of, with_number as with_number_of, due_from, IsNear, HasTimers, HasMoment, IsNextDue};
+ghost use Rattle.eds_machine.specs.Moments.{moment_by, sooner as sooner_of, next_moment as next_moment_of, first_due as first_due_of, with_number as with_number_of, due_from, IsNear, HasTimers, HasMoment, IsNextDue};
 
 use eds_base::CompId;
-use eds_plan::{CompState, ComponentPlan, MachineState, Plan, Transition, Trigger};
+use eds_plan::{CompState, ComponentPlan, MachineState, Plan, Transitions};
 
-fn moment(standing: MachineState, transition: &Transition) -> Option<u64>
-    requires near { IsNear transition.now.event }
+fn moment(standing: MachineState, nanoseconds: u64) -> Option<u64>
+    requires near { nanoseconds ≤ 10 ^ 18 }
     requires early { standing.entered < 2 ^ 63 }
-    ensures { result ≡ moment_of standing transition.now }
+    ensures { result ≡ moment_by (trigger.Timer nanoseconds) standing }
 {
-    if transition.from != standing.at {
-        return None;
-    }
-    match transition.event {
-        Trigger::Timer(nanoseconds) => {
-            let at = standing.entered + nanoseconds;
-            if standing.passed < at { Some(at) } else { None }
-        }
-        _ => None,
-    }
+    let at = standing.entered + nanoseconds;
+    if standing.passed < at { Some(at) } else { None }
 }
 
 fn sooner(a: Option<u64>, b: Option<u64>) -> Option<u64>
@@ -39,14 +32,15 @@ fn sooner(a: Option<u64>, b: Option<u64>) -> Option<u64>
 
 /// The least moment to come of a machine.
 #[tactic(auto, using(crate::proofs::MomentLaws::sooner_assoc, crate::proofs::MomentLaws::sooner_none))]
-fn next_moment(standing: MachineState, transitions: &[Transition]) -> Option<u64>
+fn next_moment(standing: MachineState, transitions: &Transitions) -> Option<u64>
     requires near { AllByRecursion (λ (x : transition_plan). IsNear x.event) transitions.now }
     requires early { standing.entered < 2 ^ 63 }
     ensures { result ≡ next_moment_of standing transitions.now }
 {
     let mut least = None;
-    for transition in transitions {
-        least = sooner(least, moment(standing, transition));
+    let timers = transitions.timers(standing.at);
+    for nanoseconds in timers {
+        least = sooner(least, moment(standing, *nanoseconds));
     }
     least
 }
@@ -82,7 +76,7 @@ fn least_due(component: &ComponentPlan, state: &CompState) -> Option<(u64, u16)>
     let mut due = None;
     let records = state.machines.as_slice();
     for (i, machine) in component.machines.as_slice().iter().enumerate() {
-        let next = next_moment(records[i], machine.transitions.as_slice());
+        let next = next_moment(records[i], &machine.transitions);
         due = first_due(due, with_number(i as u16, next));
     }
     due

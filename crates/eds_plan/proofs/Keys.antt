@@ -14,7 +14,7 @@ use Rattle.eds_plan.specs.declared.transitions.Key.{Key}
 use Rattle.eds_plan.specs.Matching.{same_trigger, positions_from, matching}
 use Rattle.eds_plan.specs.Places.{key_of, same_key, has_key}
 
-eq_num : (a b : ℕ) → is_eq (nat_cmp a b) ≡ (a == b)
+pub eq_num : (a b : ℕ) → is_eq (nat_cmp a b) ≡ (a == b)
 eq_num a b = grind (arith, nat_tests)
 
 eq_then : (a b : Ordering) → is_eq (ordering_then a b) ≡ (is_eq a && is_eq b)

@@ -1,4 +1,5 @@
 pub mod Keys
 pub mod Matches
+pub mod Waiting
 pub mod Called
 pub mod Alike

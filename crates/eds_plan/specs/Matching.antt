@@ -1,6 +1,6 @@
 -- Which transitions leave a state on a trigger.
-use Rattle.std.specs.Prelude.{◌≡◌, ◌<◌, ℕ, ◌+◌, List, [], ◌∷◌, Bool, true, false, ◌&&◌, ◌==◌, if◌then◌else◌, Some, slice_get, ◌↔◌}
-use Rattle.std.specs.List.{AllByRecursion}
+use Rattle.std.specs.Prelude.{◌≡◌, ◌<◌, ℕ, ◌+◌, List, [], ◌∷◌, Bool, true, false, ◌&&◌, ◌==◌, if◌then◌else◌, Option, Some, None, slice_get, ◌↔◌}
+use Rattle.std.specs.List.{AllByRecursion, filter_map}
 use Rattle.eds_bits.specs.Lists.{HasOne}
 use Rattle.eds_plan.specs.declared.activity.Op.{Op}
 use Rattle.eds_plan.specs.declared.activity.Op.TheVariants as op
@@ -48,7 +48,16 @@ positions_from n p (x ∷ xs) = if p x then n ∷ positions_from (n + 1) p xs el
 abbrev pub matching : ℕ → Trigger → List Transition → List ℕ
 matching state t xs = positions_from 0 (waits_for state t) xs
 
--- ---- what the list of positions is
+-- the nanoseconds that a timer waits
+abbrev pub nanoseconds : Trigger → Option ℕ
+nanoseconds (trigger.Timer k) = Some k
+nanoseconds _ = None
+
+-- the waiting times of the timers of the transitions that leave the state, in document order
+abbrev pub timers : ℕ → List Transition → List ℕ
+timers state xs = filter_map (λ (x : Transition). if x.from == state then nanoseconds x.event else None) xs
+
+-- ---- what the lists of positions and of waiting times are
 
 -- numbers that grow
 abbrev pub Ascends : List ℕ → Type 0
@@ -59,3 +68,7 @@ Ascends (n ∷ ns) = AllByRecursion (λ m. n < m) ns × Ascends ns
 abbrev pub MatchingIsExact : Type 0
 MatchingIsExact = (state : ℕ) (t : Trigger) (xs : List Transition) →
     ((i : ℕ) → HasOne (λ n. n ≡ i) (matching state t xs) ↔ ((x : Transition) × (slice_get xs i ≡ Some x) × (x.from ≡ state) × (x.event ≡ t))) × Ascends (matching state t xs)
+
+-- it has exactly the waiting times of the transitions from that state that wait for a timer
+abbrev pub TimersAreExact : Type 0
+TimersAreExact = (state k : ℕ) (xs : List Transition) → HasOne (λ n. n ≡ k) (timers state xs) ↔ HasOne (λ (x : Transition). (x.from ≡ state) × (x.event ≡ trigger.Timer k)) xs

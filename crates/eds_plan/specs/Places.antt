@@ -1,4 +1,4 @@
--- How the table of transitions keeps their positions.
+-- How the table of transitions keeps their positions and their timers.
 use Rattle.std.specs.Prelude.{◌≡◌, ℕ, List, [], Bool, unwrap_or}
 use Rattle.std.specs.Ordering.{nat_cmp, ordering_then, is_eq}
 use Rattle.std.specs.declared.cmp.Ordering.{Ordering}
@@ -9,7 +9,7 @@ use Rattle.eds_plan.specs.declared.machine.Transition.{Transition}
 use Rattle.eds_plan.specs.declared.machine.Trigger.{Trigger}
 use Rattle.eds_plan.specs.declared.machine.Trigger.TheVariants as trigger
 use Rattle.eds_plan.specs.declared.transitions.Key.{Key}
-use Rattle.eds_plan.specs.Matching.{positions_from}
+use Rattle.eds_plan.specs.Matching.{positions_from, timers}
 
 -- the sort of a parameter's trigger
 abbrev pub sort_of : Op → ℕ
@@ -33,9 +33,9 @@ key_cmp a b = ordering_then (nat_cmp a.sort b.sort) (ordering_then (nat_cmp a.fi
 abbrev pub same_key : Key → Key → Bool
 same_key a b = is_eq (key_cmp a b)
 
--- the positions that are kept for a key
-abbrev pub places_at : BTreeMap Key (List ℕ) → Key → List ℕ
-places_at m q = unwrap_or (get key_cmp m q) []
+-- the items that are noted under a key
+abbrev pub noted_under : {K X : Type 0} → (K → K → Ordering) → BTreeMap K (List X) → K → List X
+noted_under cmp m q = unwrap_or (get cmp m q) []
 
 -- the transition has the key
 abbrev pub has_key : Key → Transition → Bool
@@ -43,4 +43,8 @@ has_key q x = same_key (key_of x.from x.event) q
 
 -- for each key the positions of the transitions that have it
 abbrev pub TellsPlaces : BTreeMap Key (List ℕ) → List Transition → Type 0
-TellsPlaces m xs = (q : Key) → places_at m q ≡ positions_from 0 (has_key q) xs
+TellsPlaces m xs = (q : Key) → noted_under key_cmp m q ≡ positions_from 0 (has_key q) xs
+
+-- for each state the waiting times of its timers
+abbrev pub TellsTimers : BTreeMap ℕ (List ℕ) → List Transition → Type 0
+TellsTimers m xs = (state : ℕ) → noted_under nat_cmp m state ≡ timers state xs
