@@ -1,9 +1,11 @@
 -- Bits as the first pass counts them: up to a bound beyond the octets that any length entry tells.
-use Rattle.std.specs.Prelude.{ℕ, ◌+◌, ◌^◌, min, List, Result, Ok, Err}
+use Rattle.std.specs.Prelude.{ℕ, ◌+◌, ◌^◌, min, Bool, true, false, List, Result, Ok, Err}
 use Rattle.eds_base.specs.declared.fault.Step.{Step}
 use Rattle.eds_pack.specs.declared.fail.PackFail.{PackFail}
 use Rattle.eds_pack.specs.Packs.{fail_at}
 use Rattle.eds_types.specs.declared.reason.PackReason.{PackReason}
+use Rattle.eds_types.specs.declared.row.Kind.{Kind}
+use Rattle.eds_types.specs.declared.row.Kind.TheVariants as kind
 use Rattle.eds_types.specs.Packing.{pack_fault_at, pack_fault_here}
 use Rattle.eds_types.specs.PackedSizes.{Size}
 
@@ -20,6 +22,16 @@ added before (Err g) = Err g
 abbrev pub counted : Size → Size
 counted (Ok n) = Ok (capped n)
 counted (Err g) = Err g
+
+-- nothing is nested in a value of the kind
+abbrev pub is_flat : Kind → Bool
+is_flat (kind.Int form spans) = true
+is_flat (kind.Enum form listing) = true
+is_flat (kind.Bool form) = true
+is_flat (kind.Str form) = true
+is_flat (kind.Bin n free) = true
+is_flat (kind.Arr item n) = false
+is_flat (kind.Con c) = false
 
 -- the size of a value in which nothing is nested, or why it has none
 abbrev pub at_once : Result ℕ PackReason → Size

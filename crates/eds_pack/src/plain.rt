@@ -1,16 +1,16 @@
 //! Values in which nothing is nested.
 
-ghost use Rattle.std.specs.Prelude.{◌≡◌, ◌↔◌, IsTrue, option_map};
+ghost use Rattle.std.specs.Prelude.{◌≡◌, ◌↔◌, ℕ, IsTrue, option_map};
 ghost use Rattle.std.specs.Option.{option_copied};
 ghost use Rattle.eds_bits.specs.Scalars.{IsCoded};
-ghost use Rattle.eds_types.specs.PackedSizes.{number_size as number_size_of, label_size as label_size_of, truth_size as truth_size_of, text_size as text_size_of, binary_size as binary_size_of, text_fits as text_fits_of, tells as tells_of};
-ghost use Rattle.eds_types.specs.Plain.{plain};
-ghost use Rattle.eds_types.specs.Rows.{list_has};
-ghost use Rattle.eds_pack.specs.Counting.{at_once};
+ghost use Rattle.eds_types.specs.PackedSizes.{Size, number_size as number_size_of, label_size as label_size_of, truth_size as truth_size_of, text_size as text_size_of, binary_size as binary_size_of, text_fits as text_fits_of, tells as tells_of, packed_kind_size};
+ghost use Rattle.eds_types.specs.Plain.{Plain, plain};
+ghost use Rattle.eds_types.specs.Rows.{Table, list_has};
+ghost use Rattle.eds_pack.specs.Counting.{at_once, is_flat};
 
 use eds_base::{Spans, Text};
 use eds_bits::{BoolForm, IntForm, TextForm};
-use eds_types::{Listing, PackReason, Value, is_binary, number_of_label};
+use eds_types::{Kind, Listing, PackReason, Value, is_binary, number_of_label};
 
 /// How many bits a number has, or why it doesn't pack.
 pub(crate) fn number_size(form: IntForm, spans: &Spans, value: &Value) -> Result<u32, PackReason>
@@ -99,6 +99,21 @@ pub(crate) fn binary_size(size: u32, is_open: bool, value: &Value) -> Result<u32
             }
         }
         _ => Err(PackReason::WrongKind),
+    }
+}
+
+/// How many bits a value has of a kind in which nothing is nested, or why it doesn't pack.
+pub(crate) fn flat_size(kind: &Kind, value: &Value) -> Result<u32, PackReason>
+    requires { IsTrue (is_flat kind.now) }
+    ensures { (t : Table) (size : ℕ → Plain → Size) (id : ℕ) → at_once result ≡ packed_kind_size t size id kind.now (plain value.now) }
+{
+    match kind {
+        Kind::Int(form, spans) => number_size(*form, spans, value),
+        Kind::Enum(form, listing) => label_size(*form, listing, value),
+        Kind::Bool(form) => truth_size(*form, value),
+        Kind::Str(form) => text_size(*form, value),
+        Kind::Bin(size, is_open) => binary_size(*size, *is_open, value),
+        Kind::Arr(_, _) | Kind::Con(_) => unreachable!(),
     }
 }
 

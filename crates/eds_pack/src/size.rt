@@ -18,7 +18,7 @@ use crate::choice::check_most_derived;
 use crate::constraint::check_constraints;
 use crate::fields::Fields;
 use crate::length::check_length;
-use crate::plain::{binary_size, label_size, number_size, tells, text_size, truth_size};
+use crate::plain::{flat_size, tells};
 use crate::seek::{behind, has_fields, is_under, value_in, value_of};
 use crate::tally::Tally;
 use eds_base::{Path, Step, TypeId};
@@ -66,13 +66,9 @@ fn add_row(
 {
     table.keeps_rules();
     match &row.kind {
-        Kind::Int(form, spans) => total.take(number_size(*form, spans, value)),
-        Kind::Enum(form, listing) => total.take(label_size(*form, listing, value)),
-        Kind::Bool(form) => total.take(truth_size(*form, value)),
-        Kind::Str(form) => total.take(text_size(*form, value)),
-        Kind::Bin(size, is_open) => total.take(binary_size(*size, *is_open, value)),
         Kind::Arr(item, count) => add_array(table, depth, *item, *count, value, total, path),
         Kind::Con(_) => add_container(table, depth, id, value, total, path),
+        kind => total.take(flat_size(kind, value)),
     }
 }
 

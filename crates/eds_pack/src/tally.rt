@@ -1,6 +1,6 @@
 //! Counting bits.
 
-ghost use Rattle.std.specs.Prelude.{◌≡◌, ◌≤◌, ◌+◌, ◌^◌, [], Ok, Err, IfSome, IfNone};
+ghost use Rattle.std.specs.Prelude.{◌≡◌, ◌≤◌, ◌+◌, ◌^◌, [], Ok, Err, IfSome, IfNone, is_ok};
 ghost use Rattle.eds_bits.specs.Bits.{octets_for};
 ghost use Rattle.eds_types.specs.Packing.{most_bits};
 ghost use Rattle.eds_types.specs.PackedSizes.{not_long};
@@ -86,5 +86,15 @@ impl Tally {
         } else {
             None
         }
+    }
+}
+
+/// Whether a value in which nothing is nested packs, where it has this size.
+pub(crate) fn packs_at_once(size: Result<u32, PackReason>) -> bool
+    ensures { result ≡ is_ok (not_long (at_once size)) }
+{
+    match size {
+        Ok(bits) => u128::from(bits) <= MOST_PACKED,
+        Err(_) => false,
     }
 }

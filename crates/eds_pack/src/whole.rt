@@ -8,11 +8,12 @@ ghost use Rattle.eds_pack.specs.Counting.{given};
 ghost use Rattle.eds_pack.specs.Packs.{Packs, where_of, fail_at};
 
 use crate::PackFail;
+use crate::plain::flat_size;
 use crate::size::add_value;
-use crate::tally::Tally;
+use crate::tally::{Tally, packs_at_once};
 use eds_base::{Path, TypeId};
 use eds_types::packs::packed_sizes;
-use eds_types::{PackReason, TypeTable, Value};
+use eds_types::{Kind, PackReason, TypeTable, Value};
 
 /// How many types are nested in each other at most.
 pub(crate) const MOST_NESTED: u32 = 32;
@@ -46,10 +47,15 @@ pub fn packed_bits(table: &TypeTable, id: TypeId, value: &Value) -> Result<u32, 
     size_of(table, id, value)
 }
 
-/// Whether a value packs as a type.
+/// Whether a value packs as a type. No fault is made where nothing is nested in it.
 pub fn conforms(table: &TypeTable, id: TypeId, value: &Value) -> bool
     requires known { id.0 < length table.now }
     ensures { IsTrue result ↔ ((n : ℕ) × Packs table.now id.0 (plain value.now) n) }
 {
-    packed_bits(table, id, value).is_ok()
+    table.keeps_rules();
+    packed_sizes();
+    match &table.row(id).kind {
+        Kind::Arr(_, _) | Kind::Con(_) => packed_bits(table, id, value).is_ok(),
+        kind => packs_at_once(flat_size(kind, value)),
+    }
 }
