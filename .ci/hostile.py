@@ -212,6 +212,12 @@ def inputs():
         0, "accepted types 0 containers 0 interfaces 0 components 0\n")  # fmt: skip
     yield "200,000 attributes", "check s", {"s": ["PackageFile", {f"x{i}": "1" for i in range(200000)}]}, (
         0, "accepted types 0 containers 0 interfaces 0 components 0\n")  # fmt: skip
+    yield "ten references from a package of 20,000 parts", "check s", {
+        "s": sheet(U4, container("C", *(entry(f"e{i}", "U4") for i in range(10))), package="/".join(["a"] * 20000))
+    }, (0, "accepted types 2 containers 1 interfaces 0 components 0\n")
+    yield "1,000 references from a package of a million parts with 1,000 types", "check s", {
+        "s": sheet(*([U4[0], {"name": f"T{i}"}] for i in range(1000)), container("C", *(entry(f"e{i}", f"T{i}") for i in range(1000))), package="/".join(["a"] * 1000000))
+    }, (6, "")
     yield "64 sheets of a type each", "check " + " ".join(f"s{i}" for i in range(64)), {
         f"s{i}": sheet([U4[0], {"name": "T"}], package=f"P{i}") for i in range(64)
     }, (0, "accepted types 64 containers 0 interfaces 0 components 0\n")

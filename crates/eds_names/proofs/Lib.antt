@@ -3,6 +3,7 @@ pub mod RepeatsLemmas
 pub mod DeclarationsLemmas
 pub mod AroundLemmas
 pub mod LookUpLemmas
+pub mod DepthsLemmas
 pub mod FilesLemmas
 pub mod Differing
 pub mod Numbering

@@ -1,5 +1,5 @@
 -- The names of a sheet, and what a reference finds.
-use Rattle.std.specs.Prelude.{◌≡◌, ℕ, false, List, [], ◌∷◌, ◌++◌, map, if◌then◌else◌, nat_eq, Option, Some, None, slice_get, IsSomeAnd, Result, Ok, Err}
+use Rattle.std.specs.Prelude.{◌≡◌, ℕ, false, List, [], ◌∷◌, ◌++◌, map, if◌then◌else◌, nat_eq, count_by, Bool, Option, Some, None, slice_get, unwrap_or, IsSomeAnd, Result, Ok, Err}
 use Rattle.eds_base.specs.Reading.{same}
 use Rattle.eds_base.specs.declared.ids.Place.{Place}
 use Rattle.eds_base.specs.declared.refusal.Refusal.{Refusal}
@@ -37,6 +37,14 @@ fronts (c ∷ cs) = map (λ front. c ∷ front) (fronts cs) ++ (if nat_eq c 47 t
 abbrev pub longest : List (List ℕ) → Option (List ℕ)
 longest [] = None
 longest (front ∷ fronts) = Some front
+
+-- how many slashes a name has
+abbrev pub slashes : List ℕ → ℕ
+slashes name = count_by (λ c. nat_eq c 47) name
+
+-- the number is marked in a table
+abbrev pub is_marked : List Bool → ℕ → Bool
+is_marked table k = unwrap_or (slice_get table k) false
 
 -- A reference below the name around it: below the component, where it stands in one, below the package, below each
 -- shorter front of the package's name, and by itself.

@@ -5,6 +5,7 @@ ghost use Rattle.eds_names.specs.Standings.{name_around, around, around_entry, w
 ghost use Rattle.eds_names.specs.Around.{name_in, name_at, IsIn};
 
 use crate::declared::name_of;
+use crate::room::Room;
 use crate::standing::Standing;
 use eds_base::{Items, Memory, Text};
 use eds_tree::Tree;
@@ -51,6 +52,7 @@ struct Known {
 // Puts a name last, where there is one.
 fn push_name(
     alloc: Global,
+    room: &mut Room,
     names: &mut Vec<Text>,
     tree: &Tree,
     in_package: u32,
@@ -60,7 +62,7 @@ fn push_name(
     ensures position { IfOk result (IsIn names.new.items) }
     ensures kept { OnOk result (take (length names.old.items) names.new.items ≡ names.old.items) }
 {
-    match name_of(alloc, tree, in_package, in_component)? {
+    match name_of(alloc, room, tree, in_package, in_component)? {
         None => Ok(None),
         Some(name) => {
             let position = names.len();
@@ -76,6 +78,7 @@ fn push_name(
 // Where an element stands, with the position of the name around it. Where the last one stood there too, it is that one's.
 fn enter(
     alloc: Global,
+    room: &mut Room,
     names: &mut Vec<Text>,
     tree: &Tree,
     last: Known,
@@ -93,6 +96,7 @@ fn enter(
     }
     let position = push_name(
         alloc,
+        room,
         names,
         tree,
         standing.in_package,
@@ -116,6 +120,7 @@ fn write(table: &mut Vec<Option<u32>>, node: u32, position: Option<u32>)
 /// The name around each element of a file.
 pub(crate) fn around_of(
     alloc: Global,
+    room: &mut Room,
     tree: &Tree,
     standings: &[Standing],
 ) -> Result<Around, Memory>
@@ -129,7 +134,7 @@ pub(crate) fn around_of(
         position: None,
     };
     for standing in standings {
-        last = enter(alloc, &mut names, tree, last, *standing)?;
+        last = enter(alloc, room, &mut names, tree, last, *standing)?;
         write(&mut table, standing.node, last.position);
     }
     Ok(Around {

@@ -5,6 +5,7 @@ ghost use Rattle.std.specs.List.{flat_map};
 ghost use Rattle.eds_names.specs.Standings.{joined, name_around, qualified as qualified_in};
 ghost use Rattle.eds_names.specs.Declarations.{is_sort, is_face, is_comp, kind_of as kind_in, item_of, counted, counted_all, numbered, declaration_at};
 
+use crate::room::Room;
 use crate::standing::{Standing, own_name};
 use eds_base::{CompId, FaceId, Memory, Place, Text, TypeId};
 use eds_tree::Tree;
@@ -135,15 +136,23 @@ fn kind_of(name: &str, parent: &str) -> Option<Kind>
 }
 
 /// One name after another.
-pub(crate) fn join(alloc: Global, first: &str, second: &str) -> Result<Text, Memory>
+pub(crate) fn join(
+    alloc: Global,
+    room: &mut Room,
+    first: &str,
+    second: &str,
+) -> Result<Text, Memory>
     ensures { IfOk result (λ t. t ≡ joined first.now second.now) }
 {
+    room.take(first.len())?;
+    room.take(second.len())?;
     Ok(Text::from_string(format!(in alloc; "{first}/{second}")?))
 }
 
 /// The qualified name of a component, or of its package where there is no component, by their elements.
 pub(crate) fn name_of(
     alloc: Global,
+    room: &mut Room,
     tree: &Tree,
     in_package: u32,
     in_component: u32,
@@ -153,21 +162,29 @@ pub(crate) fn name_of(
     if in_component != 0 {
         return Ok(Some(join(
             alloc,
+            room,
             own_name(tree, in_package),
             own_name(tree, in_component),
         )?));
     }
     if in_package != 0 {
-        return Ok(Some(Text::of(alloc, own_name(tree, in_package))?));
+        let package = own_name(tree, in_package);
+        room.take(package.len())?;
+        return Ok(Some(Text::of(alloc, package)?));
     }
     Ok(None)
 }
 
-fn qualified(alloc: Global, around: Option<&Text>, own: &str) -> Result<Text, Memory>
+fn qualified(
+    alloc: Global,
+    room: &mut Room,
+    around: Option<&Text>,
+    own: &str,
+) -> Result<Text, Memory>
     ensures { IfOk result (λ t. t ≡ qualified_in (option_map (λ a. a.now) around.entry) own.now) }
 {
     match around {
-        Some(around) => join(alloc, around.as_str(), own),
+        Some(around) => join(alloc, room, around.as_str(), own),
         None => Text::of(alloc, own),
     }
 }
@@ -175,6 +192,7 @@ fn qualified(alloc: Global, around: Option<&Text>, own: &str) -> Result<Text, Me
 // Puts what an element declares last.
 fn declare(
     alloc: Global,
+    room: &mut Room,
     declared: &mut Vec<Declared>,
     counts: &mut Counts,
     file: u16,
@@ -189,8 +207,14 @@ fn declare(
         None => return Ok(()),
     };
     let own = own_name(tree, standing.node);
-    let around = name_of(alloc, tree, standing.in_package, standing.in_component)?;
-    let name = qualified(alloc, around.as_ref(), own)?;
+    let around = name_of(
+        alloc,
+        room,
+        tree,
+        standing.in_package,
+        standing.in_component,
+    )?;
+    let name = qualified(alloc, room, around.as_ref(), own)?;
     let own = Text::of(alloc, own)?;
     let item = count_item(counts, kind)?;
     let place = Place {
@@ -209,6 +233,7 @@ fn declare(
 /// Puts all that a file declares last.
 pub(crate) fn declare_all(
     alloc: Global,
+    room: &mut Room,
     declared: &mut Vec<Declared>,
     counts: &mut Counts,
     file: u16,
@@ -219,7 +244,7 @@ pub(crate) fn declare_all(
     ensures counts { OnOk result (counts.new ≡ counted_all counts.old (flat_map (declaration_at tree.now file) standings.now)) }
 {
     for standing in standings {
-        declare(alloc, declared, counts, file, tree, *standing)?;
+        declare(alloc, room, declared, counts, file, tree, *standing)?;
     }
     Ok(())
 }

@@ -3,10 +3,12 @@
 
 mod around;
 mod declared;
+mod depths;
 pub mod law;
 mod name_list;
 mod owned;
 mod repeat;
+mod room;
 mod space;
 mod standing;
 

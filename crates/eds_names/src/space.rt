@@ -1,19 +1,21 @@
 //! The names of a sheet, and what a reference finds.
 
-ghost use Rattle.std.specs.Prelude.{◌≡◌, ◌+◌, ◌≤◌, ◌++◌, ℕ, List, [], ◌∷◌, map, count_by, length, option_map, string_bytes, IfOk, IfSome, OnOk};
+ghost use Rattle.std.specs.Prelude.{◌≡◌, ◌+◌, ◌≤◌, ◌++◌, ℕ, List, [], ◌∷◌, map, count_by, false, length, None, option_map, string_bytes, IfOk, IfSome, OnOk};
 ghost use Rattle.std.specs.Str.{IsUtf8};
 ghost use Rattle.std.specs.HashMap.{get_by_text};
 ghost use Rattle.eds_base.specs.Answering.{Answers};
 ghost use Rattle.eds_base.specs.Refusals.{least, first_of};
 ghost use Rattle.eds_names.specs.Repeats.{repeats, repeats_in, repeats_from};
 ghost use Rattle.eds_names.specs.Declarations.{declared_in, named_of, numbered, counted_all, declarations_in, is_sort, is_face, is_comp};
-ghost use Rattle.eds_names.specs.Standings.{arounds_of};
-ghost use Rattle.eds_names.specs.LookUp.{NamesDiffer, item_named, entry_named, or_else, fronts, longest, candidates, first_found, around_at, look_up, names_in};
+ghost use Rattle.eds_names.specs.Standings.{arounds_of, joined};
+ghost use Rattle.eds_names.specs.LookUp.{NamesDiffer, slashes as slashes_of, item_named, entry_named, or_else, fronts, longest, candidates, first_found, around_at, look_up, names_in};
 
 use crate::around::{Around, around_of};
 use crate::declared::{Counts, Declared, Item, declare_all, join};
+use crate::depths::{depths_of, slashes_joined};
 use crate::owned::least_owned;
 use crate::repeat::note_name;
+use crate::room::{MOST_KEPT, Room, most_read};
 use crate::standing::standings_in;
 use eds_base::{Fail, Items, Memory, Place, Refusal, Text};
 use eds_tree::{Tree, Trees};
@@ -27,18 +29,20 @@ pub struct Space {
     declared: Items<Declared>,
     index: IndexMap<String, Item>,
     arounds: Items<Around>,
+    depths: Items<bool>,
+    most_read: usize,
 }
 
 impl Model for Space {
-    ghost use Rattle.std.specs.Prelude.{◌≡◌, ℕ, List};
+    ghost use Rattle.std.specs.Prelude.{◌≡◌, ℕ, List, None, false};
     ghost use Rattle.std.specs.HashMap.{get_by_text};
-    ghost use Rattle.eds_names.specs.LookUp.{Names, NamesDiffer, item_named};
+    ghost use Rattle.eds_names.specs.LookUp.{Names, NamesDiffer, item_named, slashes, is_marked};
 
     ghost Value = { Names };
 
     ghost view = { λ s. record { declared = s.declared; arounds = s.arounds } };
 
-    ghost invariant = { λ s. ((q : List ℕ) → get_by_text s.index q ≡ item_named s.declared q) × NamesDiffer s.declared };
+    ghost invariant = { λ s. ((q : List ℕ) → get_by_text s.index q ≡ item_named s.declared q) × NamesDiffer s.declared × ((q : List ℕ) → is_marked s.depths (slashes q) ≡ false → item_named s.declared q ≡ None) };
 }
 
 // The first of the names that are declared twice.
@@ -105,6 +109,8 @@ struct Register {
     counts: Counts,
     arounds: Items<Around>,
     found: Option<Refusal>,
+    room: Room,
+    elements: usize,
 }
 
 // Reads one file more.
@@ -114,16 +120,18 @@ fn read_file(alloc: Global, register: &mut Register, file: u16, tree: &Tree) -> 
     ensures arounds { OnOk result (register.new.arounds ≡ register.old.arounds ++ arounds_of tree.now ∷ []) }
     ensures found { OnOk result (register.new.found ≡ first_of register.old.found (least (repeats_in file tree.now))) }
 {
+    register.elements = register.elements.saturating_add(tree.len());
     let standings = standings_in(alloc, tree)?;
     declare_all(
         alloc,
+        &mut register.room,
         &mut register.declared,
         &mut register.counts,
         file,
         tree,
         &standings,
     )?;
-    let around = around_of(alloc, tree, &standings)?;
+    let around = around_of(alloc, &mut register.room, tree, &standings)?;
     register.arounds.push(around)?;
     let here = least_owned(alloc, file, tree, &standings)?;
     register.found = Refusal::first(register.found.take(), here);
@@ -146,6 +154,8 @@ fn read_files(alloc: Global, trees: &[Tree]) -> Result<Register, Memory>
         },
         arounds: Items::new(alloc),
         found: None,
+        room: Room { left: MOST_KEPT },
+        elements: 0,
     };
     for (file, tree) in trees.iter().enumerate() {
         read_file(alloc, &mut register, file as u16, tree)?;
@@ -168,16 +178,21 @@ impl Space {
             counts: _,
             arounds,
             found,
+            room: _,
+            elements,
         } = register;
         let repeated = least_declared(alloc, &declared)?;
         match Refusal::first(repeated, found) {
             Some(refusal) => Err(Fail::Named(refusal)),
             None => {
                 let index = index_of(alloc, &declared)?;
+                let depths = depths_of(alloc, &declared)?;
                 Ok(Space {
                     declared: Items::from_vec(declared),
                     index,
                     arounds,
+                    depths: Items::from_vec(depths),
+                    most_read: most_read(elements),
                 })
             }
         }
@@ -249,13 +264,46 @@ impl Space {
         }
     }
 
+    // Whether a declared name has so many slashes.
+    fn is_depth(&self, depth: usize) -> bool
+        ensures { (q : List ℕ) → result ≡ false → slashes_of q ≡ depth → item_named self.now.declared q ≡ None }
+    {
+        match self.depths.get(depth) {
+            Some(is_depth) => *is_depth,
+            None => false,
+        }
+    }
+
+    // The item of a reference below a name, where both with a slash between them have so many slashes.
+    fn item_below(
+        &self,
+        alloc: Global,
+        room: &mut Room,
+        front: &str,
+        text: &str,
+        depth: usize,
+    ) -> Result<Option<Item>, Memory>
+        requires { slashes_of front.now + 1 + slashes_of text.now ≡ depth }
+        ensures { IfOk result (λ i. i ≡ item_named self.now.declared (joined front.now text.now)) }
+    {
+        if !self.is_depth(depth) {
+            return Ok(None);
+        }
+        let name = join(alloc, room, front, text)?;
+        Ok(self.item(name.as_str()))
+    }
+
     fn look_up_below(&self, alloc: Global, around: &str, text: &str) -> Result<Option<Item>, Memory>
         ensures { IfOk result (λ i. i ≡ first_found self.now.declared (candidates (Some around.now) text.now)) }
     {
+        let mut room = Room {
+            left: self.most_read,
+        };
+        room.take(around.len())?;
         let mut front = around;
+        let mut depth = slashes_joined(around, text)?;
         'fronts: loop {
-            let name = join(alloc, front, text)?;
-            let found = self.item(name.as_str());
+            let found = self.item_below(alloc, &mut room, front, text, depth)?;
             if found.is_some() {
                 return Ok(found);
             }
@@ -263,6 +311,7 @@ impl Space {
                 Some(next) => front = next,
                 None => return Ok(self.item(text)),
             }
+            depth -= 1;
         }
     }
 }
