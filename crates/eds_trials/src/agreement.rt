@@ -17,9 +17,22 @@ use std::alloc::Global;
 pub(crate) struct Packing {
     /// How many lists of so many bits at most are read as a value.
     pub(crate) reads: u32,
-    /// How many of these don't begin with a spelling of that value, how many values don't pack into their canonical
-    /// spelling, and of how many numbers it is wrong whether they pack.
+    /// How many values pack into so many bits at most.
+    pub(crate) packed: u32,
+    /// How many of the lists don't begin with a spelling of their value, how many values pack into bits that are not their
+    /// canonical spelling, and of how many scalar values and numbers it is wrong whether they pack.
     pub(crate) faults: u32,
+}
+
+/// What the packer does with a value.
+#[derive(Clone, Copy)]
+enum Packed {
+    /// It gives the canonical spelling, of so many bits.
+    Rightly(u32),
+    /// It refuses the value.
+    Refused,
+    /// It gives other bits, or its calls contradict each other.
+    Wrongly,
 }
 
 // The octets hold the canonical spelling of the value, and zeros behind it.
@@ -60,20 +73,46 @@ fn fills_room(
     Ok(fits && wants && small.iter().all(|octet| *octet == 0xAA))
 }
 
-// Whether the value is packed into its canonical spelling.
-fn packs(alloc: Global, table: &TypeTable, id: TypeId, value: &Value) -> Result<bool, Memory>
+// What becomes of a value that is packed.
+fn packed(alloc: Global, table: &TypeTable, id: TypeId, value: &Value) -> Result<Packed, Memory>
     requires known { id.0 < length table.now }
 {
+    let size = packed_bits(table, id, value).ok();
+    if conforms(table, id, value) != size.is_some() {
+        return Ok(Packed::Wrongly);
+    }
     match pack(alloc, table, id, value) {
-        Ok((octets, size)) => Ok(
-            conforms(table, id, value)
-                && packed_bits(table, id, value).ok() == Some(size)
-                && hold_spelling(alloc, table, id, value, octets.as_slice(), size)?
-                && fills_room(alloc, table, id, value, octets.as_slice())?,
-        ),
-        Err(Fail::Named(_)) => Ok(false),
+        Ok((octets, bits)) => {
+            let is_right = size == Some(bits)
+                && hold_spelling(alloc, table, id, value, octets.as_slice(), bits)?
+                && fills_room(alloc, table, id, value, octets.as_slice())?;
+            Ok(if is_right { Packed::Rightly(bits) } else { Packed::Wrongly })
+        }
+        Err(Fail::Named(_)) if size.is_none() => Ok(Packed::Refused),
+        Err(Fail::Named(_)) => Ok(Packed::Wrongly),
         Err(Fail::Memory) => Err(Memory),
     }
+}
+
+impl Packing {
+    // Counts what became of a value.
+    fn count(&mut self, packed: Packed, value: &Value, most: usize) {
+        match packed {
+            Packed::Rightly(bits) => {
+                self.packed = self.packed.wrapping_add(u32::from(bits as usize <= most));
+            }
+            Packed::Refused => {
+                self.faults = self.faults.wrapping_add(u32::from(always_packs(value)));
+            }
+            Packed::Wrongly => self.faults = self.faults.wrapping_add(1),
+        }
+    }
+}
+
+// Whether each value of a type packs that has the parts of this one: fields may break a constraint or leave no number for a
+// length entry.
+fn always_packs(value: &Value) -> bool {
+    !matches!(value, Value::Fields(_, _) | Value::Items(_))
 }
 
 fn has_number(values: &[Value], number: i128) -> bool {
@@ -158,19 +197,20 @@ pub(crate) fn agreement(
 {
     let slow = Slow::of_rows(alloc, table.rows(), Spelling::Any);
     let values = slow.values(id)?;
-    let mut reads = 0u32;
-    let mut faults = numbers_amiss(table, id, values.as_slice());
+    let mut agreed = Packing {
+        reads: 0,
+        packed: 0,
+        faults: numbers_amiss(table, id, values.as_slice()),
+    };
     for value in values.iter() {
-        if !packs(alloc, table, id, value)? {
-            faults = faults.wrapping_add(1);
-        }
+        agreed.count(packed(alloc, table, id, value)?, value, most);
     }
     for size in 0..most.wrapping_add(1) {
         for number in 0..lists_of(size) {
             let (is_read, agrees) = read(alloc, table, id, number.to_be_bytes(), size as u64)?;
-            reads = reads.wrapping_add(u32::from(is_read));
-            faults = faults.wrapping_add(u32::from(!agrees));
+            agreed.reads = agreed.reads.wrapping_add(u32::from(is_read));
+            agreed.faults = agreed.faults.wrapping_add(u32::from(!agrees));
         }
     }
-    Ok(Packing { reads, faults })
+    Ok(agreed)
 }

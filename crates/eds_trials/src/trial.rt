@@ -1,6 +1,6 @@
 //! One trial of a type.
 
-use crate::agreement::agreement;
+use crate::agreement::{Packing, agreement};
 use crate::census::{Found, census};
 use crate::sheet::sheet_of;
 use crate::small::small_rows;
@@ -30,8 +30,8 @@ pub(crate) enum Outcome {
     Refused,
     /// Other values or spellings were found, or the plain program contradicts itself.
     Found(Found),
-    /// Reader or packer and the plain program disagree: how many lists are read, how many should be, and what else differs.
-    Disagrees(u32, u32, u32),
+    /// Reader or packer and the plain program disagree.
+    Disagrees(Packing, Found),
 }
 
 impl Outcome {
@@ -55,8 +55,17 @@ impl fmt::Display for Outcome {
                 } = found;
                 write!(f, "{values} values, {spellings} spellings, {faults} faults")
             }
-            Outcome::Disagrees(reads, fronts, faults) => {
-                write!(f, "{reads} of {fronts} are read, {faults} faults")
+            Outcome::Disagrees(agreed, found) => {
+                let Packing {
+                    reads,
+                    packed,
+                    faults,
+                } = agreed;
+                let Found { values, fronts, .. } = found;
+                write!(
+                    f,
+                    "{reads} of {fronts} are read, {packed} of {values} are packed, {faults} faults"
+                )
             }
         }
     }
@@ -118,10 +127,13 @@ impl<'a> Trial<'a> {
         let agreed = agreement(alloc, &sheet.table, id, self.bits)?;
         if let Some(missed) = self.misses(found) {
             Ok(missed)
-        } else if agreed.reads == found.fronts && agreed.faults == 0 {
+        } else if agreed.reads == found.fronts
+            && agreed.packed == found.values
+            && agreed.faults == 0
+        {
             Ok(Outcome::Passes)
         } else {
-            Ok(Outcome::Disagrees(agreed.reads, found.fronts, agreed.faults))
+            Ok(Outcome::Disagrees(agreed, found))
         }
     }
 }
