@@ -86,7 +86,11 @@ fn packed(alloc: Global, table: &TypeTable, id: TypeId, value: &Value) -> Result
             let is_right = size == Some(bits)
                 && hold_spelling(alloc, table, id, value, octets.as_slice(), bits)?
                 && fills_room(alloc, table, id, value, octets.as_slice())?;
-            Ok(if is_right { Packed::Rightly(bits) } else { Packed::Wrongly })
+            Ok(if is_right {
+                Packed::Rightly(bits)
+            } else {
+                Packed::Wrongly
+            })
         }
         Err(Fail::Named(_)) if size.is_none() => Ok(Packed::Refused),
         Err(Fail::Named(_)) => Ok(Packed::Wrongly),
