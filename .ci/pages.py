@@ -11,6 +11,9 @@ Without words all pages are taken. The environment's EDS may name a built progra
 
 A fenced block of the kind `rust` whose first line is `// FILE: NAME` shows the function NAME as it stands in that file of
 the repository, so that what a page shows is proved. With --renew such blocks are written anew, and nothing is run.
+
+docs/ERRORS.md has to explain each word of a report: the rules, faults, reasons, limits and halts that the crates name each
+have an example there that prints them, with a heading where the word has a section of its own, and each status has a row.
 """
 
 import os
@@ -26,6 +29,22 @@ TOP = os.path.dirname(os.path.dirname(os.path.abspath(__file__)))
 SECONDS = 120
 # commands that a machine may lack: an example with one is then passed over
 SPARE = ["xxd"]
+ERRORS = "docs/ERRORS.md"
+# Where the crates name the words of reports: the files, the words in them, and for each word a line of ERRORS.md that shows
+# it and the heading that it has, if it has one.
+NAMED = [
+    (r"eds_base/src/rule.rt", r'Rule::\w+ => "(\w+)"', r"refused \d+ {} at \d+:\d+.*", r"### \d+ {}"),
+    (r"eds_base/src/fault.rt", r'Reason::\w+ => "(\w+)"', r"fault {} at \$.*", r"### {}"),
+    (r"eds_types/src/reason.rt", r'PackReason::\w+ => "(\w+)"', r"fault {} at \$.*", r"### {}"),
+    (r"eds_cmd/src/stop.rt", r'fault_line\(alloc, "(\w+)"', r"fault {} at \$.*", r"### {}"),
+    (r"eds_cmd/src/report.rt", r'(?:Line|Wire)Why::\w+ => "(\w+)"', r"bad line \d+ {}", r"### {}"),
+    (r"eds_cmd/src/report.rt", r'What::\w+ => "(\w+)"', r"limit {} \d+.*", None),
+    (r"eds_script/src/event.rt", r'Halt::\w+ => "(\w+)"', r"\d+ halt \S+ \S+ {}", r"### Halt {}"),
+    (r"eds_\w+/specs/\w+.antt", r'(?:Limit at|breaks_count|limit_in file) \(codes "(\w+)"\)', r"refused 8 Limit at \d+:\d+ {}", None),
+    (r"eds_cmd/src/status.rt", r"Status::\w+.* => (\d+)", r"\| {} \|.*", None),
+]
+# reasons of library calls that no command prints
+SILENT = {"WrongKind", "Room"}
 
 
 def pages():
@@ -103,6 +122,36 @@ def hold(page):
     return ran, wrong
 
 
+def sources():
+    """The files of the crates that may name words, by their paths below crates/."""
+    top = os.path.join(TOP, "crates")
+    for folder, _, files in os.walk(top):
+        for name in files:
+            path = os.path.relpath(os.path.join(folder, name), top)
+            if any(re.fullmatch(file, path) for file, *_ in NAMED):
+                with open(os.path.join(top, path), encoding="utf-8") as file:
+                    yield path, file.read()
+
+
+def unexplained():
+    """What ERRORS.md lacks of the words that the crates name. Gives how many words there are, and what is wrong."""
+    with open(os.path.join(TOP, ERRORS), encoding="utf-8") as file:
+        lines = file.read()
+    texts, many, wrong = list(sources()), 0, []
+    for file, pattern, line, heading in NAMED:
+        words = {it for path, text in texts if re.fullmatch(file, path) for it in re.findall(pattern, text)}
+        if not words:
+            wrong.append(f"{ERRORS}: no word of reports is found in {file}")
+        for word in sorted(words):
+            if line.startswith("fault") and word in SILENT:
+                continue
+            many += 1
+            for it in filter(None, (line, heading)):
+                if not re.search(f"^{it.format(word)}$", lines, re.M):
+                    wrong.append(f"{ERRORS}: no line as {it.format(word)}")
+    return many, wrong
+
+
 def function(file, name):
     """A function's text in a file, from its name to its end, without the indentation."""
     with open(os.path.join(TOP, file), encoding="utf-8") as it:
@@ -134,6 +183,8 @@ def main():
         return 0
     with ThreadPoolExecutor(os.cpu_count()) as pool:
         found = list(pool.map(hold, taken))
+    if os.path.join(TOP, ERRORS) in taken:
+        found.append(unexplained())
     ran, wrong = sum(it[0] for it in found), [it for _, failed in found for it in failed]
     for it in wrong:
         print(f"pages: {it}")
