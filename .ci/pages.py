@@ -13,7 +13,8 @@ A fenced block of the kind `rust` whose first line is `// FILE: NAME` shows the 
 the repository, so that what a page shows is proved. With --renew such blocks are written anew, and nothing is run.
 
 docs/ERRORS.md has to explain each word of a report: the rules, faults, reasons, limits and halts that the crates name each
-have an example there that prints them, with a heading where the word has a section of its own, and each status has a row.
+have an example there that prints them, with a heading where the word has a section of its own, and each status has a row. And
+docs/PROFILE.md has to list each element of the element table, with its attributes.
 """
 
 import os
@@ -29,7 +30,8 @@ TOP = os.path.dirname(os.path.dirname(os.path.abspath(__file__)))
 SECONDS = 120
 # commands that a machine may lack: an example with one is then passed over
 SPARE = ["xxd"]
-ERRORS = "docs/ERRORS.md"
+ERRORS, PROFILE = "docs/ERRORS.md", "docs/PROFILE.md"
+ELEMENTS = "crates/eds_tree/specs/ElementTable.antt"
 # Where the crates name the words of reports: the files, the words in them, and for each word a line of ERRORS.md that shows
 # it and the heading that it has, if it has one.
 NAMED = [
@@ -152,6 +154,23 @@ def unexplained():
     return many, wrong
 
 
+def unlisted():
+    """What PROFILE.md lacks of the element table: elements and attributes. Gives how many there are, and what is wrong."""
+    with open(os.path.join(TOP, ELEMENTS), encoding="utf-8") as file:
+        table = file.read()
+    with open(os.path.join(TOP, PROFILE), encoding="utf-8") as file:
+        rows = [it for it in file.read().split("\n") if it.startswith("| `")]
+    attributes, many, wrong = dict(re.findall(r'^(\w+) = attribute "(\w+)"', table, re.M)), 0, []
+    for name, shape in re.findall(r'^    element(?:_twice)? "(\w+)" (.*)', table, re.M):
+        own = "".join(it for it in rows if f"`{name}`" in it)
+        wanted = [attributes[it] for it in re.findall(r"\w+", shape) if it in attributes]
+        many += 1 + len(wanted)
+        if not any(f"`{name}`" in it.split(" | ")[0] for it in rows):
+            wrong.append(f"{PROFILE}: the table of elements has no row of {name}")
+        wrong += [f"{PROFILE}: the row of {name} lacks {it}" for it in wanted if f"`{it}`" not in own]
+    return many, wrong if many else [f"{PROFILE}: no element is found in {ELEMENTS}"]
+
+
 def function(file, name):
     """A function's text in a file, from its name to its end, without the indentation."""
     with open(os.path.join(TOP, file), encoding="utf-8") as it:
@@ -183,8 +202,9 @@ def main():
         return 0
     with ThreadPoolExecutor(os.cpu_count()) as pool:
         found = list(pool.map(hold, taken))
-    if os.path.join(TOP, ERRORS) in taken:
-        found.append(unexplained())
+    for page, check in ((ERRORS, unexplained), (PROFILE, unlisted)):
+        if os.path.join(TOP, page) in taken:
+            found.append(check())
     ran, wrong = sum(it[0] for it in found), [it for _, failed in found for it in failed]
     for it in wrong:
         print(f"pages: {it}")
