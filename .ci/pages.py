@@ -11,6 +11,10 @@ Without words all pages are taken. The environment's EDS may name a built progra
 
 A fenced block of the kind `rust` whose first line is `// FILE: NAME` shows the function NAME as it stands in that file of
 the repository, so that what a page shows is proved. With --renew such blocks are written anew, and nothing is run.
+
+docs/ERRORS.md has to explain each word of a report: the rules, faults, reasons, limits and halts that the crates name each
+have an example there that prints them, with a heading where the word has a section of its own, and each status has a row. And
+docs/PROFILE.md has to list each element of the element table, with its attributes.
 """
 
 import os
@@ -26,6 +30,23 @@ TOP = os.path.dirname(os.path.dirname(os.path.abspath(__file__)))
 SECONDS = 120
 # commands that a machine may lack: an example with one is then passed over
 SPARE = ["xxd"]
+ERRORS, PROFILE = "docs/ERRORS.md", "docs/PROFILE.md"
+ELEMENTS = "crates/eds_tree/specs/ElementTable.antt"
+# Where the crates name the words of reports: the files, the words in them, and for each word a line of ERRORS.md that shows
+# it and the heading that it has, if it has one.
+NAMED = [
+    (r"eds_base/src/rule.rt", r'Rule::\w+ => "(\w+)"', r"refused \d+ {} at \d+:\d+.*", r"### \d+ {}"),
+    (r"eds_base/src/fault.rt", r'Reason::\w+ => "(\w+)"', r"fault {} at \$.*", r"### {}"),
+    (r"eds_types/src/reason.rt", r'PackReason::\w+ => "(\w+)"', r"fault {} at \$.*", r"### {}"),
+    (r"eds_cmd/src/stop.rt", r'fault_line\(alloc, "(\w+)"', r"fault {} at \$.*", r"### {}"),
+    (r"eds_cmd/src/report.rt", r'(?:Line|Wire)Why::\w+ => "(\w+)"', r"bad line \d+ {}", r"### {}"),
+    (r"eds_cmd/src/report.rt", r'What::\w+ => "(\w+)"', r"limit {} \d+.*", None),
+    (r"eds_script/src/event.rt", r'Halt::\w+ => "(\w+)"', r"\d+ halt \S+ \S+ {}", r"### Halt {}"),
+    (r"eds_\w+/specs/\w+.antt", r'(?:Limit at|breaks_count|limit_in file) \(codes "(\w+)"\)', r"refused 8 Limit at \d+:\d+ {}", None),
+    (r"eds_cmd/src/status.rt", r"Status::\w+.* => (\d+)", r"\| {} \|.*", None),
+]
+# reasons of library calls that no command prints
+SILENT = {"WrongKind", "Room"}
 
 
 def pages():
@@ -103,6 +124,53 @@ def hold(page):
     return ran, wrong
 
 
+def sources():
+    """The files of the crates that may name words, by their paths below crates/."""
+    top = os.path.join(TOP, "crates")
+    for folder, _, files in os.walk(top):
+        for name in files:
+            path = os.path.relpath(os.path.join(folder, name), top)
+            if any(re.fullmatch(file, path) for file, *_ in NAMED):
+                with open(os.path.join(top, path), encoding="utf-8") as file:
+                    yield path, file.read()
+
+
+def unexplained():
+    """What ERRORS.md lacks of the words that the crates name. Gives how many words there are, and what is wrong."""
+    with open(os.path.join(TOP, ERRORS), encoding="utf-8") as file:
+        lines = file.read()
+    texts, many, wrong = list(sources()), 0, []
+    for file, pattern, line, heading in NAMED:
+        words = {it for path, text in texts if re.fullmatch(file, path) for it in re.findall(pattern, text)}
+        if not words:
+            wrong.append(f"{ERRORS}: no word of reports is found in {file}")
+        for word in sorted(words):
+            if line.startswith("fault") and word in SILENT:
+                continue
+            many += 1
+            for it in filter(None, (line, heading)):
+                if not re.search(f"^{it.format(word)}$", lines, re.M):
+                    wrong.append(f"{ERRORS}: no line as {it.format(word)}")
+    return many, wrong
+
+
+def unlisted():
+    """What PROFILE.md lacks of the element table: elements and attributes. Gives how many there are, and what is wrong."""
+    with open(os.path.join(TOP, ELEMENTS), encoding="utf-8") as file:
+        table = file.read()
+    with open(os.path.join(TOP, PROFILE), encoding="utf-8") as file:
+        rows = [it for it in file.read().split("\n") if it.startswith("| `")]
+    attributes, many, wrong = dict(re.findall(r'^(\w+) = attribute "(\w+)"', table, re.M)), 0, []
+    for name, shape in re.findall(r'^    element(?:_twice)? "(\w+)" (.*)', table, re.M):
+        own = "".join(it for it in rows if f"`{name}`" in it)
+        wanted = [attributes[it] for it in re.findall(r"\w+", shape) if it in attributes]
+        many += 1 + len(wanted)
+        if not any(f"`{name}`" in it.split(" | ")[0] for it in rows):
+            wrong.append(f"{PROFILE}: the table of elements has no row of {name}")
+        wrong += [f"{PROFILE}: the row of {name} lacks {it}" for it in wanted if f"`{it}`" not in own]
+    return many, wrong if many else [f"{PROFILE}: no element is found in {ELEMENTS}"]
+
+
 def function(file, name):
     """A function's text in a file, from its name to its end, without the indentation."""
     with open(os.path.join(TOP, file), encoding="utf-8") as it:
@@ -134,6 +202,9 @@ def main():
         return 0
     with ThreadPoolExecutor(os.cpu_count()) as pool:
         found = list(pool.map(hold, taken))
+    for page, check in ((ERRORS, unexplained), (PROFILE, unlisted)):
+        if os.path.join(TOP, page) in taken:
+            found.append(check())
     ran, wrong = sum(it[0] for it in found), [it for _, failed in found for it in failed]
     for it in wrong:
         print(f"pages: {it}")
