@@ -23,7 +23,7 @@ slashes-fronts : (s : List ℕ) → slashes s ≡ length (fronts s)
 slashes-fronts [] = refl
 slashes-fronts (c ∷ cs) =
     sum_by-cons one_slash c cs ∙ ap (λ n. one_slash c + n) (slashes-fronts cs) ∙ sym (
-    length-append (map (λ front. c ∷ front) (fronts cs)) (if nat_eq c 47 then [] ∷ [] else []) ∙ ap (λ n. n + length (if nat_eq c 47 then [] ∷ [] else [])) (length-map (fronts cs) (λ front. c ∷ front)) ∙ last (nat_eq c 47) (length (fronts cs))
+    length-append (map (λ front. c ∷ front) (fronts cs)) (if nat_eq c 47 then [] ∷ [] else []) ∙ ap (λ n. n + length {A = List ℕ} (if nat_eq c 47 then [] ∷ [] else [])) (length-map (fronts cs) (λ front. c ∷ front)) ∙ last (nat_eq c 47) (length (fronts cs))
     )
   where
     last : (b : Bool) (n : ℕ) → n + length {A = List ℕ} (if b then [] ∷ [] else []) ≡ cond b 1 0 + n
