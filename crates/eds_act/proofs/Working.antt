@@ -1,6 +1,6 @@
 -- What is still to be started, put onto lists and taken from them.
 use Rattle.std.proofs.Common.{◌≡◌, ◌≢◌, ◌<◌, ◌≤◌, ◌+◌, ℕ, suc, List, [], ◌∷◌, ◌++◌, length, reverse, Option, Bool, true, false, refl, sym, ap, subst, ◌∙◌, append_assoc, arith}
-use Rattle.std.proofs.lemmas.List.{reverse-append, append-nil}
+use Rattle.std.proofs.lemmas.List.{reverse-append, append-nil, length-append}
 use Rattle.std.proofs.lemmas.List.Concat.{flat_map-cons}
 use Rattle.std.specs.List.{flat_map}
 use Rattle.std.specs.Prelude.{IfOk, Result, Ok, Err, if◌then◌else◌}
@@ -32,7 +32,7 @@ use Rattle.eds_act.specs.Does.{World, Item, statement, items_of, Tells, start, g
 use Rattle.eds_act.specs.Running.{Leads, world, stored, OnHalted}
 use Rattle.eds_plan.specs.declared.run.Halt.{Halt}
 use Rattle.eds_act.specs.Work.{task_items, tasks_items, frame_items, frames_items, end_of, called_items, StepsTo}
-use Rattle.eds_act.proofs.Leading.{leads_same, leads_before, leads_goes, leads_stored, leads_nowhere}
+use Rattle.eds_act.proofs.Leading.{leads_same, leads_on, leads_before, leads_goes, leads_stored, leads_nowhere}
 
 -- one more, which is the next
 last_first : {A B : Type 0} (f : A → List B) (xs : List A) (x : A) → flat_map f (reverse (xs ++ x ∷ [])) ≡ f x ++ flat_map f (reverse xs)
@@ -43,6 +43,9 @@ put_task args ts us x e = ap (tasks_items args) e ∙ last_first (task_items arg
 
 pub put_frame : (fs gs : List Frame) (f : Frame) → gs ≡ fs ++ f ∷ [] → frames_items gs ≡ frame_items f ++ frames_items fs
 put_frame fs gs f e = ap frames_items e ∙ last_first frame_items fs f
+
+pub one_longer : (fs gs : List Frame) (f : Frame) → gs ≡ fs ++ f ∷ [] → length gs ≡ length fs + 1
+one_longer fs gs f e = ap length e ∙ length-append fs (f ∷ [])
 
 -- the plain data of statements that leave no tasks
 pub stmt_assign : (x : Target) (a : Operand) → stmt (activity.Assign x a) ≡ assign x a
@@ -93,3 +96,8 @@ module _ (t : Table) (c : ComponentPlan) where
   ran_before s args i ts us all behind is l e f from to h =
       let P : List Item → List Item → Type 0 = λ x y. Leads t c (end_of s) (x ++ behind) (y ++ behind) l (world e) f.left (world f) in
       subst (λ x. P x is) (sym from) (subst (λ y. P (i ∷ tasks_items args ts) y) (sym to) (leads_before t c (end_of s) (i ∷ tasks_items args ts) (called_items s ++ tasks_items args us) behind l f.left (world e) (world f) h))
+
+  -- the same, where so much was run before
+  pub ran_on : (s : Step) (args : List Plain) (i : Item) (ts us : List Task) (whole here behind is : List Item) (d e f : Event) → Leads t c Done whole (here ++ behind) d.left (world d) e.left (world e) → here ≡ i ∷ tasks_items args ts → is ≡ called_items s ++ tasks_items args us → StepsTo t c s args i ts us e.left e f → Leads t c (end_of s) whole (is ++ behind) d.left (world d) f.left (world f)
+  ran_on s args i ts us whole here behind is d e f before from to h =
+      leads_on t c (end_of s) whole (here ++ behind) (is ++ behind) d.left e.left f.left (world d) (world e) (world f) before (ran_before s args i ts us here behind is e.left e f from to h)

@@ -105,6 +105,7 @@ pub fn run_action(
         waiting: mem::replace(&mut state.outstanding, Items::new(alloc)),
         out: mem::replace(out, Items::new(alloc)),
         left: *fuel,
+        numbers: Vec::new(alloc),
     };
     let done = act(
         alloc, table, component, machine, action, arguments, &mut event,
@@ -115,6 +116,7 @@ pub fn run_action(
         waiting,
         out: sent,
         left,
+        numbers: _,
     } = event;
     state.variables = Items::from_vec(variables);
     state.outstanding = waiting;

@@ -88,6 +88,7 @@ pub fn run_activity(
         waiting: mem::replace(&mut state.outstanding, Items::new(alloc)),
         out: mem::replace(out, Items::new(alloc)),
         left: *fuel,
+        numbers: Vec::new(alloc),
     };
     let arguments = arguments.as_slice();
     let end = run_body(alloc, table, component, activity, arguments, &mut event);
@@ -97,6 +98,7 @@ pub fn run_activity(
         waiting,
         out: sent,
         left,
+        numbers: _,
     } = event;
     state.variables = Items::from_vec(variables);
     state.outstanding = waiting;

@@ -13,4 +13,6 @@ pub(crate) struct Event {
     pub(crate) out: Sends,
     /// How many statements and turns may still start.
     pub(crate) left: u32,
+    /// The numbers of a calculation that wait for an operator.
+    pub(crate) numbers: Vec<i128>,
 }

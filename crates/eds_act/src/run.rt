@@ -52,7 +52,7 @@ pub(crate) fn run_frames<'a>(
     Ok(ActEnd::Done)
 }
 
-// Starts what is next of an activity, and puts it back, and behind it an activity that it calls.
+// Starts what is next of an activity until it ends or calls another, which is put behind it.
 fn run_frame<'a>(
     alloc: Global,
     table: &TypeTable,
@@ -73,31 +73,26 @@ fn run_frame<'a>(
         arguments,
         mut tasks,
     } = frame;
-    match take_next(&mut tasks)? {
-        None => Ok(ActEnd::Done),
-        Some(next) => {
-            match run_next(
-                alloc,
-                table,
-                comp,
-                arguments.as_slice(),
-                next,
-                &mut tasks,
-                event,
-            )? {
-                Step::Goes => {
-                    frames.push(Frame { arguments, tasks })?;
-                    Ok(ActEnd::Done)
-                }
-                Step::Calls(called) => {
-                    frames.push(Frame { arguments, tasks })?;
-                    frames.push(called)?;
-                    Ok(ActEnd::Done)
-                }
-                Step::Halts(halt) => Ok(ActEnd::Halted(halt)),
+    'tasks: while let Some(next) = take_next(&mut tasks)? {
+        match run_next(
+            alloc,
+            table,
+            comp,
+            arguments.as_slice(),
+            next,
+            &mut tasks,
+            event,
+        )? {
+            Step::Goes => {}
+            Step::Calls(called) => {
+                frames.push(Frame { arguments, tasks })?;
+                frames.push(called)?;
+                return Ok(ActEnd::Done);
             }
+            Step::Halts(halt) => return Ok(ActEnd::Halted(halt)),
         }
     }
+    Ok(ActEnd::Done)
 }
 
 // Counts a statement or turn, and starts it.
@@ -367,7 +362,8 @@ fn calculate(
     ensures left { event.new.left ≤ event.old.left }
     ensures runs { IfOk result (λ e. Starts table.now comp.now e (statement (map plain arguments.now) (calculate target.now items.now)) [] event.old event.new) }
 {
-    let value = calculated(alloc, table, arguments, event.variables.as_slice(), items)?;
+    let variables = event.variables.as_slice();
+    let value = calculated(table, arguments, variables, items, &mut event.numbers)?;
     let value = targeted(alloc, table, event.variables.as_slice(), target, value)?;
     Ok(store(table, comp, event, target.variable, value))
 }

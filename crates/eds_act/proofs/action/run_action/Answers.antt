@@ -23,11 +23,11 @@ world_by_test (Err o) t f l w z u v e g tells h = tt
 
 pub returns-clause-left : goal.returns-clause-left
 returns-clause-left c =
-    let before : world (record { comp = c.args.comp; variables = c.into_vec.result; waiting = c.replace-2.result; out = c.replace-3.result; left = c.args.fuel.now }) ≡ world_of c.args.comp.0 c.args.state.now c.args.out.now = grind (arith, common_steps) in
+    let before : world (record { comp = c.args.comp; variables = c.into_vec.result; waiting = c.replace-2.result; out = c.replace-3.result; left = c.args.fuel.now; numbers = c.new-4.result }) ≡ world_of c.args.comp.0 c.args.state.now c.args.out.now = grind (arith, common_steps) in
     left_by_test c.act-done.result c.args.table.now (λ p x. acting p c.args.table.now c.args.component.now c.args.machine c.args.action.now (map plain c.args.arguments.now) c.args.fuel.now x) c.act-done.new.event.left (world c.act-done.new.event) _ _ before (packs_tell c.args.table.now c.packed_sizes.ensures c.keeps_rules.ensures) c.act-done.ensures.acts
 
 pub returns-clause-world : goal.returns-clause-world
 returns-clause-world c =
-    let before : world (record { comp = c.args.comp; variables = c.into_vec.result; waiting = c.replace-2.result; out = c.replace-3.result; left = c.args.fuel.now }) ≡ world_of c.args.comp.0 c.args.state.now c.args.out.now = grind (arith, common_steps) in
+    let before : world (record { comp = c.args.comp; variables = c.into_vec.result; waiting = c.replace-2.result; out = c.replace-3.result; left = c.args.fuel.now; numbers = c.new-4.result }) ≡ world_of c.args.comp.0 c.args.state.now c.args.out.now = grind (arith, common_steps) in
     let after : world_of c.args.comp.0 (record { variables = c.from_vec.result; machines = c.args.state.now.machines; outstanding = c.act-done.new.event.waiting }) c.act-done.new.event.out ≡ world c.act-done.new.event = grind (arith, common_steps) in
     world_by_test c.act-done.result c.args.table.now (λ p x. acting p c.args.table.now c.args.component.now c.args.machine c.args.action.now (map plain c.args.arguments.now) c.args.fuel.now x) c.act-done.new.event.left (world c.act-done.new.event) _ _ _ before after (packs_tell c.args.table.now c.packed_sizes.ensures c.keeps_rules.ensures) c.act-done.ensures.acts
