@@ -5,7 +5,8 @@
 
 PROGRAM is the built program (by default crates/eds_prog/out/eds_prog). Each input has the report that has to come, where
 the program has 256 MiB of memory and 1 MiB of stack; it takes at most 2 seconds of processor time. With --measure the time
-is printed, and the least memory and the least stack that suffice.
+is printed, and the least memory and the least stack that suffice, and at the end the deepest stack of all. Inputs that cost
+more, and why, are those of bench/worst.py.
 """
 
 import json
@@ -19,7 +20,7 @@ from concurrent.futures import ThreadPoolExecutor
 import cases
 
 TOP = os.path.dirname(os.path.dirname(os.path.abspath(__file__)))
-SECONDS, MEMORY, STACK = 2, 256 << 20, 1 << 20
+SECONDS, MEMORY, STACK, SYSTEM = 2, 256 << 20, 1 << 20, 8 << 20
 FILE = 4_194_304
 
 U4 = ["IntegerDataType", {"name": "U4"}, ["IntegerDataEncoding", {"sizeInBits": "4", "encoding": "unsigned"}]]
@@ -148,9 +149,12 @@ def component(activities, *transitions):
     return package
 
 
+STARTS = ["Transition", {"fromState": "S", "toState": "R"}, ["Do", {"activity": "a0"}]]
+
+
 def starting(*activities):
     """A component that starts with the first of these activities."""
-    return component(activities, ["Transition", {"fromState": "S", "toState": "R"}, ["Do", {"activity": "a0"}]])
+    return component(activities, STARTS)
 
 
 def call(at):
@@ -177,6 +181,28 @@ def conditional(inner):
 
 def waits(nanoseconds, of="S"):
     return ["Transition", {"fromState": of, "toState": "S"}, ["OnTimer", {"nanosecondsAfterEntry": str(nanoseconds)}]]
+
+
+def deep():
+    """Containers, and arrays, in one another as deep as types nest, and what reads, packs, copies, compares and changes them."""
+    nest = [U4, container("C0", entry("x", "U4")), *(container(f"C{at}", entry("x", f"C{at - 1}")) for at in range(1, 31))]
+    lists = [["ArrayDataType", {"name": f"A{at}", "dataTypeRef": f"A{at - 1}" if at else "U4"}, ["DimensionList", ["Dimension", {"size": "1"}]]] for at in range(31)]
+
+    def value(number):
+        return "".join('{"$type":"P/C%d","x":' % (30 - at) for at in range(31)) + str(number) + "}" * 31
+
+    yield "a frame of 31 containers in one another", "unpack P/C30 f s", {"s": sheet(*nest), "f": "50"}, (0, value(5) + "\nbits 4\n")
+    yield "a value of 31 containers in one another", "pack P/C30 v s", {"s": sheet(*nest), "v": value(5)}, (0, "50\nbits 4\n")
+    yield "a fault in 31 containers in one another", "pack P/C30 v s", {"s": sheet(*nest), "v": value(16)}, (3, "fault OutOfRange at $" + ".x" * 31 + "\n")
+    yield "a frame of 31 arrays in one another", "unpack P/A30 f s", {"s": sheet(U4, *lists), "f": "50"}, (0, "[" * 31 + "5" + "]" * 31 + "\nbits 4\n")
+    yield "a value of 31 arrays in one another", "pack P/A30 v s", {"s": sheet(U4, *lists), "v": "[" * 31 + "5" + "]" * 31}, (0, "50\nbits 4\n")
+    see = [["VariableRef", {"variableRef": it}] for it in ("v", "w")]
+    alike = ["Conditional", ["Condition", ["Comparison", {"operator": "=="}, *see]], ["OnConditionTrue", ["Assignment", {"outputVariableRef": "w"}, see[0]]]]
+    package = component([[["Assignment", {"outputVariableRef": "v" + ".x" * 31}, number(5)], ["Assignment", {"outputVariableRef": "w"}, see[0]], alike]], STARTS)
+    package[1][2] += nest
+    package[1][3][1][2][1] += [["Variable", {"name": it, "type": "C30"}] for it in ("v", "w")]
+    report = ["end 0", "state P/C m R", "var P/C i 0", "var P/C n 0", "var P/C v " + value(5), "var P/C w " + value(5)]
+    yield "variables of 31 containers in one another", "run r s", {"s": package, "r": ""}, (0, "".join(f"{it}\n" for it in report))
 
 
 def behaviour():
@@ -433,6 +459,7 @@ def least(suffices, most, close):
 def hold(program, given, measures):
     """What is wrong with the answer to an input, and what it took."""
     what, words, files, (status, report) = given
+    stack = 0
     wanted, words = (status, text(report)), words.split(" ")
     with tempfile.TemporaryDirectory(prefix="eds-hostile-") as room:
         os.chmod(room, 0o755)
@@ -450,7 +477,7 @@ def hold(program, given, measures):
             memory = least(lambda it: run(program, words, room, memory=it << 20)[0] == wanted, MEMORY >> 20, 1)
             stack = least(lambda it: run(program, words, room, stack=it << 10)[0] == wanted, STACK >> 10, 2)
             took += " %4d MiB %4d KiB of stack" % (memory, stack)
-        return what, wrong, took
+        return what, wrong, took, stack
 
 
 def main():
@@ -458,12 +485,15 @@ def main():
     program = os.path.abspath(words[0]) if words else os.path.join(TOP, "crates/eds_prog/out/eds_prog")
     measures = "--measure" in sys.argv
     with ThreadPoolExecutor(1 if measures else os.cpu_count()) as pool:
-        held = list(pool.map(lambda it: hold(program, it, measures), [*inputs(), *behaviour(), *runs()]))
-    for what, wrong, took in held:
+        held = list(pool.map(lambda it: hold(program, it, measures), [*inputs(), *deep(), *behaviour(), *runs()]))
+    for what, wrong, took, _ in held:
         if measures:
             print(f"{took}  {what}")
         for it in wrong:
             print(f"hostile: {what}: {it}")
+    if measures:
+        deepest = max(held, key=lambda it: it[3])
+        print("hostile: the deepest stack is %d KiB, of the system's %d KiB: %s" % (deepest[3], SYSTEM >> 10, deepest[0]))
     failed = len([it for it in held if it[1]])
     print("hostile: %d passed, %d failed" % (len(held) - failed, failed))
     return 1 if failed else 0
