@@ -224,6 +224,11 @@ def frames():
     hard.append(container("L", entry("n", "U16"), ["ListEntry", {"name": "l", "type": "K", "listLengthField": "n"}]))
     frame = (32000).to_bytes(2, "big") + b"".join((510).to_bytes(2, "big") for _ in range(32000))
     yield "32,000 items of a family of 511 with 91 constraints each", "unpack P/L f s", {"s": sheet(U16, *hard), "f": frame.hex()}
+    bits = container("B", entry("b", "U1"))
+    of_bits = container("L", entry("n", "U32"), ["ListEntry", {"name": "l", "type": "B", "listLengthField": "n"}])
+    for others in (0, 4000):
+        yield f"500,000 containers of a bit, in a sheet with {others} other containers", "unpack P/L f s", {
+            "s": sheet(U1, U32, bits, of_bits, *(container(f"O{i}", entry("b", "U1")) for i in range(others))), "f": (500000).to_bytes(4, "big").hex() + "00" * 62500}
     deep = [container("D0", entry("a", "U1"))] + [container(f"D{i}", entry("a", f"D{i - 1}")) for i in range(1, 30)]
     deep.append(container("L", entry("n", "U32"), ["ListEntry", {"name": "l", "type": "D29", "listLengthField": "n"}]))
     for count in (90000, 524000):
@@ -286,6 +291,14 @@ def sheets():
         "s": sheet(U16, *family, abstract(container("K", entry("k", "F"))), derived("D", "K", [of_type("k", "F")] * 30000), container("X", entry("x", "K")))}
     paths = abstract(container("K", *(entry(f"e{i}", "U4") for i in range(30000))))
     yield "30,000 constraints on an entry each", "check s", {"s": sheet(U4, paths, derived("D", "K", [value_is(f"e{29999 - i}", 1) for i in range(30000)]))}
+    yield "the same, with 60 containers below that one", "check s", {
+        "s": sheet(U4, paths, derived("D", "K", [value_is(f"e{29999 - i}", 1) for i in range(30000)]), *(derived(f"D{i}", "D") for i in range(60)))}
+    for count in (300, 1000):
+        shared = [value_is(f"e{j}", 1) for j in range(count)]
+        inside = [["RangeConstraint", {"entry": "k"}, ["MinMaxRange", {"rangeType": "inclusiveMinInclusiveMax", "min": str(4 * i), "max": str(4 * i + 3)}]] for i in range(510)]
+        yield f"510 containers by intervals, below one with {count} constraints", "check s", {
+            "s": sheet(U4, U16, abstract(container("K", entry("k", "U16"), *(entry(f"e{j}", "U4") for j in range(count)))), abstract(derived("M", "K", shared)),
+                       *(derived(f"D{i}", "M", [one]) for i, one in enumerate(inside)), container("X", entry("x", "K")))}
     few = abstract(container("K", *(entry(f"e{i}_{j}", "U1") for i in range(170) for j in range(i))))
     pairs = [derived(f"D{i}", "K", [value_is(f"e{max(i, j)}_{min(i, j)}", int(i < j)) for j in range(170) if j != i]) for i in range(170)]
     yield "170 containers, of which each two differ in an entry of their own", "check s", {"s": sheet(U1, few, *pairs, container("X", entry("x", "K")))}
