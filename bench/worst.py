@@ -224,6 +224,11 @@ def frames():
     hard.append(container("L", entry("n", "U16"), ["ListEntry", {"name": "l", "type": "K", "listLengthField": "n"}]))
     frame = (32000).to_bytes(2, "big") + b"".join((510).to_bytes(2, "big") for _ in range(32000))
     yield "32,000 items of a family of 511 with 91 constraints each", "unpack P/L f s", {"s": sheet(U16, *hard), "f": frame.hex()}
+    labels = ["EnumeratedDataType", {"name": "E"}, ["IntegerDataEncoding", {"sizeInBits": "16", "encoding": "unsigned"}],
+              ["EnumerationList", *(["Enumeration", {"label": f"L{i}", "value": str(i)}] for i in range(32767))]]
+    labelled = sheet(labels, U16, container("L", entry("n", "U16"), ["ListEntry", {"name": "l", "type": "E", "listLengthField": "n"}]))
+    yield "32,000 items of the last of 32,767 labels", "unpack P/L f s", {"s": labelled, "f": (32000).to_bytes(2, "big").hex() + "7ffe" * 32000}
+    yield "32,000 labels in JSON, the last of 32,767", "pack P/L v s", {"s": labelled, "v": '{"l":[' + ",".join(['"L32766"'] * 32000) + '],"n":32000}'}
     bits = container("B", entry("b", "U1"))
     of_bits = container("L", entry("n", "U32"), ["ListEntry", {"name": "l", "type": "B", "listLengthField": "n"}])
     for others in (0, 4000):
@@ -262,6 +267,10 @@ def values():
     yield "600,000 objects of one member", "pack P/W v s", {"s": word, "v": '{"a":[' + ",".join(['{"":0}'] * 590000) + "]}"}
     yield "1,300,000 empty lists", "pack P/W v s", {"s": word, "v": '{"a":[' + ",".join(["[]"] * 1390000) + "]}"}
     yield "600,000 texts of an octet", "pack P/W v s", {"s": word, "v": '{"a":[' + ",".join(['"x"'] * 1040000) + "]}"}
+    named = [U1, U32, *(container(f"T{i}", entry("b", "U1")) for i in range(4000)), container("Z", entry("b", "U1"))]
+    named.append(container("L", entry("n", "U32"), ["ListEntry", {"name": "l", "type": "Z", "listLengthField": "n"}]))
+    yield "150,000 objects that name the last of 4,000 types", "pack P/L v s", {
+        "s": sheet(*named), "v": '{"l":[' + ",".join(['{"$type":"P/Z","b":0}'] * 150000) + '],"n":150000}'}
     lists = container("E", entry("n", "U8"), ["ListEntry", {"name": "l", "type": "U1", "listLengthField": "n"}])
     most = container("L", entry("n", "U32"), ["ListEntry", {"name": "l", "type": "E", "listLengthField": "n"}])
     yield "60,000 lists in objects", "pack P/L v s", {
@@ -276,6 +285,8 @@ def sheets():
     wide = [[f"P{f}", [container(f"C{i}", *(entry(f"e{k}", "U4") for k in range(30000))) for i in range(4)]] for f in range(4)]
     yield "four sheets of 4 containers of 30,000 entries", "check s0 s1 s2 s3", {
         f"s{i}": sheet(U4, *types[:3], package=name) for i, (name, types) in enumerate(wide)}
+    yield "4,096 containers in chains of 16", "check s", {
+        "s": sheet(*(derived(f"C{i}_{k}", f"C{i}_{k - 1}") if k else ["ContainerDataType", {"name": f"C{i}_0"}] for i in range(256) for k in range(16)))}
     yield "16,000 lists, each by an entry of its own", "check s", {
         "s": sheet(U4, container("C", *(entry(f"e{i}", "U4") for i in range(16000)),
                                  *(["ListEntry", {"name": f"l{i}", "type": "U4", "listLengthField": f"e{15999 - i}"}] for i in range(16000))))}
