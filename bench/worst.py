@@ -16,6 +16,7 @@ import resource
 import subprocess
 import sys
 import tempfile
+import time
 
 TOP = os.path.dirname(os.path.dirname(os.path.abspath(__file__)))
 sys.dont_write_bytecode = True
@@ -359,6 +360,15 @@ def inputs():
         yield from group()
 
 
+def memory_of(process):
+    """The most KiB of memory that a process ever had, 0 where it is gone."""
+    try:
+        with open(f"/proc/{process}/status", encoding="ascii", errors="replace") as file:
+            return next((int(it.split()[1]) for it in file if it.startswith("VmHWM")), 0)
+    except OSError:
+        return 0
+
+
 def measure(program, words, room, seconds, memory):
     def begin():
         resource.setrlimit(resource.RLIMIT_AS, (memory << 20, memory << 20))
@@ -367,11 +377,16 @@ def measure(program, words, room, seconds, memory):
 
     with tempfile.TemporaryFile() as out:
         child = subprocess.Popen([program, *words], cwd=room, stdin=subprocess.DEVNULL, stdout=out, stderr=subprocess.STDOUT, preexec_fn=begin)
+        # what wait4 tells of memory would include that of this process, of which the child was a copy
+        most = 0
+        while not os.waitid(os.P_PID, child.pid, os.WEXITED | os.WNOWAIT | os.WNOHANG):
+            most = max(most, memory_of(child.pid))
+            time.sleep(0.005)
         _, status, used = os.wait4(child.pid, 0)
         child.returncode = os.waitstatus_to_exitcode(status)
         size = os.fstat(out.fileno()).st_size
         out.seek(0)
-        return used.ru_utime + used.ru_stime, used.ru_maxrss >> 10, child.returncode, out.read(100), size
+        return used.ru_utime + used.ru_stime, most >> 10, child.returncode, out.read(100), size
 
 
 def main():
