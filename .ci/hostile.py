@@ -16,6 +16,7 @@ import subprocess
 import sys
 import tempfile
 from concurrent.futures import ThreadPoolExecutor
+from itertools import chain as chain_of
 
 import cases
 
@@ -456,6 +457,12 @@ def least(suffices, most, close):
     return high
 
 
+def as_octets(given):
+    """An input whose files are octets, which take less memory than lists."""
+    what, words, files, answer = given
+    return what, words, {name: text(content) for name, content in files.items()}, answer
+
+
 def hold(program, given, measures):
     """What is wrong with the answer to an input, and what it took."""
     what, words, files, (status, report) = given
@@ -485,7 +492,7 @@ def main():
     program = os.path.abspath(words[0]) if words else os.path.join(TOP, "crates/eds_prog/out/eds_prog")
     measures = "--measure" in sys.argv
     with ThreadPoolExecutor(1 if measures else os.cpu_count()) as pool:
-        held = list(pool.map(lambda it: hold(program, it, measures), [*inputs(), *deep(), *behaviour(), *runs()]))
+        held = list(pool.map(lambda it: hold(program, it, measures), map(as_octets, chain_of(inputs(), deep(), behaviour(), runs()))))
     for what, wrong, took, _ in held:
         if measures:
             print(f"{took}  {what}")
