@@ -278,6 +278,23 @@ def values():
         "s": sheet(U1, U8, U32, lists, most), "v": '{"l":[' + ",".join(['{"$type":"P/E","l":[],"n":0}'] * 60000) + '],"n":60000}'}
 
 
+# Names of 32 letters that begin so have one hash, whatever their last eight letters are: the kit's hasher of maps has no seed.
+ONE_HASH = "k000000000050428sn40EUs9"
+
+
+def alike(n):
+    return f"{ONE_HASH}{n:08}"
+
+
+def one_hash():
+    """Names that are made to have one hash, beside as many that are not."""
+    for what, name in (("of one hash", alike), ("of other hashes", lambda n: f"k{n:031}")):
+        for count in (20000, 32000):
+            yield f"{count} entries {what}", "check s", {"s": sheet(U4, container("C", *(entry(name(i), "U4") for i in range(count))))}
+        yield f"90,000 attributes {what}", "check s", {"s": ["PackageFile", {name(i): "" for i in range(90000)}]}
+        yield f"90,000 members {what}", "pack P/W v s", {"s": sheet(U4, container("W", entry("a", "U4"))), "v": {name(i): 0 for i in range(90000)}}
+
+
 def sheets():
     yield "600,000 objects of one member as a sheet", "check s", {"s": "[" + ",".join(['{"":0}'] * 590000) + "]"}
     for what, one in (("600,000 objects", '{"":0}'), ("1,390,000 lists", "[]"), ("lists of a text", '["a"]')):
@@ -356,7 +373,7 @@ def arguments(count):
 
 
 def inputs():
-    for group in (sheets, frames, values, recordings, runs, sent, scripts):
+    for group in (one_hash, sheets, frames, values, recordings, runs, sent, scripts):
         yield from group()
 
 
