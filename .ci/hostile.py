@@ -5,7 +5,8 @@
 
 PROGRAM is the built program (by default crates/eds_prog/out/eds_prog). Each input has the report that has to come, where
 the program has 256 MiB of memory and 1 MiB of stack; it takes at most 2 seconds of processor time. With --measure the time
-is printed, and the least memory and the least stack that suffice.
+is printed, and the least memory and the least stack that suffice, and at the end the deepest stack of all. Inputs that cost
+more, and why, are those of bench/worst.py.
 """
 
 import json
@@ -15,11 +16,12 @@ import subprocess
 import sys
 import tempfile
 from concurrent.futures import ThreadPoolExecutor
+from itertools import chain as chain_of
 
 import cases
 
 TOP = os.path.dirname(os.path.dirname(os.path.abspath(__file__)))
-SECONDS, MEMORY, STACK = 2, 256 << 20, 1 << 20
+SECONDS, MEMORY, STACK, SYSTEM = 2, 256 << 20, 1 << 20, 8 << 20
 FILE = 4_194_304
 
 U4 = ["IntegerDataType", {"name": "U4"}, ["IntegerDataEncoding", {"sizeInBits": "4", "encoding": "unsigned"}]]
@@ -116,6 +118,131 @@ def chain(count, entries):
         yield one if i else [*one, ["TrailerEntryList", entry("last", "U4")]]
 
 
+def derived(name, of, *constraints):
+    """A container under another one, with some constraints."""
+    return ["ContainerDataType", {"name": name, "baseType": of}, *([["ConstraintSet", *constraints]] if constraints else [])]
+
+
+def family(count, number_of):
+    """An abstract container, so many under it, each by a number, and an entry of it."""
+    root = container("K", entry("k", "U12"))
+    root[1]["abstract"] = "true"
+    return [U12, root, *(derived(f"D{i}", "K", asks("k", number_of(i))) for i in range(count)), container("X", entry("x", "K"))]
+
+
+def asks(path, number):
+    return ["ValueConstraint", {"entry": path, "value": str(number)}]
+
+
+def number(n):
+    return ["Value", {"value": str(n)}]
+
+
+def component(activities, *transitions):
+    """A component with two variables, activities that are bodies, and a machine."""
+    package = sheet(U12)
+    inside = [
+        ["VariableSet", ["Variable", {"name": "i", "type": "U12"}], ["Variable", {"name": "n", "type": "U12"}]],
+        ["ActivitySet", *(["Activity", {"name": f"a{at}"}, ["Body", *body]] for at, body in enumerate(activities))],
+        ["StateMachineSet", ["StateMachine", {"name": "m"}, ["EntryState", {"name": "S"}], ["State", {"name": "R"}], *transitions]],
+    ]
+    package[1].append(["ComponentSet", ["Component", {"name": "C"}, ["Implementation", *inside]]])
+    return package
+
+
+STARTS = ["Transition", {"fromState": "S", "toState": "R"}, ["Do", {"activity": "a0"}]]
+
+
+def starting(*activities):
+    """A component that starts with the first of these activities."""
+    return component(activities, STARTS)
+
+
+def call(at):
+    return ["Call", {"activity": f"a{at}"}]
+
+
+ADD_ONE = ["MathOperation", {"outputVariableRef": "n"}, ["VariableRef", {"variableRef": "n"}], number(1), ["Operator", {"operator": "add"}]]
+TRUE = ["Comparison", {"operator": "=="}, ["VariableRef", {"variableRef": "n"}], number(0)]
+
+
+def nested(levels, inner, around):
+    for _ in range(levels):
+        inner = around(inner)
+    return inner
+
+
+def iteration(turns):
+    return lambda inner: ["Iteration", {"iteratorVariableRef": "i"}, ["StartAt", number(1)], ["EndAt", number(turns)], ["Do", inner]]
+
+
+def conditional(inner):
+    return ["Conditional", ["Condition", TRUE], ["OnConditionTrue", inner]]
+
+
+def waits(nanoseconds, of="S"):
+    return ["Transition", {"fromState": of, "toState": "S"}, ["OnTimer", {"nanosecondsAfterEntry": str(nanoseconds)}]]
+
+
+def deep():
+    """Containers, and arrays, in one another as deep as types nest, and what reads, packs, copies, compares and changes them."""
+    nest = [U4, container("C0", entry("x", "U4")), *(container(f"C{at}", entry("x", f"C{at - 1}")) for at in range(1, 31))]
+    lists = [["ArrayDataType", {"name": f"A{at}", "dataTypeRef": f"A{at - 1}" if at else "U4"}, ["DimensionList", ["Dimension", {"size": "1"}]]] for at in range(31)]
+
+    def value(number):
+        return "".join('{"$type":"P/C%d","x":' % (30 - at) for at in range(31)) + str(number) + "}" * 31
+
+    yield "a frame of 31 containers in one another", "unpack P/C30 f s", {"s": sheet(*nest), "f": "50"}, (0, value(5) + "\nbits 4\n")
+    yield "a value of 31 containers in one another", "pack P/C30 v s", {"s": sheet(*nest), "v": value(5)}, (0, "50\nbits 4\n")
+    yield "a fault in 31 containers in one another", "pack P/C30 v s", {"s": sheet(*nest), "v": value(16)}, (3, "fault OutOfRange at $" + ".x" * 31 + "\n")
+    yield "a frame of 31 arrays in one another", "unpack P/A30 f s", {"s": sheet(U4, *lists), "f": "50"}, (0, "[" * 31 + "5" + "]" * 31 + "\nbits 4\n")
+    yield "a value of 31 arrays in one another", "pack P/A30 v s", {"s": sheet(U4, *lists), "v": "[" * 31 + "5" + "]" * 31}, (0, "50\nbits 4\n")
+    see = [["VariableRef", {"variableRef": it}] for it in ("v", "w")]
+    alike = ["Conditional", ["Condition", ["Comparison", {"operator": "=="}, *see]], ["OnConditionTrue", ["Assignment", {"outputVariableRef": "w"}, see[0]]]]
+    package = component([[["Assignment", {"outputVariableRef": "v" + ".x" * 31}, number(5)], ["Assignment", {"outputVariableRef": "w"}, see[0]], alike]], STARTS)
+    package[1][2] += nest
+    package[1][3][1][2][1] += [["Variable", {"name": it, "type": "C30"}] for it in ("v", "w")]
+    report = ["end 0", "state P/C m R", "var P/C i 0", "var P/C n 0", "var P/C v " + value(5), "var P/C w " + value(5)]
+    yield "variables of 31 containers in one another", "run r s", {"s": package, "r": ""}, (0, "".join(f"{it}\n" for it in report))
+
+
+def behaviour():
+    """Activities and machines that are made to hurt."""
+
+    def ended(state, i, n, *before, time=0):
+        return "".join(f"{it}\n" for it in (*before, f"end {time}", f"state P/C m {state}", f"var P/C i {i}", f"var P/C n {n}"))
+
+    good = (0, "accepted types 1 containers 0 interfaces 0 components 1\n")
+    started = {"r": ""}
+    calls = [[call(at + 1)] for at in range(32766)] + [[ADD_ONE]]
+    back = [[call(32766)], [ADD_ONE], *([call(at - 1)] for at in range(2, 32767))]
+    yield "32,767 activities that call one another in a chain", "run r s", {**started, "s": starting(*calls)}, (0, ended("R", 0, 1))
+    yield "the same, of which each calls the one before it", "run r s", {**started, "s": starting(*back)}, (0, ended("R", 0, 1))
+    yield "32,767 activities that call one another in a circle", "check s", {"s": starting(*([call((at + 1) % 32767)] for at in range(32767)))}, (
+        1, "refused 35 CallCycle at 0:12 a0\n")  # fmt: skip
+    yield "an activity that calls another 32,767 times", "run r s", {**started, "s": starting([call(1)] * 32767, [])}, (0, ended("R", 0, 0))
+    yield "58 iterations in one another, of one turn each", "run r s", {**started, "s": starting([nested(58, ADD_ONE, iteration(1))])}, (0, ended("R", 1, 1))
+    seven = ["Assignment", {"outputVariableRef": "n"}, number(7)]
+    yield "58 iterations in one another, of two turns each", "run r s", {**started, "s": starting([nested(58, seven, iteration(2))])}, (
+        0, ended("R", 2, 7, "0 halt P/C m Budget"))  # fmt: skip
+    yield "59 iterations in one another are no JSON", "check s", {"s": starting([nested(59, ADD_ONE, iteration(1))])}, (1, "refused 1 NotJson at 0:0\n")
+    yield "58 choices in one another", "run r s", {**started, "s": starting([nested(58, ADD_ONE, conditional)])}, (0, ended("R", 0, 1))
+    yield "59 choices in one another are no JSON", "check s", {"s": starting([nested(59, ADD_ONE, conditional)])}, (1, "refused 1 NotJson at 0:0\n")
+    for how in ("ANDedConditions", "ORedConditions"):
+        deep = ["Conditional", ["Condition", nested(114, TRUE, lambda inner: [how, inner])], ["OnConditionTrue", ADD_ONE]]
+        yield f"114 {how} in one another", "run r s", {**started, "s": starting([deep])}, (0, ended("R", 0, 1))
+        wide = ["Conditional", ["Condition", [how, *([TRUE] * 32767)]], ["OnConditionTrue", ADD_ONE]]
+        yield f"32,767 conditions in {how}", "run r s", {**started, "s": starting([wide])}, (0, ended("R", 0, 1))
+    yield "18,000 choices one after another", "run r s", {**started, "s": starting([conditional(["Assignment", {"outputVariableRef": "i"}, number(7)])] * 18000)}, (
+        0, ended("R", 7, 0))  # fmt: skip
+    alike = [waits(at + 1) for at in range(32765)]
+    yield "a machine of 32,765 transitions", "check s", {"s": component([], *alike)}, good
+    yield "a machine of 32,765 transitions that runs", "run r s", {"r": "tick 5\n", "s": component([], *alike)}, (0, ended("S", 0, 0, time=5))
+    yield "a machine of 32,766 transitions", "check s", {"s": component([], *alike, waits(1))}, (1, "refused 8 Limit at 0:%d children\n" % (16 + 2 * 32765))  # fmt: skip
+    one = [waits(1) for at in range(32765)]
+    yield "a machine of 32,765 transitions for one moment", "run r s", {"r": "tick 1000\n", "s": component([], *one)}, (0, ended("S", 0, 0, time=1000))
+
+
 def text(content):
     if isinstance(content, bytes):
         return content
@@ -131,6 +258,23 @@ def inputs():
     yield "a chain of 4,095 sub-ranges, the last first", "check s", {
         "s": sheet(*(sub_range(f"S{i}", f"S{i + 1}" if i < 4094 else "U4") for i in range(4095)), U4)
     }, (1, "refused 8 Limit at 0:3 chain\n")
+    yield "a circle of 4,096 containers, by their entries", "check s", {
+        "s": sheet(*(container(f"C{i}", entry("x", f"C{(i + 1) % 4096}")) for i in range(4096)))
+    }, (1, "refused 16 TypeCycle at 0:3\n")  # fmt: skip
+    yield "a circle of 4,096 containers, by their bases", "check s", {"s": sheet(*(derived(f"C{i}", f"C{(i + 1) % 4096}") for i in range(4096)))}, (
+        1, "refused 15 BaseCycle at 0:3\n")  # fmt: skip
+    yield "511 containers of one family, which all overlap", "check s", {"s": sheet(*family(511, lambda i: 7))}, (
+        1, "refused 26 Overlap at 0:11 P/D0 P/D1 k=7\n")  # fmt: skip
+    yield "511 containers of one family, of which the last two overlap", "check s", {"s": sheet(*family(511, lambda i: min(i, 509)))}, (
+        1, "refused 26 Overlap at 0:%d P/D509 P/D510 k=509\n" % (8 + 3 * 510))  # fmt: skip
+    yield "511 containers of one family, of which no two overlap", "check s", {"s": sheet(*family(511, lambda i: i))}, (
+        0, "accepted types 514 containers 513 interfaces 0 components 0\n")  # fmt: skip
+    yield "512 containers under another one", "check s", {"s": sheet(*family(512, lambda i: i))}, (1, "refused 8 Limit at 0:5 family\n")
+    path = [U12, container("K", entry("k", "U12")), derived("D", "K", *([asks("k", 7)] * 32767))]
+    yield "32,767 constraints on one entry", "unpack P/K f s", {"s": sheet(*path), "f": "0070"}, (0, '{"$type":"P/D","k":7}\nbits 12\n')
+    yield "32,767 constraints on one entry, of which the last leaves nothing", "check s", {
+        "s": sheet(*path[:2], derived("D", "K", *([asks("k", 7)] * 32766), asks("k", 8)))
+    }, (1, "refused 25 ConstraintEmpty at 0:%d\n" % (10 + 32766))  # fmt: skip
     yield "4,096 types", "check s", {"s": sheet(*([U4[0], {"name": f"T{i}"}] for i in range(4096)))}, (
         0, "accepted types 4096 containers 0 interfaces 0 components 0\n")  # fmt: skip
     yield "4,097 types", "check s", {"s": sheet(*([U4[0], {"name": f"T{i}"}] for i in range(4097)))}, (1, "refused 8 Limit at 0:4099 types\n")
@@ -319,9 +463,16 @@ def least(suffices, most, close):
     return high
 
 
+def as_octets(given):
+    """An input whose files are octets, which take less memory than lists."""
+    what, words, files, answer = given
+    return what, words, {name: text(content) for name, content in files.items()}, answer
+
+
 def hold(program, given, measures):
     """What is wrong with the answer to an input, and what it took."""
     what, words, files, (status, report) = given
+    stack = 0
     wanted, words = (status, text(report)), words.split(" ")
     with tempfile.TemporaryDirectory(prefix="eds-hostile-") as room:
         os.chmod(room, 0o755)
@@ -339,7 +490,7 @@ def hold(program, given, measures):
             memory = least(lambda it: run(program, words, room, memory=it << 20)[0] == wanted, MEMORY >> 20, 1)
             stack = least(lambda it: run(program, words, room, stack=it << 10)[0] == wanted, STACK >> 10, 2)
             took += " %4d MiB %4d KiB of stack" % (memory, stack)
-        return what, wrong, took
+        return what, wrong, took, stack
 
 
 def main():
@@ -347,12 +498,15 @@ def main():
     program = os.path.abspath(words[0]) if words else os.path.join(TOP, "crates/eds_prog/out/eds_prog")
     measures = "--measure" in sys.argv
     with ThreadPoolExecutor(1 if measures else os.cpu_count()) as pool:
-        held = list(pool.map(lambda it: hold(program, it, measures), [*inputs(), *runs()]))
-    for what, wrong, took in held:
+        held = list(pool.map(lambda it: hold(program, it, measures), map(as_octets, chain_of(inputs(), deep(), behaviour(), runs()))))
+    for what, wrong, took, _ in held:
         if measures:
             print(f"{took}  {what}")
         for it in wrong:
             print(f"hostile: {what}: {it}")
+    if measures:
+        deepest = max(held, key=lambda it: it[3])
+        print("hostile: the deepest stack is %d KiB, of the system's %d KiB: %s" % (deepest[3], SYSTEM >> 10, deepest[0]))
     failed = len([it for it in held if it[1]])
     print("hostile: %d passed, %d failed" % (len(held) - failed, failed))
     return 1 if failed else 0

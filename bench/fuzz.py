@@ -1,11 +1,12 @@
 #!/usr/bin/env python3
-"""Runs the program on sheets, frames and values that were changed at random, and looks for what must never come.
+"""Runs the program on sheets, frames, values and scripts that were changed at random, and looks for what must never come.
 
   bench/fuzz.py [--minutes M] [--seed S] [--jobs J] [--found FOLDER] [PROGRAM]
 
 PROGRAM is a built program (by default crates/eds_prog/out/eds_prog). Inputs are made from the examples and the cases: octets
-are changed, elements and attributes are moved, doubled, dropped, renamed and given other texts, and frames and values are
-made up. A run must end within two seconds of processor time, by no signal, with a status from 0 to 8 and a report that fits it, and must
+are changed, elements and attributes are moved, doubled, dropped, renamed and given other texts, frames and values are made up,
+and of scripts lines and words are. A run must end within two seconds of processor time (a script has more, by its lines), by no
+signal, with a status from 0 to 8 and a report that fits it, and must
 write nothing to standard error; and the same words over the same files give the same report again. What doesn't is kept in
 FOLDER (by default fuzz-found), with its words. The last line counts the runs by status. The same seed makes the same
 inputs.
@@ -59,12 +60,20 @@ def elements(tree):
             yield from elements(it)
 
 
+def holders(value):
+    """All objects and lists of a value, itself first."""
+    yield value
+    for it in value.values() if isinstance(value, dict) else value:
+        if isinstance(it, (dict, list)):
+            yield from holders(it)
+
+
 class Seeds:
-    """The inputs to begin with: commands with their files, the sheets, frames and values among these, and the words that
-    occur in them."""
+    """The inputs to begin with: commands with their files, the sheets, frames, values and scripts among these, and the words
+    that occur in them."""
 
     def __init__(self):
-        self.commands, self.sheets, self.frames, self.values = [], [], [], []
+        self.commands, self.sheets, self.frames, self.values, self.scripts = [], [], [], [], []
         for _, case in case_files.cases():
             words = case_files.text_of(case["words"], case["parts"]).split(" ")
             self.take(words, {it: case_files.octets_of(octets, case["parts"]) for it, octets in case["files"].items()})
@@ -83,13 +92,18 @@ class Seeds:
         attributes = [it[1] for it in nodes if len(it) > 1 and isinstance(it[1], dict)]
         self.keys = sorted({key for it in attributes for key in it})
         self.texts = sorted({str(value) for it in attributes for value in it.values()}) + TEXTS
+        self.runs = [it for it in self.commands if it[0][0] == "run" and it[0][1] in it[1]]
+        self.lines = sorted({line for it in self.scripts for line in it.decode("utf-8", "replace").split("\n") if len(line) < 200})
 
     def take(self, words, files):
         """Takes a command with its files, where they are small."""
         if any(len(it) > FILE for it in files.values()) or len(words) > 20:
             return
         self.commands.append((words, files))
-        for octets in files.values():
+        for name, octets in files.items():
+            if words[0] == "run" and name == words[1]:
+                self.scripts.append(octets)
+                continue
             try:
                 found = json.loads(octets)
             except ValueError:
@@ -184,9 +198,55 @@ class Maker:
     def changed_value(self, value):
         dice = self.dice
         for _ in range(dice.choice([0, 1, 2])):
-            at = dice.choice(sorted(value) or ["a"])
-            value[at] = dice.choice([0, -1, 2**64, 2**64 - 1, 1.5, "", "ON", "00ff", True, None, [], [1, 2], {}, copy.copy(value)])
+            held = dice.choice(list(holders(value)))
+            new = dice.choice([0, -1, 2**64, 2**64 - 1, 1.5, "", "ON", "00ff", True, None, [], [1, 2], {}, copy.deepcopy(value)])
+            if isinstance(held, dict):
+                at = dice.choice(sorted(held) or ["a"])
+                if held and dice.random() < 0.2:
+                    del held[at]
+                else:
+                    held[at] = new
+            else:
+                at = dice.randrange(len(held) + 1)
+                held[at : at + dice.choice([0, 1])] = [new] * dice.choice([0, 1, 1, 3])
         return json.dumps(value).encode()
+
+    def changed_script(self, octets):
+        """A script of which some lines are changed."""
+        lines = octets.decode("utf-8", "replace").split("\n")
+        for _ in range(self.dice.choice([1, 1, 2, 4])):
+            self.change_lines(lines)
+        made = "\n".join(lines).encode("utf-8", "replace")
+        return made if self.dice.random() < 0.9 else self.spoiled(made)
+
+    def change_lines(self, lines):
+        """Changes one line: it is dropped, repeated, put elsewhere, joined by one of another script, or has another word."""
+        dice, at = self.dice, self.dice.randrange(len(lines))
+        what = dice.randrange(6)
+        if what == 0 and len(lines) > 1:
+            del lines[at]
+        elif what == 1:
+            lines[at:at] = [lines[at]] * dice.choice([1, 1, 3, 20])
+        elif what == 2:
+            lines.insert(dice.randrange(len(lines)), lines.pop(at))
+        elif what == 3:
+            lines.insert(at, dice.choice([*self.seeds.lines, "tick " + dice.choice(self.seeds.texts)]))
+        else:
+            lines[at] = self.changed_line(lines[at])
+
+    def changed_line(self, line):
+        """The line with another word, or with another value in its JSON."""
+        front, brace, json_text = line.partition("{")
+        try:
+            value = json.loads(brace + json_text)
+        except ValueError:
+            value = None
+        if value and self.dice.random() < 0.6:
+            return front + self.changed_value(value).decode()
+        words = line.split(" ")
+        others = self.dice.choice(self.seeds.lines or [""]).split(" ")
+        words[self.dice.randrange(len(words))] = self.dice.choice([*others, self.dice.choice(self.seeds.texts), self.frame().decode("utf-8", "replace")])
+        return " ".join(words).replace("\n", "")
 
     def type_of(self, sheets):
         """The name of a type of the sheets, mostly."""
@@ -207,8 +267,16 @@ class Maker:
             words, files = self.dice.choice(self.seeds.commands)
             if files:
                 name = self.dice.choice(sorted(files))
-                return words, {**files, name: self.changed(files[name])}
-        command = self.dice.choice(["check", "unpack", "pack", "split"])
+                is_script = words[0] == "run" and name == words[1]
+                return words, {**files, name: self.changed_script(files[name]) if is_script else self.changed(files[name])}
+        command = self.dice.choice(["check", "unpack", "pack", "split", "run", "run"])
+        if command == "run":
+            words, files = self.dice.choice(self.seeds.runs)
+            made = {**files, words[1]: self.changed_script(files[words[1]])}
+            if self.dice.random() < 0.3:
+                name = self.dice.choice(sorted(set(files) - {words[1]}) or [words[1]])
+                made[name] = self.changed(files[name])
+            return words, made
         is_whole = command != "check" and self.dice.random() < 0.6
         sheets = [self.sheet(is_whole) for _ in range(self.dice.choice([1, 1, 1, 2]))]
         files = {f"s{at}": sheet for at, sheet in enumerate(sheets)}
@@ -218,17 +286,17 @@ class Maker:
         return words, {**files, "input": self.value() if command == "pack" else self.frame()}
 
 
-def run(program, words, room):
+def run(program, words, room, seconds):
     """What came of a run: its status, its report, and what is wrong with them."""
 
     def begin():
-        resource.setrlimit(resource.RLIMIT_CPU, (SECONDS, SECONDS))
+        resource.setrlimit(resource.RLIMIT_CPU, (seconds, seconds))
         resource.setrlimit(resource.RLIMIT_CORE, (0, 0))
 
     ran = subprocess.run([program, *words], cwd=room, stdin=subprocess.DEVNULL, capture_output=True, preexec_fn=begin, check=False)
     status, report = ran.returncode, ran.stdout
     if status in (-signal.SIGKILL, -signal.SIGXCPU):
-        return status, report, f"it had not ended after {SECONDS} seconds"
+        return status, report, f"it had not ended after {seconds} seconds"
     if not 0 <= status <= 8:
         return status, report, f"status {status}: {ran.stderr[:2000]!r}"
     if ran.stderr:
@@ -245,8 +313,10 @@ def turn(program, seeds, number, found):
         for name, octets in files.items():
             with open(os.path.join(room, name), "wb") as file:
                 file.write(octets)
-        status, report, wrong = run(program, words, room)
-        if not wrong and run(program, words, room)[:2] != (status, report):
+        # a script's lines are bounded one by one
+        seconds = SECONDS + (files[words[1]].count(b"\n") // 5 if words[:1] == ["run"] and words[1:2] and words[1] in files else 0)
+        status, report, wrong = run(program, words, room, seconds)
+        if not wrong and run(program, words, room, seconds)[:2] != (status, report):
             wrong = "another run gave another answer"
         if wrong:
             kept = os.path.join(found, str(number))
