@@ -74,7 +74,12 @@ fn fills_room(
 }
 
 // What becomes of a value that is packed.
-fn packed(alloc: Global, table: &TypeTable, id: TypeId, value: &Value) -> Result<Packed, Memory>
+fn outcome_of_packing(
+    alloc: Global,
+    table: &TypeTable,
+    id: TypeId,
+    value: &Value,
+) -> Result<Packed, Memory>
     requires known { id.0 < length table.now }
 {
     let size = packed_bits(table, id, value).ok();
@@ -100,8 +105,8 @@ fn packed(alloc: Global, table: &TypeTable, id: TypeId, value: &Value) -> Result
 
 impl Packing {
     // Counts what became of a value.
-    fn count(&mut self, packed: Packed, value: &Value, most: usize) {
-        match packed {
+    fn count(&mut self, outcome: Packed, value: &Value, most: usize) {
+        match outcome {
             Packed::Rightly(bits) => {
                 self.packed = self.packed.wrapping_add(u32::from(bits as usize <= most));
             }
@@ -207,7 +212,7 @@ pub(crate) fn agreement(
         faults: numbers_amiss(table, id, values.as_slice()),
     };
     for value in values.iter() {
-        agreed.count(packed(alloc, table, id, value)?, value, most);
+        agreed.count(outcome_of_packing(alloc, table, id, value)?, value, most);
     }
     for size in 0..most.wrapping_add(1) {
         for number in 0..lists_of(size) {
