@@ -37,12 +37,12 @@ def sheet(states, count):
     machine = ["StateMachine", {"name": "m"}, *names, *transitions(states, count)]
     ends = ["ProvidedInterfaceSet", ["Interface", {"name": "q", "type": "Ping"}]]
     component = ["Component", {"name": "C"}, ends, ["Implementation", ["StateMachineSet", machine]]]
-    return ["PackageFile", ["Package", {"name": "Load"}, ["DeclaredInterfaceSet", face], ["ComponentSet", component]]]
+    return ["PackageFile", ["Package", {"name": "L"}, ["DeclaredInterfaceSet", face], ["ComponentSet", component]]]
 
 
 def measure(program, lines, turns):
     with tempfile.TemporaryDirectory(prefix="eds-machines-") as room:
-        line = "cmd Load/C:q idle {}\n"
+        line = "cmd L/C:q idle {}\n"
         one, all_lines = runs.write(room, "one", line), runs.write(room, "all", line * lines)
         for states, count in SIZES:
             path = runs.write(room, f"sheet{count}", runs.json.dumps(sheet(states, count)))
