@@ -101,7 +101,7 @@ class Seeds:
             return
         self.commands.append((words, files))
         for name, octets in files.items():
-            if words[0] == "run" and name == words[1]:
+            if words[0] == "run" and words[1:2] == [name]:
                 self.scripts.append(octets)
                 continue
             try:
