@@ -92,7 +92,7 @@ class Seeds:
         attributes = [it[1] for it in nodes if len(it) > 1 and isinstance(it[1], dict)]
         self.keys = sorted({key for it in attributes for key in it})
         self.texts = sorted({str(value) for it in attributes for value in it.values()}) + TEXTS
-        self.runs = [it for it in self.commands if it[0][0] == "run" and it[0][1] in it[1]]
+        self.runs = [it for it in self.commands if it[0][:1] == ["run"] and any(name in it[1] for name in it[0][1:2])]
         self.lines = sorted({line for it in self.scripts for line in it.decode("utf-8", "replace").split("\n") if len(line) < 200})
 
     def take(self, words, files):
@@ -101,7 +101,7 @@ class Seeds:
             return
         self.commands.append((words, files))
         for name, octets in files.items():
-            if words[0] == "run" and words[1:2] == [name]:
+            if words[:2] == ["run", name]:
                 self.scripts.append(octets)
                 continue
             try:
