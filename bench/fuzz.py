@@ -267,7 +267,7 @@ class Maker:
             words, files = self.dice.choice(self.seeds.commands)
             if files:
                 name = self.dice.choice(sorted(files))
-                is_script = words[0] == "run" and name == words[1]
+                is_script = words[:2] == ["run", name]
                 return words, {**files, name: self.changed_script(files[name]) if is_script else self.changed(files[name])}
         command = self.dice.choice(["check", "unpack", "pack", "split", "run", "run"])
         if command == "run":
