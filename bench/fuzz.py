@@ -35,8 +35,9 @@ import cases as case_files  # noqa: E402
 SECONDS = 2
 # the most octets of a file to begin with
 FILE = 20_000
+# A word of the sheet is told as it stands there, with its line feeds.
 REPORTS = {
-    1: rb"refused \d+ \w+ at \d+:\d+( [^\n]*)?\n",
+    1: rb"refused \d+ \w+ at \d+:\d+( (?s:.*))?\n",
     2: rb"usage: eds COMMAND ARGUMENTS\n",
     3: rb"(fault \w+ at \$[^\n]*|bad line \d+ \w+)\n",
     4: rb"read fault [^\n]*\n",
