@@ -1,12 +1,12 @@
 -- What is still to be started, put onto lists and taken from them.
-use Rattle.std.proofs.Common.{◌≡◌, ◌≢◌, ◌<◌, ◌≤◌, ◌+◌, ℕ, suc, List, [], ◌∷◌, ◌++◌, length, reverse, Option, Bool, true, false, refl, sym, ap, subst, ◌∙◌, append_assoc, arith}
-use Rattle.std.proofs.lemmas.List.{reverse-append, append-nil, length-append}
+use Rattle.std.proofs.Common.{◌≡◌, ◌+◌, ℕ, suc, List, [], ◌∷◌, ◌++◌, length, reverse, Option, Bool, refl, sym, ap, subst, ◌∙◌, arith}
+use Rattle.std.proofs.lemmas.List.{reverse-append, length-append}
 use Rattle.std.proofs.lemmas.List.Concat.{flat_map-cons}
 use Rattle.std.specs.List.{flat_map}
-use Rattle.std.specs.Prelude.{IfOk, Result, Ok, Err, if◌then◌else◌}
+use Rattle.std.specs.Prelude.{IfOk, Result, Ok, Err}
 use Rattle.eds_base.specs.declared.fail.Memory.{Memory}
 use Rattle.eds_types.specs.Rows.{Table}
-use Rattle.eds_types.specs.Plain.{Plain, plain}
+use Rattle.eds_types.specs.Plain.{Plain}
 use Rattle.eds_plan.specs.declared.activity.Statement.{Statement}
 use Rattle.eds_plan.specs.declared.activity.Statement.TheVariants.{rolls-Assign, rolls-Math, rolls-Call, rolls-SendCommand, rolls-SendParameter}
 use Rattle.eds_plan.specs.declared.activity.Statement.TheVariants as activity
@@ -24,11 +24,9 @@ use Rattle.eds_act.specs.declared.ending.ActEnd.{ActEnd}
 use Rattle.eds_act.specs.declared.ending.ActEnd.TheVariants.{Done, Halted}
 use Rattle.eds_act.specs.declared.event.Event.{Event}
 use Rattle.eds_act.specs.declared.work.Task.{Task}
-use Rattle.eds_act.specs.declared.work.Task.TheVariants as task
 use Rattle.eds_act.specs.declared.work.Frame.{Frame}
 use Rattle.eds_act.specs.declared.work.Step.{Step}
-use Rattle.eds_act.specs.declared.work.Step.TheVariants as step
-use Rattle.eds_act.specs.Does.{World, Item, statement, items_of, Tells, start, goes}
+use Rattle.eds_act.specs.Does.{World, Item, items_of, Tells, start, goes}
 use Rattle.eds_act.specs.Running.{Leads, world, stored, OnHalted}
 use Rattle.eds_plan.specs.declared.run.Halt.{Halt}
 use Rattle.eds_act.specs.Work.{task_items, tasks_items, frame_items, frames_items, end_of, called_items, StepsTo}

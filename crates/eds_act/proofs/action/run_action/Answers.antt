@@ -1,8 +1,7 @@
-use Rattle.std.proofs.Common.{◌≡◌, ℕ, Bool, ap, sym, ◌∙◌, map, arith}
+use Rattle.std.proofs.Common.{◌≡◌, ℕ, Bool, ap, ◌∙◌, map, arith}
 use Rattle.std.proofs.lemmas.Grind.{common_steps}
 use Rattle.std.specs.Prelude.{OnOk, Result, Ok, Err}
 use Rattle.eds_base.specs.declared.fail.Memory.{Memory}
-use Rattle.eds_base.specs.declared.ids.CompId.{CompId}
 use Rattle.eds_types.specs.PackedSizes.{packs}
 use Rattle.eds_types.specs.Plain.{Plain, plain}
 use Rattle.eds_types.specs.Rows.{Table}
