@@ -7,7 +7,6 @@ use Rattle.eds_types.specs.Rows.{Table, Placed, placed_entries, placed_trailers}
 use Rattle.eds_types.specs.Plain.{Plain, plain}
 use Rattle.eds_plan.specs.declared.activity.Activity.{Activity}
 use Rattle.eds_plan.specs.declared.component.ComponentPlan.{ComponentPlan}
-use Rattle.eds_plan.specs.declared.run.Halt.{Halt}
 use Rattle.eds_plan.specs.declared.run.Halt.TheVariants.{OutOfRange}
 use Rattle.eds_plan.specs.declared.activity.Op.{Op}
 use Rattle.eds_plan.specs.declared.component.EndPlan.{EndPlan}
@@ -21,7 +20,7 @@ use Rattle.eds_act.specs.declared.ending.ActEnd.TheVariants.{Done, Halted}
 use Rattle.eds_act.specs.declared.event.Event.{Event}
 use Rattle.eds_plan.specs.Carried.{carried}
 use Rattle.eds_plan.specs.Plans.{argument_types, variable_types}
-use Rattle.eds_act.specs.Does.{World, Does, way_of, budget, Item, turn, turns, Started, goes, halts, Ended, Tells, exec, start, AllConform}
+use Rattle.eds_act.specs.Does.{World, Does, way_of, budget, Item, turn, turns, Started, goes, halts, Tells, exec, AllConform}
 
 -- the variables and what was sent, as plain data
 abbrev pub world : Event → World
@@ -52,11 +51,6 @@ IsKnown t ids = (i id : ℕ) → slice_get ids i ≡ Some id → id < length t
 -- the numbers of types
 abbrev pub types_of : List TypeId → List ℕ
 types_of ids = map (λ (id : TypeId). id.0) ids
-
--- with values before them
-abbrev pub put_before : List Plain → Option (List Plain) → Option (List Plain)
-put_before us None = None
-put_before us (Some vs) = Some (us ++ vs)
 
 -- ---- what is asked of a plan and a state
 

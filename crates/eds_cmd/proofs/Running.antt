@@ -33,13 +33,32 @@ use Rattle.eds_script.specs.States.{state_text}
 use Rattle.eds_types.specs.Rows.{Table}
 use Rattle.eds_types.specs.Rules.{KeepsRules}
 use Rattle.eds_cmd.specs.Run.{AreEventLines, IsRunnable, IsStormy, Runs, all_events, last_of, states_text}
-use Rattle.eds_cmd.specs.Running.{HasRun, IsCalm, IsOver, IsReady, IsRunTo, Tells, happenings}
+use Rattle.eds_cmd.specs.Running.{HasRun, IsOver, IsReady, Tells, happenings}
 use Rattle.eds_cmd.specs.Tally.{Counts, CountsMore, is_reject, is_sent}
 use Rattle.eds_cmd.specs.declared.tally.Tally.{Tally}
 use Rattle.eds_cmd.specs.RunLaws.{OutsMayBePrinted, ScriptsMayBeHandled}
 use Rattle.eds_cmd.specs.Stops.{status_of, storm}
 use Rattle.eds_cmd.specs.declared.stop.Stop.{Stop}
 use Rattle.eds_cmd.proofs.Printing.{plans_know_types}
+
+-- a host stands so where all that was handed to it is done
+abbrev pub IsCalm : Phase → Type 0
+IsCalm Fresh = Unit {0}
+IsCalm Rests = Unit {0}
+IsCalm Storm = ⊥
+IsCalm Spent = ⊥
+
+-- some lines are done, and these are left
+pub record IsRunTo (t : Table) (plan : List ComponentPlan) (ties : List Tie) (lines rest : List (ℕ × Told)) (w : World) (report : List ℕ) (tally : Tally) : Type 0 where
+  pub done : List (ℕ × Told)
+  pub split : lines ≡ done ++ rest
+  pub outs : List (List Report)
+  pub count : length outs ≡ length done
+  pub told : AreEventLines t plan (all_events outs) report
+  pub counted : Counts (all_events outs) tally
+  -- whatever comes of those that are left comes of all
+  pub on : (more : List (List Report)) (end : Option World) → (let sys : System = system t plan (other_end ties) in RunGoes sys (reading t plan) (happenings rest) w more end)
+      → Runs t plan ties lines (outs ++ more) end
 
 -- ---- events
 

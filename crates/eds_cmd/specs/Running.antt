@@ -1,13 +1,10 @@
 -- Running a script line after line: what holds between lines.
-use Rattle.std.specs.Prelude.{◌≡◌, ◌<◌, ℕ, List, [], ◌++◌, length, map, Option, Some}
-use Rattle.eds_host.specs.Hosts.{Handles, HostNow, MayAllBeHandled, components, reading}
-use Rattle.eds_host.specs.Plans.{system}
-use Rattle.eds_host.specs.Runs.{RunGoes, unbegun}
-use Rattle.eds_host.specs.Systems.{System, World}
-use Rattle.eds_host.specs.Wires.{other_end}
+use Rattle.std.specs.Prelude.{◌≡◌, ◌<◌, ℕ, List, [], ◌++◌, length, map, Some}
+use Rattle.eds_host.specs.Hosts.{Handles, HostNow, MayAllBeHandled, components}
+use Rattle.eds_host.specs.Runs.{unbegun}
+use Rattle.eds_host.specs.Systems.{World}
 use Rattle.eds_host.specs.declared.handled.Handled.{Handled}
-use Rattle.eds_host.specs.declared.host.Phase.{Phase}
-use Rattle.eds_host.specs.declared.host.Phase.TheVariants.{Fresh, Rests, Storm, Spent}
+use Rattle.eds_host.specs.declared.host.Phase.TheVariants.{Fresh}
 use Rattle.eds_host.specs.declared.wiring.Tie.{Tie}
 use Rattle.eds_plan.specs.Lines.{Told}
 use Rattle.eds_plan.specs.Outs.{Report}
@@ -37,13 +34,6 @@ pub record IsReady (t : Table) (plan : List ComponentPlan) (lines : List (ℕ ×
   pub some : 0 < length lines
   pub may : MayAllBeHandled Fresh h (happenings lines)
 
--- a host stands so where all that was handed to it is done
-abbrev pub IsCalm : Phase → Type 0
-IsCalm Fresh = Unit {0}
-IsCalm Rests = Unit {0}
-IsCalm Storm = ⊥
-IsCalm Spent = ⊥
-
 -- ---- one line
 
 -- a host handled a line, and what left the run in it is told behind what was told before, and counted beside what was counted
@@ -63,15 +53,3 @@ pub record HasRun (t : Table) (plan : List ComponentPlan) (ties : List Tie) (lin
   pub runs : Runs t plan ties lines outs (Some w)
   pub told : AreEventLines t plan (all_events outs) report
   pub counted : Counts (all_events outs) tally
-
--- some lines are done, and these are left
-pub record IsRunTo (t : Table) (plan : List ComponentPlan) (ties : List Tie) (lines rest : List (ℕ × Told)) (w : World) (report : List ℕ) (tally : Tally) : Type 0 where
-  pub done : List (ℕ × Told)
-  pub split : lines ≡ done ++ rest
-  pub outs : List (List Report)
-  pub count : length outs ≡ length done
-  pub told : AreEventLines t plan (all_events outs) report
-  pub counted : Counts (all_events outs) tally
-  -- whatever comes of those that are left comes of all
-  pub on : (more : List (List Report)) (end : Option World) → (let sys : System = system t plan (other_end ties) in RunGoes sys (reading t plan) (happenings rest) w more end)
-      → Runs t plan ties lines (outs ++ more) end

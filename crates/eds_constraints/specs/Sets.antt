@@ -1,5 +1,5 @@
 -- The numbers that a constraint admits: those of its entry's domain that it asks for.
-use Rattle.std.specs.Prelude.{ℕ, ◌+◌, ℤ, pos, ◌+ℤ◌, List, [], ◌∷◌, map, filter, Bool, true, false, if◌then◌else◌, Option, Some, None, option_map, slice_get}
+use Rattle.std.specs.Prelude.{ℕ, ◌+◌, ℤ, pos, List, [], ◌∷◌, filter, Bool, true, false, if◌then◌else◌, Option, None, option_map, slice_get}
 use Rattle.std.specs.List.{flat_map}
 use Rattle.std.specs.Ordering.{int_eq}
 use Rattle.eds_base.specs.Reading.{◌>>=◌, only}
@@ -8,7 +8,6 @@ use Rattle.eds_base.specs.declared.spans.Span.{Span}
 use Rattle.eds_base.specs.Spans.{bottom, top}
 use Rattle.eds_types.specs.declared.row.Kind.{Kind}
 use Rattle.eds_types.specs.declared.row.Kind.TheVariants as kind
-use Rattle.eds_types.specs.declared.row.TypeRow.{TypeRow}
 use Rattle.eds_types.specs.Domains.{int_domain_by}
 use Rattle.eds_types.specs.Fields.{listed}
 use Rattle.eds_types.specs.Reading.{is_within}
@@ -61,16 +60,6 @@ truth_number false = pos 0
 -- a number alone, where it is of the domain
 abbrev pub number_within : List Span → ℤ → List Span
 number_within domain n = if is_within domain n then one_number n else []
-
--- the number of a label alone
-abbrev pub label_set : Kind → List ℕ → Option (List Span)
-label_set (kind.Int form spans) text = None
-label_set (kind.Enum form listing) text = option_map one_number (listed listing text)
-label_set (kind.Bool form) text = None
-label_set (kind.Str form) text = None
-label_set (kind.Bin n free) text = None
-label_set (kind.Arr item n) text = None
-label_set (kind.Con c) text = None
 
 -- the number that a text stands for, by the kind of the entry: a whole number, a label or a flag. None where it stands for none; a
 -- number outside the domain is one that the entry never has.

@@ -2,8 +2,13 @@
 use Rattle.std.proofs.Common.{◌≡◌, ℕ, zero, suc, ◌+◌, ◌<◌, List, [], ◌∷◌, ◌++◌, length, map, take, drop, get_or, replicate, Option, Some, None, refl, sym, ap, ◌∙◌, subst, add-one, drop-cons, slice_get, arith}
 use Rattle.std.proofs.Math.ListN.{set}
 use Rattle.std.proofs.lemmas.List.{map-set, take-append-drop, length-append}
-use Rattle.eds_names.specs.Around.{name_in, IsIn, AllIn}
+use Rattle.eds_names.specs.Around.{name_in, IsIn}
 use Rattle.eds_names.specs.Standings.{written}
+
+-- all positions are of the names
+abbrev pub AllIn : List (List ℕ) → List (Option ℕ) → Type 0
+AllIn names [] = Unit {0}
+AllIn names (p ∷ ps) = IsIn names p × AllIn names ps
 
 -- ---- more names
 

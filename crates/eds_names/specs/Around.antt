@@ -1,5 +1,5 @@
 -- Names by their positions.
-use Rattle.std.specs.Prelude.{ℕ, ◌<◌, List, [], ◌∷◌, length, Option, Some, None, slice_get}
+use Rattle.std.specs.Prelude.{ℕ, ◌<◌, List, [], length, Option, Some, None, slice_get}
 
 -- the name at a position
 abbrev pub name_in : List (List ℕ) → Option ℕ → Option (List ℕ)
@@ -10,11 +10,6 @@ name_in names (Some k) = slice_get names k
 abbrev pub IsIn : List (List ℕ) → Option ℕ → Type 0
 IsIn names None = Unit {0}
 IsIn names (Some k) = k < length names
-
--- all positions are
-abbrev pub AllIn : List (List ℕ) → List (Option ℕ) → Type 0
-AllIn names [] = Unit {0}
-AllIn names (p ∷ ps) = IsIn names p × AllIn names ps
 
 -- ---- a table of names
 

@@ -9,12 +9,25 @@ use Rattle.eds_types.specs.declared.sets.PathSet.{PathSet}
 use Rattle.eds_types.specs.Rows.{Table}
 use Rattle.eds_types.specs.Overlap.{IsSolution, IsConstrained}
 use Rattle.eds_types.proofs.AllOf.{All-both, All-front, All-back, All-at}
-use Rattle.eds_overlap.specs.Common.{IsWithinBoth, IsInBoth, least_of_sets, least_of_both}
+use Rattle.eds_overlap.specs.Common.{least_of_sets, least_of_both}
 use Rattle.eds_overlap.specs.LeastNumbers.{least_in_all, least_on}
 use Rattle.eds_overlap.specs.Pairs.{Steps, IsSolved, AreSets, IsWithinOn, set_on}
 use Rattle.eds_overlap.proofs.LeastInAll.{InAll, all_none, all_found, on_none as unsolved, on_found as solved}
 use Rattle.eds_overlap.proofs.Meeting.{one_either, on_found, within_other, other_within, swap}
 use Rattle.eds_overlap.proofs.Solutions.{on_none}
+
+-- ---- numbers in two sets
+
+-- the number is in each of the two sets that is there, and one is there
+abbrev pub IsWithinBoth : Option (List Span) → Option (List Span) → ℤ → Type 0
+IsWithinBoth None None n = ⊥
+IsWithinBoth None (Some theirs) n = IsWithin theirs n
+IsWithinBoth (Some ours) None n = IsWithin ours n
+IsWithinBoth (Some ours) (Some theirs) n = IsWithin ours n × IsWithin theirs n
+
+-- the number is in the set on the path in each of the lists that has one
+abbrev pub IsInBoth : List PathSet → List PathSet → Steps → ℤ → Type 0
+IsInBoth ours theirs path n = IsWithinBoth (set_on ours path) (set_on theirs path) n
 
 -- ---- the least number of some sets
 

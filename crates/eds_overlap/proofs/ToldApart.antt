@@ -19,10 +19,9 @@ use Rattle.eds_types.specs.Rules.{KeepsRules, ConstraintKeeps}
 use Rattle.eds_types.proofs.AllOf.{All-at}
 use Rattle.eds_types.proofs.ChainLaws.{chain_step, under_is}
 use Rattle.eds_types.proofs.RuleFacts.{table_of}
-use Rattle.eds_overlap.specs.Common.{IsWithinBoth}
 use Rattle.eds_overlap.specs.Index.{lone, lone_by, lone_on, before, marks_on}
 use Rattle.eds_overlap.specs.Pairs.{Steps, AreSets, IsSolved, set_on}
-use Rattle.eds_overlap.proofs.CommonNumbers.{to_both}
+use Rattle.eds_overlap.proofs.CommonNumbers.{to_both, IsWithinBoth}
 use Rattle.eds_overlap.proofs.Meeting.{has_of_one, on_found, one_either}
 use Rattle.eds_overlap.proofs.Solutions.{one_later}
 

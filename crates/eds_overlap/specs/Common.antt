@@ -2,7 +2,6 @@
 use Rattle.std.specs.Prelude.{◌≡◌, ℕ, ℤ, ◌≤ℤ◌, List, [], ◌∷◌, ◌++◌, map, filter, fold, insert, flat_map, Bool, false, not, if◌then◌else◌, true, Option, Some, None}
 use Rattle.std.specs.List.{AllByRecursion}
 use Rattle.eds_base.specs.declared.spans.Span.{Span}
-use Rattle.eds_base.specs.Spans.{IsWithin}
 use Rattle.eds_bits.specs.Lists.{HasOne}
 use Rattle.eds_types.specs.declared.row.Constraint.{Constraint}
 use Rattle.eds_types.specs.declared.sets.PathSet.{PathSet}
@@ -90,17 +89,6 @@ abbrev pub common_of : Table → (x k l : ℕ) → List Common
 common_of t x k l = sorted_by_text t (flat_map (common_on t (constraints_of_both t k l)) (judged_paths t x (constraints_of_both t k l)))
 
 -- ---- by the sets of two containers
-
--- the number is in each of the two sets that is there, and one is there
-abbrev pub IsWithinBoth : Option (List Span) → Option (List Span) → ℤ → Type 0
-IsWithinBoth None None n = ⊥
-IsWithinBoth None (Some theirs) n = IsWithin theirs n
-IsWithinBoth (Some ours) None n = IsWithin ours n
-IsWithinBoth (Some ours) (Some theirs) n = IsWithin ours n × IsWithin theirs n
-
--- the number is in the set on the path in each of the lists that has one
-abbrev pub IsInBoth : List PathSet → List PathSet → Steps → ℤ → Type 0
-IsInBoth ours theirs path n = IsWithinBoth (set_on ours path) (set_on theirs path) n
 
 -- the least number of two sets that may be there
 abbrev pub least_of_sets : Option (List Span) → Option (List Span) → Option ℤ

@@ -33,10 +33,15 @@ use Rattle.eds_types.proofs.RuleFacts.{facts_of}
 use Rattle.eds_types.proofs.TableFacts.{NoLength, IsLengthOnce}
 use Rattle.eds_pack.specs.declared.length.LengthEntry.{LengthEntry}
 use Rattle.eds_pack.specs.Counting.{capped}
-use Rattle.eds_pack.specs.Lengths.{or_else, if_length, length_among, tells_octets, steps_to}
+use Rattle.eds_pack.specs.Lengths.{or_else, if_length, length_among, tells_octets}
 use Rattle.eds_pack.specs.Nesting.{IsLow, Nests, PartNests}
 use Rattle.eds_pack.proofs.Counts.{size_next}
 use Rattle.eds_pack.proofs.Ranks.{chain_low, entries_nest, trailers_nest}
+
+-- the steps to a length entry that may be there
+abbrev steps_to : Option LengthEntry → List Step
+steps_to None = []
+steps_to (Some e) = step.Part e.container e.place ∷ []
 
 -- ---- the path
 

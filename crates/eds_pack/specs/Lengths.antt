@@ -1,8 +1,6 @@
 -- Length entries of containers.
 use Rattle.std.specs.Prelude.{ℕ, pos, ◌+ℤ◌, ◌*ℤ◌, List, [], ◌∷◌, Option, Some, None, Bool, is_ok, ◌&&◌}
 use Rattle.std.specs.Ordering.{int_eq}
-use Rattle.eds_base.specs.declared.fault.Step.{Step}
-use Rattle.eds_base.specs.declared.fault.Step.TheVariants as step
 use Rattle.eds_pack.specs.declared.length.LengthEntry.{LengthEntry}
 use Rattle.eds_types.specs.declared.row.Part.{Part}
 use Rattle.eds_types.specs.declared.row.Part.TheVariants as part
@@ -32,8 +30,3 @@ length_among (p ∷ ps) = or_else (if_length p.part p) (length_among ps)
 -- a number of the entry's type, whose values have these sizes, tells m octets
 abbrev pub tells_octets : (ℕ → Plain → Size) → ℕ → LengthEntry → Bool
 tells_octets size m e = int_eq (e.c0 +ℤ (e.c1 *ℤ told_by e.c0 e.c1 m)) (pos m) && is_ok (size e.id.0 (num (told_by e.c0 e.c1 m)))
-
--- the steps to it
-abbrev pub steps_to : Option LengthEntry → List Step
-steps_to None = []
-steps_to (Some e) = step.Part e.container e.place ∷ []

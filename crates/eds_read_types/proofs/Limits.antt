@@ -37,6 +37,7 @@ use Rattle.eds_names.specs.declared.declared.Declared.{Declared}
 use Rattle.eds_names.specs.Standings.{below, standings_of}
 use Rattle.eds_names.specs.Declarations.{Declaration, kind_of, declared_as, declaration_at, declarations_in, declarations_from, numbered, counted, item_of, none_counted, declared_in, is_sort}
 use Rattle.eds_names.specs.LookUp.{Names, duplicates, names_of, unless, names_in}
+use Rattle.eds_types.specs.declared.row.TypeRow.{TypeRow}
 use Rattle.eds_types.specs.Rows.{trailers_in, container_by, entries_in}
 use Rattle.eds_read_types.proofs.SheetPlaces.{Standing, link_of, links}
 use Rattle.eds_read_types.specs.Places.{element, is_element, in_file, held, is_container, is_array, is_type, types, type_places}
@@ -45,10 +46,20 @@ use Rattle.eds_read_types.specs.Entries.{trailers_at, is_part, parts_held, entri
 use Rattle.eds_read_types.specs.Bases.{bases_of}
 use Rattle.eds_read_types.specs.Numbers.{numbers_of}
 use Rattle.eds_read_types.specs.Kinds.{scalar_kind_by, scalar_kind_in}
-use Rattle.eds_read_types.specs.TableRows.{part_in, array_kind, kind_of as kind_at, table_row, rows_from, table_rows, has_few_entries, are_few}
+use Rattle.eds_read_types.specs.TableRows.{part_in, array_kind, kind_of as kind_at, table_row, rows_from, table_rows}
 use Rattle.eds_read_types.specs.declared.sort.Sort.{Sort}
 use Rattle.eds_read_types.specs.declared.sort.Sort.TheVariants as sort
 use Rattle.eds_read_types.specs.Sorts.{sort_of}
+
+-- ---- how many types and entries there are
+
+-- a container has at most 32,767 entries, and so many trailers
+abbrev pub has_few_entries : TypeRow → Bool
+has_few_entries row = nat_le (length (entries_in (container_by row.kind))) 32767 && nat_le (length (trailers_in (container_by row.kind))) 32767
+
+-- there are at most 4,096 types, and so many entries
+abbrev pub are_few : List TypeRow → Bool
+are_few rows = nat_le (length rows) 4096 && list_all has_few_entries rows
 
 -- ---- the table
 

@@ -32,8 +32,8 @@ use Rattle.eds_read_types.specs.Listings.{entry_at, enumerations}
 use Rattle.eds_read_types.specs.Numbers.{numbers_of}
 use Rattle.eds_read_types.specs.Places.{is_container, is_array, types, type_places}
 use Rattle.eds_read_types.specs.Sorts.{sort_of}
-use Rattle.eds_read_types.specs.TableRows.{array_kind, kind_of, table_rows, has_few_entries}
-use Rattle.eds_read_types.proofs.Limits.{few_types, length-rows}
+use Rattle.eds_read_types.specs.TableRows.{array_kind, kind_of, table_rows}
+use Rattle.eds_read_types.proofs.Limits.{few_types, length-rows, has_few_entries}
 use Rattle.eds_read_types.proofs.TableRules.{row_at, all_there}
 
 -- ---- numbers

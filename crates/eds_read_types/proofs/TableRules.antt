@@ -52,7 +52,7 @@ use Rattle.eds_read_types.specs.Listings.{listing_of}
 use Rattle.eds_read_types.specs.Bases.{may_derive, base_named, base_found, bases_of, base_at, is_in_cycle}
 use Rattle.eds_read_types.specs.Numbers.{form_or_wide, numbers_of}
 use Rattle.eds_read_types.specs.Kinds.{scalar_kind_by, scalar_kind_in, scalar_at, scalar_if, scalar_of}
-use Rattle.eds_read_types.specs.TableRows.{part_in, container_at, array_kind, kind_of, table_row, rows_from, table_rows, has_few_entries, are_few}
+use Rattle.eds_read_types.specs.TableRows.{part_in, container_at, array_kind, kind_of, table_row, rows_from, table_rows}
 use Rattle.eds_read_types.specs.TableBreaks.{table_breaks}
 use Rattle.eds_read_types.specs.DuplicateEntry.{repeats, names_above, duplicates_at}
 use Rattle.eds_read_types.specs.declared.sort.Sort.{Sort}
@@ -87,7 +87,7 @@ use Rattle.eds_read_types.specs.declared.reference_row.Wanted.TheVariants.{Numbe
 use Rattle.eds_read_types.proofs.NoBreaks.{none_at, least-none, types-apart, no_repeats}
 use Rattle.eds_read_types.proofs.Unbroken.{IsUnbroken, unbroken}
 use Rattle.eds_read_types.proofs.SheetPlaces.{at_one, each-none as nowhere, of_types}
-use Rattle.eds_read_types.proofs.Limits.{few_types, length-rows, no_container}
+use Rattle.eds_read_types.proofs.Limits.{few_types, length-rows, no_container, has_few_entries, are_few}
 use Rattle.eds_read_types.proofs.LawFacts.{name_apart, enumerated_unbroken}
 use Rattle.eds_read_types.proofs.PlainRules.{IsSolid, EntryKeeps, IsPlainArray, IsPlainKind, KeepsRow, ArePlainRows, solid_other, own_placed, keeps_by_rows}
 use Rattle.eds_read_types.proofs.PartOrder.{by_lists}

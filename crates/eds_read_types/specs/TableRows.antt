@@ -1,6 +1,5 @@
 -- The rows of the table of types.
-use Rattle.std.specs.Prelude.{ℕ, ◌+◌, nat_le, List, [], ◌∷◌, length, map, codes, Bool, true, ◌&&◌, if◌then◌else◌}
-use Rattle.std.specs.List.{list_all}
+use Rattle.std.specs.Prelude.{ℕ, ◌+◌, List, [], ◌∷◌, map, codes, Bool, true, if◌then◌else◌}
 use Rattle.eds_base.specs.declared.ids.Place.{Place}
 use Rattle.eds_tree.specs.declared.tree.Node.{Node}
 use Rattle.eds_tree.specs.Unsupported.{spells_flag}
@@ -11,7 +10,6 @@ use Rattle.eds_types.specs.declared.row.Kind.{Kind}
 use Rattle.eds_types.specs.declared.row.Kind.TheVariants as kind
 use Rattle.eds_types.specs.declared.row.Container.{Container}
 use Rattle.eds_types.specs.declared.row.Part.{Part}
-use Rattle.eds_types.specs.Rows.{container_by, entries_in, trailers_in}
 use Rattle.eds_read_types.specs.Places.{attribute, is_container, is_array, types}
 use Rattle.eds_read_types.specs.Entries.{entries_at, trailers_at}
 use Rattle.eds_read_types.specs.Seats.{seats_of}
@@ -59,13 +57,3 @@ rows_from trees names n (d ∷ ds) = table_row trees names n d ∷ rows_from tre
 -- a row for each declared type, in order
 abbrev pub table_rows : List (List Node) → Names → List TypeRow
 table_rows trees names = rows_from trees names 0 (types names)
-
--- ---- limits
-
--- a container has at most 32,767 entries, and so many trailers
-abbrev pub has_few_entries : TypeRow → Bool
-has_few_entries row = nat_le (length (entries_in (container_by row.kind))) 32767 && nat_le (length (trailers_in (container_by row.kind))) 32767
-
--- there are at most 4,096 types, and so many entries
-abbrev pub are_few : List TypeRow → Bool
-are_few rows = nat_le (length rows) 4096 && list_all has_few_entries rows

@@ -12,7 +12,6 @@ pub mod Rules
 pub mod Sizes
 pub mod Laws
 pub mod Stored
-pub mod FlatTables
 pub mod Reasons
 pub mod PackedSizes
 pub mod PlainCode

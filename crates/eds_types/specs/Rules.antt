@@ -210,16 +210,6 @@ Follows t [] = ⊥
 Follows t (p ∷ []) = (name : List ℕ) × (id : TypeId) × (part_at t p ≡ Some (part.Plain name id))
 Follows t (p ∷ q ∷ path) = (name : List ℕ) × (id : TypeId) × (part_at t p ≡ Some (part.Plain name id)) × IsContainer t id.0 × IsAtOrUnder t (q.0).0 id.0 × Follows t (q ∷ path)
 
--- a number, a label or a truth value
-abbrev pub IsScalarKind : Kind → Type 0
-IsScalarKind (kind.Int form spans) = Unit {0}
-IsScalarKind (kind.Enum form listing) = Unit {0}
-IsScalarKind (kind.Bool form) = Unit {0}
-IsScalarKind (kind.Str form) = ⊥
-IsScalarKind (kind.Bin n free) = ⊥
-IsScalarKind (kind.Arr item n) = ⊥
-IsScalarKind (kind.Con c) = ⊥
-
 -- the numbers are those of the concrete containers at or under some container that is, or derives from, this one
 -- (ConstraintValue)
 pub record IsTypeSet (t : Table) (target : ℕ) (set : List Span) : Type 0 where

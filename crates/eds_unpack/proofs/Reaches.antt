@@ -1,7 +1,8 @@
 -- How far the reader of a container has come.
 use Rattle.eds_base.specs.declared.fault.Fault.{Fault}
-use Rattle.std.proofs.Common.{◌≡◌, ℕ, zero, suc, ◌+◌, ◌-◌, ◌<◌, ◌≤◌, ℤ, List, [], ◌∷◌, ◌++◌, length, map, take, Option, Some, Result, Ok, Err, refl, sym, ap, ap₂, subst, ◌∙◌, append_assoc, append-nil, arith}
+use Rattle.std.proofs.Common.{◌≡◌, ℕ, zero, suc, ◌+◌, ◌-◌, ◌<◌, ◌≤◌, ℤ, List, [], ◌∷◌, ◌++◌, length, map, take, Option, Some, None, Result, Ok, Err, refl, sym, ap, ap₂, subst, ◌∙◌, append_assoc, append-nil, arith}
 use Rattle.std.proofs.lemmas.List.{map-append, length-append}
+use Rattle.eds_base.specs.declared.fault.Step.{Step}
 use Rattle.eds_base.specs.declared.fault.Step.TheVariants as step
 use Rattle.eds_bits.specs.Bits.{Bits}
 use Rattle.eds_bits.specs.Reader.{bits_left}
@@ -16,8 +17,18 @@ use Rattle.eds_types.specs.Spelling.{Progress, with_bits, with_value, with_octet
 use Rattle.eds_types.proofs.ExactReading.{front_is}
 use Rattle.eds_unpack.specs.declared.fields.ReadField.{ReadField}
 use Rattle.eds_unpack.specs.declared.progress.Reached.{Reached}
-use Rattle.eds_unpack.specs.Courses.{MovesOn, fields_of, field_read, progress_of, behind_items}
-use Rattle.eds_unpack.specs.Seeking.{length_among, if_length, or_else, steps_of}
+use Rattle.eds_unpack.specs.Courses.{MovesOn, fields_of, field_read, progress_of}
+use Rattle.eds_unpack.specs.Seeking.{length_among, if_length, or_else}
+
+-- a step that may be there, as a list
+abbrev pub steps_of : Option Step → List Step
+steps_of None = []
+steps_of (Some s) = s ∷ []
+
+-- what is read of items, behind those that were read before
+abbrev pub behind_items : List Plain → Read (List Plain) → Read (List Plain)
+behind_items vs (Ok x) = Ok (vs ++ x.0, x.1)
+behind_items vs (Err g) = Err g
 
 pub values_more : (fs : List ReadField) (f : ReadField) → values_of (fields_of (fs ++ f ∷ [])) ≡ values_of (fields_of fs) ++ plain f.value ∷ []
 values_more [] f = refl

@@ -35,14 +35,14 @@ use Rattle.eds_types.specs.Spelling.{Progress, started, with_bits, with_value, w
 use Rattle.eds_types.proofs.ReadingTests.{within_from}
 use Rattle.eds_unpack.specs.declared.progress.Reached.{Reached}
 use Rattle.eds_unpack.specs.Choices.{numbers_of, IsNear}
-use Rattle.eds_unpack.specs.Courses.{MovesOn, IsUnderWay, fields_of, progress_of, behind_items, told_by}
+use Rattle.eds_unpack.specs.Courses.{MovesOn, IsUnderWay, fields_of, progress_of, told_by}
 use Rattle.eds_unpack.specs.Entries.{IsLow, PartIsRead, placed}
 use Rattle.eds_unpack.specs.Readers.{Stops, passed, stop_at}
 use Rattle.eds_unpack.specs.Seeking.{trailers_along}
 use Rattle.eds_unpack.proofs.OnReads.{moves, stays}
 use Rattle.eds_unpack.proofs.Paths.{rest_is}
 use Rattle.eds_unpack.proofs.Ranks.{constraints_near, entries_are_read, trailers_are_read}
-use Rattle.eds_unpack.proofs.Reaches.{bits_kept, value_kept, octets_kept, items_next, parts_append}
+use Rattle.eds_unpack.proofs.Reaches.{bits_kept, value_kept, octets_kept, items_next, parts_append, behind_items}
 use Rattle.eds_unpack.proofs.Seeking.{last_of, trailers_are}
 use Rattle.eds_types.proofs.AllOf.{All-weaker}
 use Rattle.eds_types.proofs.ExactReading.{failed, ok_is, ok_err, err_is, front_is}

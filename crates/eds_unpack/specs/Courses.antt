@@ -1,12 +1,12 @@
 -- How far the reader of a container has come.
 use Rattle.eds_base.specs.declared.fault.Fault.{Fault}
-use Rattle.std.specs.Prelude.{◌≡◌, ℕ, ◌^◌, ◌≤◌, ℤ, nat_abs, ◌+ℤ◌, ◌*ℤ◌, List, [], ◌∷◌, ◌++◌, map, Option, Some, Result, Ok, Err, IfSome}
+use Rattle.std.specs.Prelude.{◌≡◌, ℕ, ◌^◌, ◌≤◌, ℤ, nat_abs, ◌+ℤ◌, ◌*ℤ◌, List, [], ◌∷◌, ◌++◌, map, Option, Some, Result, Ok, IfSome}
 use Rattle.eds_base.specs.declared.ids.TypeId.{TypeId}
 use Rattle.eds_bits.specs.Bits.{Bits}
 use Rattle.eds_bits.specs.Reader.{bits_left}
 use Rattle.eds_types.specs.Fields.{Field, field_at, value_at, fields_in}
 use Rattle.eds_types.specs.Plain.{Plain, plain}
-use Rattle.eds_types.specs.Reading.{Read, ◌>>=◌, front, number_in}
+use Rattle.eds_types.specs.Reading.{◌>>=◌, front, number_in}
 use Rattle.eds_types.specs.Rows.{Table}
 use Rattle.eds_types.specs.Spelling.{Progress}
 use Rattle.eds_unpack.specs.declared.fields.ReadField.{ReadField}
@@ -43,11 +43,6 @@ progress_of r b = record { fields = fields_of r.fields.items; before = front (bi
 pub record IsUnderWay (r : Reached) (b : Bits) : Type 0 where
   pub begun : MovesOn (bits_left r.start) b
   pub told : IfSome r.octets (λ n. nat_abs n ≤ 2 ^ 97)
-
--- what is read of items, behind those that were read before
-abbrev pub behind_items : List Plain → Read (List Plain) → Read (List Plain)
-behind_items vs (Ok x) = Ok (vs ++ x.0, x.1)
-behind_items vs (Err g) = Err g
 
 -- how many octets a length entry with this value tells
 abbrev pub told_by : ℤ → ℤ → Plain → Result (Option ℤ) Fault

@@ -1,5 +1,5 @@
 -- Looking for the values and the parts of containers.
-use Rattle.std.specs.Prelude.{ℕ, ◌+◌, List, [], ◌∷◌, ◌++◌, Option, Some, None, Result, Ok, Err, ◌&&◌, ◌==◌, if◌then◌else◌, slice_get}
+use Rattle.std.specs.Prelude.{ℕ, ◌+◌, List, [], ◌∷◌, Option, Some, None, Result, Ok, Err, ◌&&◌, ◌==◌, if◌then◌else◌, slice_get}
 use Rattle.std.specs.List.{flat_map}
 use Rattle.eds_base.specs.declared.ids.TypeId.{TypeId}
 use Rattle.eds_base.specs.declared.fault.Step.{Step}
@@ -46,8 +46,3 @@ if_length (part.Check name id k) p = None
 abbrev pub length_among : List Placed → Option Step
 length_among [] = None
 length_among (p ∷ ps) = or_else (if_length p.part p) (length_among ps)
-
--- a step that may be there
-abbrev pub steps_of : Option Step → List Step
-steps_of None = []
-steps_of (Some s) = s ∷ []

@@ -1,8 +1,8 @@
 use Rattle.std.proofs.Common.{length, map}
 use Rattle.eds_host.specs.Hosts.{MayAllBeHandled}
 use Rattle.eds_script.specs.Seen.{numbered_told}
-use Rattle.eds_cmd.specs.Running.{IsOver, IsRunTo, happenings}
-use Rattle.eds_cmd.proofs.Running.{HasGoneOn}
+use Rattle.eds_cmd.specs.Running.{IsOver, happenings}
+use Rattle.eds_cmd.proofs.Running.{HasGoneOn, IsRunTo}
 use Rattle.eds_cmd.proofs.run.run_lines.Given as goal
 
 abbrev pub invariant-loop-rest : goal.invariant-loop-rest

@@ -1,7 +1,7 @@
 use Rattle.std.proofs.Common.{rules, ◌≡◌, None, length, map, replicate, refl, ap, ◌∙◌, sym, subst, arith}
-use Rattle.eds_names.specs.Around.{name_in, AllIn}
+use Rattle.eds_names.specs.Around.{name_in}
 use Rattle.eds_names.specs.Standings.{name_around, around_entry, written}
-use Rattle.eds_names.proofs.AroundLemmas.{AllIn-none, map-none, AllIn-kept, AllIn-set, written-next}
+use Rattle.eds_names.proofs.AroundLemmas.{AllIn-none, map-none, AllIn-kept, AllIn-set, written-next, AllIn}
 use Rattle.eds_names.proofs.around.around_of.Goals as goal
 
 pub loop-standing-init : goal.loop-standing-init

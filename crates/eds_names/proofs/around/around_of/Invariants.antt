@@ -1,6 +1,7 @@
 use Rattle.std.proofs.Common.{◌≡◌, None, map, drop, length, replicate}
 use Rattle.eds_names.specs.Standings.{name_around, around_entry, written}
-use Rattle.eds_names.specs.Around.{name_in, IsIn, AllIn}
+use Rattle.eds_names.specs.Around.{name_in, IsIn}
+use Rattle.eds_names.proofs.AroundLemmas.{AllIn}
 use Rattle.eds_names.proofs.around.around_of.Given as goal
 
 abbrev pub invariant-loop-standing : goal.invariant-loop-standing

@@ -6,9 +6,10 @@ use Rattle.eds_types.specs.Plain.{plain}
 use Rattle.eds_types.specs.Reading.{read_within, read_items, read_parts, read_chain, read_under}
 use Rattle.eds_types.specs.Rows.{placed_from}
 use Rattle.eds_unpack.specs.Choices.{numbers_of}
-use Rattle.eds_unpack.specs.Courses.{IsUnderWay, progress_of, behind_items}
+use Rattle.eds_unpack.specs.Courses.{IsUnderWay, progress_of}
 use Rattle.eds_unpack.specs.Entries.{IsLow, PartIsRead}
 use Rattle.eds_unpack.specs.Seeking.{trailers_along}
+use Rattle.eds_unpack.proofs.Reaches.{behind_items}
 use Rattle.eds_unpack.proofs.read.+read.Given as goal
 
 abbrev pub decreases-read_value : goal.decreases-read_value

@@ -1,7 +1,6 @@
 use Rattle.std.proofs.Common.{ap, sym, ◌∙◌, ◌∷◌}
 use Rattle.eds_types.specs.Rows.{sequence}
-use Rattle.eds_unpack.specs.Seeking.{steps_of}
-use Rattle.eds_unpack.proofs.Reaches.{length_is}
+use Rattle.eds_unpack.proofs.Reaches.{length_is, steps_of}
 use Rattle.eds_unpack.proofs.tail.tell_length.Goals as goal
 
 pub returns-in-Some-clause-value : goal.returns-in-Some-clause-value
