@@ -6,7 +6,8 @@
 An example is a fenced block of the kind `console`, or an indented block that begins with `$ `. A line `$ COMMAND` is run by
 the shell, and the lines below it are what it prints, on either stream. `$ cat NAME` is no command: the lines below it are
 the file NAME, which the page's later examples have. `$ echo $?` prints the status of the command before it. A page's
-examples are run in one empty folder, in which eds, tools and examples stand as they do at the top of the repository.
+examples are run in one empty folder, in which eds, tools, examples and the built program stand as they do at the top of the
+repository.
 Without words all pages are taken. The environment's EDS may name a built program to be run in the place of ./eds.
 
 A fenced block of the kind `rust` whose first line is `// FILE: NAME` shows the function NAME as it stands in that file of
@@ -31,6 +32,7 @@ SECONDS = 120
 # commands that a machine may lack: an example with one is then passed over
 SPARE = ["xxd"]
 ERRORS, PROFILE = "docs/ERRORS.md", "docs/PROFILE.md"
+BUILT = "crates/eds_prog/out"
 ELEMENTS = "crates/eds_tree/specs/ElementTable.antt"
 # Where the crates name the words of reports: the files, the words in them, and for each word a line of ERRORS.md that shows
 # it and the heading that it has, if it has one.
@@ -102,6 +104,8 @@ def hold(page):
         ran, wrong = 1, [f"{short}: a function that it shows has changed: .ci/pages.py --renew"]
     with tempfile.TemporaryDirectory(prefix="eds-page-") as room:
         os.symlink(os.environ.get("EDS") or os.path.join(TOP, "eds"), os.path.join(room, "eds"))
+        os.makedirs(os.path.join(room, BUILT))
+        os.symlink(os.environ.get("EDS") or os.path.join(TOP, BUILT, "eds_prog"), os.path.join(room, BUILT, "eds_prog"))
         for name in ("tools", "examples"):
             os.symlink(os.path.join(TOP, name), os.path.join(room, name))
         for begins, block in found:

@@ -1,5 +1,5 @@
 #!/usr/bin/env python3
-"""Measures how fast a text and a binary of 64 KiB are read, beside stock Rust.
+"""Measures how fast a text and a binary of 64 KiB are read, and checks of it are taken, beside stock Rust.
 
   bench/texts.py [PROGRAM]
 
@@ -54,7 +54,7 @@ def main():
     ours = sys.argv[1] if len(sys.argv) > 1 else "crates/eds_bench/out/eds_bench"
     with tempfile.TemporaryDirectory() as folder:
         programs = [ours, build(folder)]
-        for kind in ("binary", "text"):
+        for kind in ("binary", "text", "sum", "xor", "crc8", "crc16"):
             for bits in (0, 1, 7):
                 ones = least(programs, kind, bits, 1)
                 manies = least(programs, kind, bits, TURNS)

@@ -6,7 +6,7 @@
 PROGRAM (by default crates/eds_bench/out/eds_bench) unpacks a frame again and again by a sheet, and bench/trees.rs, built here
 by `rustc -O`, reads it into a `Vec` of an enum with nothing but std. What they print has to agree. The time of one turn is that
 of many turns less that of one, each the least processor time of some runs, in which the two programs take turns. The memory is
-the most that a process of one turn held, less that of one which reads a frame of next to nothing.
+the most that a process was seen to hold, less that of one which reads a frame of next to nothing.
 
   array   a container of one array of 65,536 numbers of 8 bits
   list    a count of 16 bits, and 4,096 containers of a number of 8 and one of 16 bits
@@ -20,7 +20,7 @@ import subprocess
 import sys
 import tempfile
 
-from split import entry, integer, kinds_recording, kinds_sheet, labels, package
+from split import ended, entry, integer, kinds_recording, kinds_sheet, labels, package
 
 HERE = os.path.dirname(os.path.abspath(__file__))
 RUNS = 5
@@ -75,16 +75,17 @@ FRAMES = {
 
 def run(words):
     """The processor time in seconds, the most memory in KiB, and the line that is printed."""
-    child = subprocess.Popen(words, stdout=subprocess.PIPE, text=True)
-    line = child.stdout.read()
-    _, status, usage = os.wait4(child.pid, 0)
+    with tempfile.TemporaryFile("w+") as out:
+        seconds, memory, status = ended(subprocess.Popen(words, stdout=out))
+        out.seek(0)
+        line = out.read()
     if status != 0:
-        sys.exit(f"{' '.join(words)} ends with {os.waitstatus_to_exitcode(status)}: {line}")
-    return usage.ru_utime + usage.ru_stime, usage.ru_maxrss, line
+        sys.exit(f"{' '.join(words)} ends with {status}: {line}")
+    return seconds, memory, line
 
 
 def least(commands):
-    """The least time and the least memory of each. They have to print the same line."""
+    """The least time and the most memory of each. They have to print the same line."""
     taken = [[] for _ in commands]
     for _ in range(RUNS):
         lines = set()
@@ -94,7 +95,7 @@ def least(commands):
             lines.add(line)
         if len(lines) != 1:
             sys.exit("the programs disagree: " + " and ".join(sorted(map(repr, lines))))
-    return [(min(it[0] for it in results), min(it[1] for it in results)) for results in taken]
+    return [(min(it[0] for it in results), max(it[1] for it in results)) for results in taken]
 
 
 def main():
@@ -115,12 +116,12 @@ def main():
             frame = kept("frame", octets)
             return [[program, type_name, frame, kept("sheet", sheet()), str(turns)], [hand, kind, frame, str(turns)]]
 
-        empty = least(commands("list", b"\0\0", 1))
+        empty = least(commands("list", b"\0\0", 10_000))
         for kind, (_, _, octets, turns) in FRAMES.items():
             ones = least(commands(kind, octets, 1))
             manies = least(commands(kind, octets, turns))
             ours, theirs = [(many[0] - one[0]) / (turns - 1) * 1e6 for many, one in zip(manies, ones)]
-            memory = [one[1] - none[1] for one, none in zip(ones, empty)]
+            memory = [many[1] - none[1] for many, none in zip(manies, empty)]
             print(f"{kind}: ours {ours:.2f} us, by hand {theirs:.2f} us, ratio {ours / theirs:.2f}; memory {memory[0]:,} and {memory[1]:,} KiB")
 
 

@@ -1,20 +1,33 @@
-//! A text and a binary of 64 KiB, which are read again and again from any bit of their first octet on.
+//! A text and a binary of 64 KiB, which are read again and again from any bit of their first octet on, or whose check is taken.
 
 ghost use Rattle.std.specs.Prelude.{◌≡◌, ◌+◌, ◌≤◌, length, IfOk};
 
 use eds_base::{Fail, Memory};
-use eds_bits::{BitReader, BitView, TextForm};
-use eds_codec::{read_binary, read_text};
+use eds_bits::{BitReader, BitView, CheckKind, TextForm};
+use eds_codec::{check_next, read_binary, read_text};
 use std::alloc::Global;
 
 /// How many octets are read at a time.
 const SIZE: u32 = 65_536;
 
-/// As what the octets are read.
+/// As what the octets are read, or which check is taken of them.
 #[derive(Clone, Copy)]
 pub(crate) enum Kind {
     Binary,
     Text,
+    Check(CheckKind),
+}
+
+fn kind_of(word: &str) -> Option<Kind> {
+    match word {
+        "binary" => Some(Kind::Binary),
+        "text" => Some(Kind::Text),
+        "sum" => Some(Kind::Check(CheckKind::Checksum)),
+        "xor" => Some(Kind::Check(CheckKind::Longitudinal)),
+        "crc8" => Some(Kind::Check(CheckKind::Crc8)),
+        "crc16" => Some(Kind::Check(CheckKind::Crc16Ccitt)),
+        _ => None,
+    }
 }
 
 /// What is read, how many bits stand before it, and how often.
@@ -29,11 +42,7 @@ pub(crate) struct Task {
 impl Task {
     /// The task of some words, which has at most so many turns.
     pub(crate) fn of(kind: &str, bits: &str, turns: &str, most: u32) -> Option<Task> {
-        let kind = match kind {
-            "binary" => Kind::Binary,
-            "text" => Kind::Text,
-            _ => return None,
-        };
+        let kind = kind_of(kind)?;
         let bits = bits.parse::<u8>().ok()?;
         let turns = turns.parse::<u32>().ok()?;
         if bits <= 7 && 1 <= turns && turns <= most {
@@ -96,10 +105,11 @@ fn read_once(alloc: Global, kind: Kind, octets: &[u8], bits: u8) -> Result<u64, 
     match kind {
         Kind::Binary => binary_weight(alloc, &mut reader),
         Kind::Text => text_weight(alloc, &mut reader),
+        Kind::Check(kind) => Ok(check_next(kind, reader, 8 * SIZE)),
     }
 }
 
-/// What is read adds up to, modulo 2^64: each time the number of octets times 256, and the last octet.
+/// What is read adds up to, modulo 2^64: each time the number of octets times 256, and the last octet; or the check.
 pub(crate) fn sum_read(alloc: Global, task: Task) -> Result<u64, Memory> {
     let octets = letters_behind(alloc, task.bits)?;
     let mut sum = 0u64;

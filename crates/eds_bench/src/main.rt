@@ -1,7 +1,8 @@
-//! Unpacks many packets by a sheet and writes them as JSON, or reads a large text or binary many times, so that those of a
-//! second can be counted from outside.
+//! Unpacks many packets by a sheet and writes them as JSON, unpacks a frame many times, or reads a large text or binary many
+//! times or takes its check, so that those of a second can be counted from outside.
 #![tactic(auto)]
 
+mod frame;
 mod json;
 mod letters;
 mod packet_sheet;
@@ -9,6 +10,8 @@ mod sequence;
 mod sum;
 mod unpacked;
 
+use eds_io::HostShelf;
+use frame::sum_of_frame;
 use json::json_of;
 use letters::sum_read;
 use std::env;
@@ -23,6 +26,7 @@ enum Task {
     Packets(u32),
     Json(u32),
     Letters(letters::Task),
+    Frame(frame::Task),
 }
 
 fn count_of(word: &str) -> Option<u32> {
@@ -52,11 +56,17 @@ fn task_asked(rt: &HostRuntime) -> Option<Task> {
     let Some(turns) = words.next() else {
         return json_asked(first.as_str(), second.as_str());
     };
-    if words.next().is_some() {
-        return None;
-    }
-    let task = letters::Task::of(first.as_str(), second.as_str(), turns.as_str(), MOST)?;
-    Some(Task::Letters(task))
+    let Some(count) = words.next() else {
+        let task = letters::Task::of(first.as_str(), second.as_str(), turns.as_str(), MOST)?;
+        return Some(Task::Letters(task));
+    };
+    let task = frame::Task {
+        type_name: first,
+        frame: second,
+        sheet: turns,
+        turns: count_of(count.as_str())?,
+    };
+    Some(Task::Frame(task))
 }
 
 // Prints what the packets add up to.
@@ -100,14 +110,31 @@ fn print_letters(rt: &HostRuntime, task: letters::Task) -> ExitCode {
     }
 }
 
+// Prints what the values of the frame add up to.
+fn print_frame(rt: &HostRuntime, task: &frame::Task) -> ExitCode {
+    let mut shelf = HostShelf::new(rt);
+    let printed = match sum_of_frame(rt.alloc(), &mut shelf, task) {
+        Ok(sum) => println!(rt; "turns {} sum {sum}", task.turns),
+        Err(stop) => {
+            let _ = println!(rt; "{stop}");
+            return ExitCode::FAILURE;
+        }
+    };
+    match printed {
+        Ok(()) => ExitCode::SUCCESS,
+        Err(_) => ExitCode::FAILURE,
+    }
+}
+
 fn main(rt: HostRuntime) -> ExitCode {
     match task_asked(&rt) {
         Some(Task::Packets(count)) => print_packets(&rt, count),
         Some(Task::Json(count)) => print_json(&rt, count),
         Some(Task::Letters(task)) => print_letters(&rt, task),
+        Some(Task::Frame(task)) => print_frame(&rt, &task),
         None => {
             let _ = println!(rt;
-                "usage: eds_bench COUNT, json COUNT, or binary or text BITS TURNS; counts from 1 to {MOST}"
+                "usage: eds_bench COUNT, json COUNT, TYPE FRAME SHEET TURNS, or binary, text, sum, xor, crc8 or crc16 BITS TURNS; counts from 1 to {MOST}"
             );
             ExitCode::from(2)
         }
