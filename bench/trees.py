@@ -10,6 +10,7 @@ the most that a process was seen to hold, less that of one which reads a frame o
 
   array   a container of one array of 65,536 numbers of 8 bits
   list    a count of 16 bits, and 4,096 containers of a number of 8 and one of 16 bits
+  scalars a packet of twenty scalars (packets.rs)
   kinds   a telemetry packet of one of 64 kinds, with a length and a check (split.py)
   mixed   sixteen letters, a container of numbers of 32 and 16 bits, a mode, and a count of 8 bits with eight such containers
 """
@@ -20,7 +21,7 @@ import subprocess
 import sys
 import tempfile
 
-from split import ended, entry, integer, kinds_recording, kinds_sheet, labels, package
+from split import ended, entry, integer, kinds_recording, kinds_sheet, labels, package, scalars_sheet
 
 HERE = os.path.dirname(os.path.abspath(__file__))
 RUNS = 5
@@ -65,9 +66,13 @@ def some_pairs(count):
     return b"".join(struct.pack(">BH", i % 256, 7919 * i % 65536) for i in range(count))
 
 
+# The first packet of packets.rs.
+SCALARS = bytes.fromhex("6c576fac826886b3a5fa4199620355cdcba276b4802181e60546013410bf51ed")
+
 FRAMES = {
     "array": ("Trees/Whole", array_sheet, bytes(range(256)) * 256, 400),
     "list": ("Trees/Whole", list_sheet, struct.pack(">H", 4096) + some_pairs(4096), 2_000),
+    "scalars": ("Bench/Housekeeping", scalars_sheet, SCALARS, 500_000),
     "kinds": ("Kinds/Packet", kinds_sheet, kinds_recording(1), 1_000_000),
     "mixed": ("Trees/Whole", mixed_sheet, b"ATTITUDE CONTROL" + struct.pack(">IHBB", 1_700_000_000, 9, 4, 8) + some_pairs(8), 500_000),
 }

@@ -2,7 +2,7 @@
 //!
 //!   trees KIND FRAME TURNS
 //!
-//! KIND is array, list, kinds or mixed; `trees.py`, which makes the frames, says how they are spelled. The line that is printed
+//! KIND is array, list, scalars, kinds or mixed; `trees.py`, which makes the frames, says how they are spelled. The line that is printed
 //! is `turns TURNS sum SUM`: each turn adds the bits of the value, and how many parts it and its parts have.
 
 use std::env;
@@ -37,6 +37,17 @@ impl Value {
     }
 }
 
+fn mode_of(number: u32) -> Option<Value> {
+    let label = match number {
+        0 => "OFF",
+        1 => "IDLE",
+        4 => "NOMINAL",
+        5 => "SAFE",
+        _ => return None,
+    };
+    Some(Value::Label(label.to_owned()))
+}
+
 struct Reader<'a> {
     octets: &'a [u8],
     at: usize,
@@ -62,14 +73,7 @@ impl<'a> Reader<'a> {
     }
 
     fn label(&mut self) -> Option<Value> {
-        let label = match self.number(1)? {
-            0 => "OFF",
-            1 => "IDLE",
-            4 => "NOMINAL",
-            5 => "SAFE",
-            _ => return None,
-        };
-        Some(Value::Label(label.to_owned()))
+        mode_of(self.number(1)? as u32)
     }
 
     fn text(&mut self, count: usize) -> Option<Value> {
@@ -117,6 +121,47 @@ impl<'a> Reader<'a> {
         let count = self.number(1)?;
         let pairs = self.items(count as usize, Self::pair)?;
         Some(Value::Fields(0, vec![name, time, mode, Value::Number(count.into()), pairs]))
+    }
+
+    /// A packet of twenty scalars, as `packets.rs` has it.
+    fn scalars(&mut self) -> Option<Value> {
+        let mut words = [0u32; 8];
+        for word in &mut words {
+            *word = self.number(4)? as u32;
+        }
+        let [head, seconds, load, bias, drift, position, orbit, errors] = words;
+        let groupings = ["CONTINUATION", "FIRST", "LAST", "UNSEGMENTED"];
+        let digits = (0..4).rev().map(|digit| orbit >> (16 + 4 * digit) & 0xF);
+        let duty = orbit & 0xFFFF;
+        if duty > 1000 || digits.clone().any(|digit| digit > 9) {
+            return None;
+        }
+        let sign = |negative: bool, number: u32| if negative { -i128::from(number) } else { number.into() };
+        Some(Value::Fields(
+            0,
+            vec![
+                Value::Number((head >> 29).into()),
+                Value::Truth(head & 0x1000_0000 != 0),
+                Value::Truth(head & 0x0800_0000 != 0),
+                Value::Number((head >> 16 & 0x7FF).into()),
+                Value::Label(groupings[(head >> 14 & 3) as usize].to_owned()),
+                Value::Number((head & 0x3FFF).into()),
+                Value::Number(seconds.into()),
+                Value::Number(((load >> 16) as u16).swap_bytes().into()),
+                mode_of(load >> 12 & 0xF)?,
+                Value::Truth(load & 0x0800 != 0),
+                Value::Number((((load << 5) as i16) >> 5).into()),
+                Value::Number((((bias >> 16) as u16).swap_bytes() as i16).into()),
+                Value::Number(sign(bias & 0x8000 != 0, bias >> 4 & 0x7FF)),
+                Value::Truth(bias & 0xF == 0),
+                Value::Number(sign(drift >> 31 != 0, if drift >> 31 != 0 { !drift >> 24 } else { drift >> 24 })),
+                Value::Number((drift & 0xFF_FFFF).into()),
+                Value::Number((position.swap_bytes() as i32).into()),
+                Value::Number(digits.fold(0, |number, digit| 10 * number + digit).into()),
+                Value::Number(duty.into()),
+                Value::Number(errors.into()),
+            ],
+        ))
     }
 
     /// A telemetry packet of one of 64 kinds.
@@ -183,6 +228,7 @@ fn sum_of(kind: &str, frame: &[u8], turns: u32) -> Option<u64> {
         let value = match kind {
             "array" => reader.array(),
             "list" => reader.list(),
+            "scalars" => reader.scalars(),
             "mixed" => reader.mixed(),
             _ => reader.kinds(),
         }?;
@@ -194,7 +240,7 @@ fn sum_of(kind: &str, frame: &[u8], turns: u32) -> Option<u64> {
 fn main() -> ExitCode {
     let words: Vec<String> = env::args().skip(1).collect();
     let [kind, frame, turns] = words.as_slice() else {
-        println!("usage: trees array|list|kinds|mixed FRAME TURNS");
+        println!("usage: trees array|list|scalars|kinds|mixed FRAME TURNS");
         return ExitCode::from(2);
     };
     let (Ok(frame), Ok(turns)) = (fs::read(frame), turns.parse()) else {
