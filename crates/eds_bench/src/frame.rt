@@ -26,12 +26,7 @@ pub(crate) struct Task {
     pub(crate) turns: u32,
 }
 
-fn octets_in<S: Shelf>(
-    alloc: Global,
-    shelf: &mut S,
-    name: &str,
-    most: u64,
-) -> Result<Octets, Stop>
+fn octets_in<S: Shelf>(alloc: Global, shelf: &mut S, name: &str, most: u64) -> Result<Octets, Stop>
     ensures { IfOk result (λ o. length o ≤ most) }
 {
     match read_whole(alloc, shelf, name, most) {
@@ -77,6 +72,8 @@ fn weight(value: &Value) -> u64 {
     weight
 }
 
+// What the values of so many turns add up to.
+#[tactic(auto, using(crate::proofs::Views::frames_are_short))]
 fn sum_of_turns(
     alloc: Global,
     table: &TypeTable,
@@ -91,7 +88,9 @@ fn sum_of_turns(
     let mut sum = 0u64;
     for _ in 0..turns {
         let (value, bits) = unpack(alloc, table, id, BitView::new(frame))?;
-        sum = sum.wrapping_add(u64::from(bits)).wrapping_add(weight(&value));
+        sum = sum
+            .wrapping_add(u64::from(bits))
+            .wrapping_add(weight(&value));
     }
     Ok(sum)
 }
