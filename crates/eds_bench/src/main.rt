@@ -10,13 +10,14 @@ mod sequence;
 mod sum;
 mod unpacked;
 
+use eds_base::Memory;
 use eds_io::HostShelf;
 use frame::sum_of_frame;
 use json::json_of;
 use letters::sum_read;
 use std::env;
 use std::process::ExitCode;
-use unpacked::sum_of;
+use unpacked::{Stop, sum_of};
 
 /// The most packets or turns of a run.
 const MOST: u32 = 10_000_000;
@@ -69,60 +70,50 @@ fn task_asked(rt: &HostRuntime) -> Option<Task> {
     Some(Task::Frame(task))
 }
 
-// Prints what the packets add up to.
-fn print_packets(rt: &HostRuntime, count: u32) -> ExitCode {
-    let printed = match sum_of(rt.alloc(), count) {
-        Ok(sum) => println!(rt; "packets {count} sum {sum}"),
-        Err(stop) => {
-            let _ = println!(rt; "{stop}");
-            return ExitCode::FAILURE;
-        }
-    };
+// Ends as what is printed went.
+fn ended<E: Drop>(printed: Result<(), E>) -> ExitCode {
     match printed {
         Ok(()) => ExitCode::SUCCESS,
         Err(_) => ExitCode::FAILURE,
+    }
+}
+
+// Prints why there is no sum.
+fn stopped(rt: &HostRuntime, stop: Stop) -> ExitCode {
+    let _ = println!(rt; "{stop}");
+    ExitCode::FAILURE
+}
+
+// Prints what the packets add up to.
+fn print_packets(rt: &HostRuntime, count: u32) -> ExitCode {
+    match sum_of(rt.alloc(), count) {
+        Ok(sum) => ended(println!(rt; "packets {count} sum {sum}")),
+        Err(stop) => stopped(rt, stop),
     }
 }
 
 // Prints how many octets the packets' JSON has, and that of the last packet.
 fn print_json(rt: &HostRuntime, count: u32) -> ExitCode {
-    let printed = match json_of(rt.alloc(), count) {
-        Ok(json) => println!(rt; "octets {} last {}", json.octets, json.last.as_str()),
-        Err(stop) => {
-            let _ = println!(rt; "{stop}");
-            return ExitCode::FAILURE;
-        }
-    };
-    match printed {
-        Ok(()) => ExitCode::SUCCESS,
-        Err(_) => ExitCode::FAILURE,
+    match json_of(rt.alloc(), count) {
+        Ok(json) => ended(println!(rt; "octets {} last {}", json.octets, json.last.as_str())),
+        Err(stop) => stopped(rt, stop),
     }
 }
 
-// Prints what is read adds up to.
+// Prints what is read adds up to, or the check.
 fn print_letters(rt: &HostRuntime, task: letters::Task) -> ExitCode {
-    let Ok(sum) = sum_read(rt.alloc(), task) else {
-        return ExitCode::FAILURE;
-    };
-    match println!(rt; "turns {} sum {sum}", task.turns()) {
-        Ok(()) => ExitCode::SUCCESS,
-        Err(_) => ExitCode::FAILURE,
+    match sum_read(rt.alloc(), task) {
+        Ok(sum) => ended(println!(rt; "turns {} sum {sum}", task.turns())),
+        Err(Memory) => stopped(rt, Stop::Memory),
     }
 }
 
 // Prints what the values of the frame add up to.
 fn print_frame(rt: &HostRuntime, task: &frame::Task) -> ExitCode {
     let mut shelf = HostShelf::new(rt);
-    let printed = match sum_of_frame(rt.alloc(), &mut shelf, task) {
-        Ok(sum) => println!(rt; "turns {} sum {sum}", task.turns),
-        Err(stop) => {
-            let _ = println!(rt; "{stop}");
-            return ExitCode::FAILURE;
-        }
-    };
-    match printed {
-        Ok(()) => ExitCode::SUCCESS,
-        Err(_) => ExitCode::FAILURE,
+    match sum_of_frame(rt.alloc(), &mut shelf, task) {
+        Ok(sum) => ended(println!(rt; "turns {} sum {sum}", task.turns)),
+        Err(stop) => stopped(rt, stop),
     }
 }
 
