@@ -39,10 +39,10 @@ fn text(octets: &[u8], bits: u32) -> u64 {
     weight(black_box(&text).as_bytes())
 }
 
-/// What stands at a front of octets, of which there are as many as are read.
+/// The check of octets, of which there is one more than it is taken of.
 fn checked(octets: &[u8], bits: u32, check: impl Fn(&[u8]) -> u64) -> u64 {
     if bits == 0 {
-        check(black_box(&octets[..SIZE]))
+        check(black_box(&octets[..octets.len() - 1]))
     } else {
         check(black_box(&octets_after(octets, bits)))
     }
@@ -110,8 +110,10 @@ fn main() {
         _ => binary,
     };
     let mut sum = 0u64;
-    for _ in 0..turns {
-        sum = sum.wrapping_add(read(black_box(&octets), bits));
+    for turn in 0..turns {
+        // A check isn't taken of as many octets each time, so that a compiler takes it anew.
+        let fewer = if matches!(words[1].as_str(), "text" | "binary") { 0 } else { turn as usize % 64 };
+        sum = sum.wrapping_add(read(black_box(&octets[fewer..]), bits));
     }
     println!("turns {turns} sum {sum}");
 }

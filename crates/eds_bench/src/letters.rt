@@ -96,8 +96,15 @@ fn text_weight(alloc: Global, reader: &mut BitReader) -> Result<u64, Memory> {
     }
 }
 
+// Of how many octets a turn takes the check: not each time as many, so that a compiler takes it anew.
+fn octets_checked(turn: u32) -> u32
+    ensures { result ≤ SIZE }
+{
+    SIZE - turn % 64
+}
+
 // What is read once behind some bits of the octets, of which there is one more than is read.
-fn read_once(alloc: Global, kind: Kind, octets: &[u8], bits: u8) -> Result<u64, Memory>
+fn read_once(alloc: Global, kind: Kind, octets: &[u8], bits: u8, turn: u32) -> Result<u64, Memory>
     requires within_octet { bits ≤ 7 }
     requires size { length octets.now ≡ SIZE + 1 }
 {
@@ -105,7 +112,7 @@ fn read_once(alloc: Global, kind: Kind, octets: &[u8], bits: u8) -> Result<u64, 
     match kind {
         Kind::Binary => binary_weight(alloc, &mut reader),
         Kind::Text => text_weight(alloc, &mut reader),
-        Kind::Check(kind) => Ok(check_next(kind, reader, 8 * SIZE)),
+        Kind::Check(kind) => Ok(check_next(kind, reader, 8 * octets_checked(turn))),
     }
 }
 
@@ -113,8 +120,8 @@ fn read_once(alloc: Global, kind: Kind, octets: &[u8], bits: u8) -> Result<u64, 
 pub(crate) fn sum_read(alloc: Global, task: Task) -> Result<u64, Memory> {
     let octets = letters_behind(alloc, task.bits)?;
     let mut sum = 0u64;
-    for _ in 0..task.turns {
-        let weight = read_once(alloc, task.kind, octets.as_slice(), task.bits)?;
+    for turn in 0..task.turns {
+        let weight = read_once(alloc, task.kind, octets.as_slice(), task.bits, turn)?;
         sum = sum.wrapping_add(weight);
     }
     Ok(sum)
