@@ -51,6 +51,7 @@ pub mod ErrorControl
 pub mod Faults
 pub mod EmptyType
 pub mod ConstraintRules
+pub mod OpenConstraint
 pub mod FaceReferences
 pub mod ComponentReferences
 pub mod InnerReferences

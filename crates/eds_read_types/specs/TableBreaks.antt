@@ -23,6 +23,7 @@ use Rattle.eds_read_types.specs.LengthField.{breaks_length}
 use Rattle.eds_read_types.specs.FixedValue.{breaks_fixed}
 use Rattle.eds_read_types.specs.ErrorControl.{breaks_check}
 use Rattle.eds_read_types.specs.ConstraintRules.{breaks_constraints}
+use Rattle.eds_read_types.specs.OpenConstraint.{breaks_open_constraint}
 
 -- what breaks each rule, in the phases in which they are judged
 abbrev pub rules : List (List Node) → Names → (word : Option (List ℕ)) → List (List (List Refusal))
@@ -30,7 +31,7 @@ rules trees names word =
     (breaks_unresolved trees names word ∷ breaks_kind trees names word ∷ breaks_face_unresolved trees names ∷ breaks_face_kind trees names ∷ [])
     ∷ (breaks_cycle trees names ∷ breaks_chain trees names ∷ breaks_type_cycle trees names ∷ breaks_family trees names ∷ breaks_nesting trees names ∷ breaks_items trees names ∷ [])
     ∷ (breaks_encoding trees names ∷ breaks_range trees names ∷ breaks_sub_range trees names ∷ breaks_enumeration trees names ∷ [])
-    ∷ (breaks_empty trees names word ∷ breaks_duplicate trees names ∷ breaks_list_field trees names ∷ breaks_length trees names ∷ breaks_fixed trees names ∷ breaks_check trees names ∷ breaks_constraints trees names ∷ breaks_face_open trees names ∷ [])
+    ∷ (breaks_empty trees names word ∷ breaks_duplicate trees names ∷ breaks_list_field trees names ∷ breaks_length trees names ∷ breaks_fixed trees names ∷ breaks_check trees names ∷ breaks_constraints trees names ∷ breaks_face_open trees names ∷ breaks_open_constraint trees names ∷ [])
     ∷ []
 
 -- All breaks of these rules, each phase judged only where no phase before it is broken.

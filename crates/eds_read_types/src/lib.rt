@@ -38,6 +38,7 @@ mod list_field;
 mod listing;
 mod named_trees;
 mod numbers;
+mod open_constraint;
 mod part;
 mod part_element;
 mod part_sort;

@@ -23,6 +23,7 @@ use crate::limit_chain::LimitChain;
 use crate::limit_family::LimitFamily;
 use crate::limit_items::LimitItems;
 use crate::limit_nesting::LimitNesting;
+use crate::open_constraint::OpenConstraint;
 use crate::part_element::AtPartElements;
 use crate::reference::{ReferenceRule, least_over_references};
 use crate::rule_list_field::ListField;
@@ -189,7 +190,10 @@ type Containers = And<
                 Lengths,
                 And<
                     FixedValue,
-                    And<Checks, And<ConstraintRules, And<AtFaces<OpenInFace>, NoRule>>>,
+                    And<
+                        Checks,
+                        And<ConstraintRules, And<AtFaces<OpenInFace>, And<OpenConstraint, NoRule>>>,
+                    >,
                 >,
             >,
         >,
