@@ -6,13 +6,15 @@
 PROGRAM is a built program (by default crates/eds_prog/out/eds_prog), or `-` for the model alone. A run is one sheet: it is
 checked, and where it is accepted, frames and values of its types are read and packed, and packets are split. WORDS say what
 sheets may hold: `built`, `whole`, `scalars`, or words of `EVERYTHING` in bench/model/run_model.py with commas between them.
-With `runs` sheets have components, and where they are accepted, scripts are run over them. Each difference is printed with
-its words and files. The last lines count the answers, of scripts what their runs show, and the differences. The same seed
+With `runs` sheets have components, and where they are accepted, scripts are run over them. With `changed` a run is one of
+bench/fuzz.py: a command of the cases and examples, of whose files some are changed. Each difference is printed with its words
+and files. The last lines count the answers, of scripts what their runs show, and the differences. The same seed
 makes the same inputs.
 """
 
 import argparse
 import collections
+import functools
 import os
 import random
 import signal
@@ -25,6 +27,7 @@ from concurrent.futures import ProcessPoolExecutor
 TOP = os.path.dirname(os.path.dirname(os.path.abspath(__file__)))
 sys.dont_write_bytecode = True
 sys.path.insert(0, os.path.join(TOP, "bench/model"))
+import fuzz  # noqa: E402
 import gen  # noqa: E402
 import gen_components  # noqa: E402
 import gen_scripts  # noqa: E402
@@ -109,6 +112,16 @@ def of_scripts(seed, stage):
         yield ["run", "script", "sheet"], {**sheet, "script": gen_scripts.script(dice, judge)}
 
 
+@functools.cache
+def seeds():
+    return fuzz.Seeds()
+
+
+def of_changed(seed, _):
+    """The words and files of one run: a command of the cases and examples with changed files."""
+    yield fuzz.Maker(seeds(), seed).made()
+
+
 def shown_by(words, status, report):
     """What an answer shows: of a run its events too."""
     if words[0] != "run" or status not in (0, 7):
@@ -149,8 +162,8 @@ def main():
     asked = asked.parse_args()
     program = asked.program if asked.program == "-" else os.path.abspath(asked.program)
     stage, makes = run_model.STAGES.get(asked.stage) or set(asked.stage.split(",")) - {"scalars"}, of_values
-    if asked.stage == "runs":
-        stage, makes = run_model.EVERYTHING, of_scripts
+    if asked.stage in ("runs", "changed"):
+        stage, makes = run_model.EVERYTHING, {"runs": of_scripts, "changed": of_changed}[asked.stage]
     work = [(program, asked.seed * 10**9 + at, stage, makes) for at in range(asked.runs)]
     kinds, wrong = collections.Counter(), 0
     with ProcessPoolExecutor(asked.jobs) as pool:

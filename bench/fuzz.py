@@ -158,7 +158,8 @@ class Maker:
         children = [at for at, it in enumerate(node) if isinstance(it, list)]
         what = dice.randrange(9)
         if what < 3 and attributes:
-            attributes[dice.choice(sorted(attributes))] = dice.choice(self.seeds.texts)
+            key = dice.choice(sorted(attributes))
+            attributes[key] = dice.choice(self.near(nodes, key) if dice.random() < 0.6 else self.seeds.texts)
         elif what == 3 and attributes is not None:
             attributes[dice.choice(self.seeds.keys)] = dice.choice([*self.seeds.texts, True, 5, 64, None, 1.5])
         elif what == 4 and attributes:
@@ -173,6 +174,11 @@ class Maker:
         else:
             other = dice.choice(list(elements(dice.choice(self.seeds.sheets))))
             node.append(copy.deepcopy(other))
+
+    def near(self, nodes, key):
+        """The texts that an attribute has in a tree, with the names that are declared there: what it could well have."""
+        attributes = [it[1] for it in nodes if len(it) > 1 and isinstance(it[1], dict)]
+        return [it[own] for it in attributes for own in (key, "name") if own in it]
 
     def spoiled(self, octets):
         """The octets with some changed, dropped or put in."""
