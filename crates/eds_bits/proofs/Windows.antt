@@ -4,6 +4,7 @@ use Rattle.std.proofs.lemmas.List.{take_more, take_more_set, take-take, drop-dro
 use Rattle.std.proofs.lemmas.Nat.{or_shifted, shr-shr, shr_split, shr_le, shl_whole, mod_below, pow_pos}
 use borrow.Rule.Slice.PartMut.{put_mid}
 use Rattle.std.proofs.Math.Nat.{pow-le-pow_right, mod-eq_of_lt}
+use Rattle.std.specs.Int.{from_be_bytes, w64}
 use Rattle.eds_bits.specs.Bits.{Bits, low_bits, bits_of, unsigned_of, with_piece}
 use Rattle.eds_bits.proofs.BitLaws.{length-low, unsigned-lt, unsigned-part, low-unsigned, low-append, low_same, low-replaced, with_piece-within}
 use Rattle.eds_bits.proofs.OctetLaws.{length-bits_of, bits_of-append, take-bits_of, drop-bits_of, unsigned-bits_of_push}
@@ -23,6 +24,27 @@ octet_step os i o h few e small =
     let fits : unsigned_of (bits_of (take i os)) * 2 ^ 8 < 2 ^ 128 = omega arith in
     let more : take (i + 1) os ≡ take i os ++ o ∷ [] = take_more os i 0 h ∙ ap (λ x. take i os ++ x ∷ []) (sym e) in
     ap (λ x. bit_or x o) (mod-eq_of_lt fits) ∙ or_shifted (unsigned_of (bits_of (take i os))) 8 o small ∙ omega (arith, unsigned-bits_of_push (take i os) o small) ∙ ap (λ r. unsigned_of (bits_of r)) (sym more)
+
+-- one octet more
+octet_more : (os : List ℕ) (i : ℕ) → i < length os → get_or os i 0 < 256 → unsigned_of (bits_of (take (i + 1) os)) ≡ 256 * unsigned_of (bits_of (take i os)) + get_or os i 0
+octet_more os i h small = ap (λ r. unsigned_of (bits_of r)) (take_more os i 0 h) ∙ unsigned-bits_of_push (take i os) (get_or os i 0) small
+
+-- the number of eight octets, as a word is made of them
+pub word_number : (os : List ℕ) → length os ≡ 8 → ((i : ℕ) → get_or os i 0 < 256) → from_be_bytes w64 os ≡ unsigned_of (bits_of os)
+word_number os l small =
+    let whole : unsigned_of (bits_of (take 8 os)) ≡ unsigned_of (bits_of os) = ap (λ r. unsigned_of (bits_of r)) (take_all 8 os (omega arith)) in
+    omega (
+      arith,
+      whole,
+      octet_more os 0 (omega arith) (small 0),
+      octet_more os 1 (omega arith) (small 1),
+      octet_more os 2 (omega arith) (small 2),
+      octet_more os 3 (omega arith) (small 3),
+      octet_more os 4 (omega arith) (small 4),
+      octet_more os 5 (omega arith) (small 5),
+      octet_more os 6 (omega arith) (small 6),
+      octet_more os 7 (omega arith) (small 7),
+    )
 
 -- the bits of a window are those of its octets
 pub window_bits : (os : List ℕ) (first last : ℕ) → bits_of (take (last - first) (drop first os)) ≡ take (8 * (last - first)) (drop (8 * first) (bits_of os))

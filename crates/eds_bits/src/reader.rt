@@ -5,7 +5,7 @@ ghost use Rattle.std.specs.Bool.{OnTrue, OnFalse};
 ghost use Rattle.eds_bits.specs.Bits.{bits_of, unsigned_of};
 
 use crate::octets::shift_into;
-use crate::window::{Window, lowest, number_of};
+use crate::window::{Window, lowest, number_of, word_of};
 
 /// The bits of some octets from one of them on, lent.
 #[derive(Clone, Copy)]
@@ -135,6 +135,34 @@ impl<'a> BitReader<'a> {
 
 // The number of the n bits from bit `at` on.
 fn number_at(octets: &[u8], at: u64, n: u32) -> u64
+    requires few { length octets.now ≤ 2 ^ 32 }
+    requires within { at + n ≤ 8 * length octets.now }
+    requires small { n ≤ 64 }
+    ensures value { result ≡ unsigned_of (take n (drop at (bits_of octets.now))) }
+    ensures bound { result < 2 ^ n }
+{
+    let first = (at / 8) as usize;
+    let skip = (at % 8) as u32;
+    if skip + n <= 64 && octets.len() - first >= 8 {
+        number_in_word(octets, first, skip, n)
+    } else {
+        number_in_window(octets, at, n)
+    }
+}
+
+// The number of the n bits that stand `skip` bits behind the start of the octet `first`, in one word from there on.
+fn number_in_word(octets: &[u8], first: usize, skip: u32, n: u32) -> u64
+    requires near { skip + n ≤ 64 }
+    requires within { first + 8 ≤ length octets.now }
+    ensures value { result ≡ unsigned_of (take n (drop (8 * first + skip) (bits_of octets.now))) }
+    ensures bound { result < 2 ^ n }
+{
+    let word = word_of(&octets[first..first + 8]);
+    lowest(u128::from(word) >> (64 - skip - n), n) as u64
+}
+
+// The number of the n bits from bit `at` on, wherever they stand.
+fn number_in_window(octets: &[u8], at: u64, n: u32) -> u64
     requires few { length octets.now ≤ 2 ^ 32 }
     requires within { at + n ≤ 8 * length octets.now }
     requires small { n ≤ 64 }

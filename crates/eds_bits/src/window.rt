@@ -45,6 +45,16 @@ pub fn number_of(octets: &[u8]) -> u128
     number
 }
 
+/// The unsigned number of eight octets, the most significant first.
+pub fn word_of(octets: &[u8]) -> u64
+    requires { length octets.now ≡ 8 }
+    ensures { result ≡ unsigned_of (bits_of octets.now) }
+{
+    u64::from_be_bytes([
+        octets[0], octets[1], octets[2], octets[3], octets[4], octets[5], octets[6], octets[7],
+    ])
+}
+
 /// The n lowest bits of a number, at most 64.
 pub fn lowest(number: u128, n: u32) -> u128
     requires { n ≤ 64 }
