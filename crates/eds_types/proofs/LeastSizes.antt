@@ -49,19 +49,19 @@ capped_sum f g e (x ∷ xs) = omega (arith, e x, capped_sum f g e xs, sum_by-con
 
 -- ---- families
 
-numbers_back : (xs : List ℕ) → map (λ (y : TypeId). y.0) (map id_of xs) ≡ xs
+pub numbers_back : (xs : List ℕ) → map (λ (y : TypeId). y.0) (map id_of xs) ≡ xs
 numbers_back [] = refl
 numbers_back (x ∷ xs) = ap (λ ys. x ∷ ys) (numbers_back xs)
 
 -- the concrete containers at or under a type, of the first n types
-abbrev picked : Table → ℕ → ℕ → List ℕ
+abbrev pub picked : Table → ℕ → ℕ → List ℕ
 picked t id n = filter (is_concrete t) (filter (λ k. list_has (chain t k) id) (range_with_len 0 n))
 
-one_picked : (t : Table) (id n : ℕ) (c h : Bool) → is_concrete t n ≡ c → list_has (chain t n) id ≡ h → filter (is_concrete t) (filter (λ k. list_has (chain t k) id) (n ∷ [])) ≡ cond h (cond c (n ∷ []) []) []
+pub one_picked : (t : Table) (id n : ℕ) (c h : Bool) → is_concrete t n ≡ c → list_has (chain t n) id ≡ h → filter (is_concrete t) (filter (λ k. list_has (chain t k) id) (n ∷ [])) ≡ cond h (cond c (n ∷ []) []) []
 one_picked t id n c true e k = ap (λ b. filter (is_concrete t) (cond b (n ∷ []) [])) k ∙ ap (λ b. cond b (n ∷ []) []) e
 one_picked t id n c false e k = ap (λ b. filter (is_concrete t) (cond b (n ∷ []) [])) k
 
-more_picked : (t : Table) (id n m : ℕ) → m ≡ n + 1 → picked t id m ≡ picked t id n ++ filter (is_concrete t) (filter (λ k. list_has (chain t k) id) (n ∷ []))
+pub more_picked : (t : Table) (id n m : ℕ) → m ≡ n + 1 → picked t id m ≡ picked t id n ++ filter (is_concrete t) (filter (λ k. list_has (chain t k) id) (n ∷ []))
 more_picked t id n m up =
     let up' : m ≡ suc n = omega arith in
     let last : 0 + n ≡ n = omega arith in
@@ -73,7 +73,7 @@ more_picked t id n m up =
 abbrev size : Table → List ℕ → ℕ → ℕ
 size t own k = chain_size own (chain t k)
 
-append_none : (xs : List ℕ) → xs ++ [] ≡ xs
+pub append_none : (xs : List ℕ) → xs ++ [] ≡ xs
 append_none [] = refl
 append_none (x ∷ xs) = ap (λ ys. x ∷ ys) (append_none xs)
 

@@ -11,6 +11,8 @@ pub mod ExactReading
 pub mod ScalarReading
 pub mod TextReading
 pub mod PartReading
+pub mod Families
+pub mod FamilyChoice
 pub mod FaultsStay
 pub mod Grown
 pub mod FieldTypes

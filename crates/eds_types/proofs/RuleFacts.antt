@@ -15,7 +15,6 @@ use Rattle.eds_types.specs.declared.row.Kind.TheVariants as kind
 use Rattle.eds_types.specs.declared.row.Part.{Part}
 use Rattle.eds_types.specs.declared.row.Part.TheVariants as part
 use Rattle.eds_types.specs.declared.row.Constraint.{Constraint}
-use Rattle.eds_types.specs.Plain.{Plain, plain}
 use Rattle.eds_types.specs.Sizes.{open_by, open_in, open_of, tail_of, trailers_along}
 use Rattle.eds_types.specs.Fields.{type_by, listed, StartsInEntries}
 use Rattle.eds_types.specs.Rows.{Table, chain, entries_of, trailers_of, constraints_of, Placed, placed_from, placed_entries, placed_trailers, own_parts, sequence}

@@ -1,6 +1,6 @@
 -- What a text of an attribute stands for is a value of the kind, and each value has a text.
 use Rattle.std.proofs.Common.{◌≡◌, ℕ, zero, suc, ◌+◌, ◌-◌, ◌*◌, ◌/◌, ◌^◌, ◌<◌, ◌≤◌, ℤ, pos, negsuc, ◌≤ℤ◌, Bool, true, false, cond, List, [], ◌∷◌, length, get_or, take, drop, Option, Some, None, Result, Ok, Err, refl, sym, ap, subst, ◌∙◌, arith}
-use Rattle.std.specs.Prelude.{◌&&◌, ◌||◌, nat_eq, nat_lt, nat_le, codes, IsSome, is_some, option_map, IsTrue, ◌↔◌, not}
+use Rattle.std.specs.Prelude.{◌&&◌, ◌||◌, nat_eq, nat_le, codes, is_some, option_map, IsTrue, ◌↔◌, not}
 use Rattle.std.specs.Char.{is_ascii_digit, digit_value}
 use Rattle.std.specs.Fmt.{decimal}
 use Rattle.std.specs.Result.{result_ok}
@@ -17,29 +17,28 @@ use Rattle.hex.specs.Hex.{decode_of, encode_lower, IsBytes}
 use Rattle.hex.specs.declared.error.FromHexError.{FromHexError}
 use Rattle.hex.proofs.HexLemmas.{decode_of-encode_lower}
 use Rattle.eds_base.specs.declared.spans.Span.{Span}
-use Rattle.eds_base.specs.Numbers.{decimal_value, magnitude, magnitude_by, up_to_limit, whole_number, flag_value}
+use Rattle.eds_base.specs.Numbers.{decimal_value, magnitude, magnitude_by, whole_number, flag_value}
 use Rattle.eds_base.specs.Reading.{only, ◌>>=◌}
 use Rattle.eds_base.specs.Spans.{IsWithin}
 use Rattle.eds_bits.specs.declared.forms.Encoding.{Encoding}
 use Rattle.eds_bits.specs.declared.forms.Encoding.TheVariants.{Unsigned, TwosComplement, SignMagnitude, OnesComplement, PackedBcd, Bcd}
 use Rattle.eds_bits.specs.declared.forms.IntForm.{IntForm}
 use Rattle.eds_bits.specs.declared.forms.TextForm.{TextForm}
-use Rattle.eds_bits.specs.Bits.{Bits, octets_of, octets_for}
+use Rattle.eds_bits.specs.Bits.{octets_for}
 use Rattle.eds_bits.specs.Encodings.{least_by, greatest_by}
 use Rattle.eds_bits.specs.IntForms.{HasNumber}
 use Rattle.eds_bits.specs.Scalars.{IsCoded}
 use Rattle.eds_bits.proofs.OctetLaws.{octets_of_below}
-use Rattle.eds_types.specs.declared.row.Kind.{Kind}
 use Rattle.eds_types.specs.declared.row.Kind.TheVariants as kind
 use Rattle.eds_types.specs.Fields.{listed}
-use Rattle.eds_types.specs.Packing.{TextFits, IsFilled}
+use Rattle.eds_types.specs.Packing.{IsFilled}
 use Rattle.eds_types.specs.PackedSizes.{text_fits, has_bits, is_filled}
 use Rattle.eds_types.specs.Plain.{Plain, num, label, truth, text, bits}
 use Rattle.eds_types.specs.Reading.{is_within, is_coded}
 use Rattle.eds_types.specs.Rows.{list_has}
-use Rattle.eds_types.specs.Rules.{KindKeeps, IsValueOf}
+use Rattle.eds_types.specs.Rules.{IsValueOf}
 use Rattle.eds_types.specs.Spelling.{BinHas}
-use Rattle.eds_types.specs.TextValues.{number_value, label_value, truth_value, string_value, bits_in, octets_value, binary_value, text_value_of, TextsAreValues, ValuesHaveTexts}
+use Rattle.eds_types.specs.TextValues.{number_value, truth_value, bits_in, octets_value, binary_value, TextsAreValues, ValuesHaveTexts}
 use Rattle.eds_types.proofs.Binaries.{filled_length}
 use Rattle.eds_types.proofs.PackedSizes.{fits_true, fits_from, filled_true, filled_from, has_true, has_is}
 use Rattle.eds_types.proofs.ReadingTests.{within_from, within_in}

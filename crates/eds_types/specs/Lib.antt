@@ -6,6 +6,7 @@ pub mod Spelling
 pub mod Failing
 pub mod Packing
 pub mod LeastSize
+pub mod Families
 pub mod Overlap
 pub mod Reading
 pub mod Rules

@@ -122,6 +122,10 @@ numbers t = range_with_len 0 (length t)
 abbrev pub derived : Table → ℕ → List ℕ
 derived t x = filter (λ k. list_has (chain t k) x) (numbers t)
 
+-- its family: the concrete containers among those, itself too
+abbrev pub family : Table → ℕ → List ℕ
+family t x = filter (is_concrete t) (derived t x)
+
 -- ---- sequences
 
 -- a part, the container that has it, and its place among that container's entries and then its trailers

@@ -4,6 +4,7 @@
 mod binary;
 mod chain;
 mod copy;
+mod family;
 pub mod law;
 mod look;
 pub mod packs;

@@ -3,12 +3,13 @@
 ghost use Rattle.std.specs.Prelude.{◌≡◌, ◌++◌, ◌<◌, ◌≤◌, Some, length, map, reverse, slice_get, OnOk, IfOk};
 ghost use Rattle.std.specs.List.{flat_map};
 ghost use Rattle.std.specs.Option.{option_copied};
-ghost use Rattle.eds_types.specs.Rows.{id_of, chain, address, entry_places, trailer_places, sequence, container_of, entries_of, trailers_of, constraints_of, is_concrete};
+ghost use Rattle.eds_types.specs.Rows.{id_of, chain, family, address, entry_places, trailer_places, sequence, container_of, entries_of, trailers_of, constraints_of, is_concrete};
 ghost use Rattle.eds_types.specs.Fields.{part_at, has_value_in};
 ghost use Rattle.eds_types.specs.Domains.{int_domain};
 ghost use Rattle.eds_types.specs.LeastSize.{least_size};
 ghost use Rattle.eds_types.specs.Rules.{KeepsRules};
 
+use crate::family::families_of;
 use crate::sequence::push_places;
 use crate::sizes::{size_in, sizes_of};
 use crate::{Chain, Constraint, Container, Part, Sequence, TypeRow, TypeRows, look};
@@ -22,6 +23,8 @@ pub struct TypeTable {
     rows: TypeRows,
     // the least size of each type, in bits
     sizes: Items<u32>,
+    // the concrete containers at or under each type
+    families: Items<Items<TypeId>>,
 }
 
 impl Model for TypeTable {
@@ -37,7 +40,7 @@ impl Model for TypeTable {
 
     ghost view = { λ t. t.rows };
 
-    ghost invariant = { λ t. IsStored t.rows t.sizes };
+    ghost invariant = { λ t. IsStored t.rows t.sizes t.families };
 }
 
 impl TypeTable {
@@ -48,7 +51,12 @@ impl TypeTable {
         ensures { IfOk result (λ t. t ≡ rows) }
     {
         let sizes = sizes_of(alloc, rows.as_slice())?;
-        Ok(TypeTable { rows, sizes })
+        let families = families_of(alloc, rows.as_slice())?;
+        Ok(TypeTable {
+            rows,
+            sizes,
+            families,
+        })
     }
 
     /// The rules that the types keep.
@@ -139,6 +147,16 @@ impl TypeTable {
         ensures { result ≡ map id_of (chain self.now id.0) }
     {
         look::chain_of(self.rows.as_slice(), id)
+    }
+
+    /// The family of a type: the concrete containers at or under it, in the order of their numbers.
+    pub fn family_of(&self, id: TypeId) -> &[TypeId]
+        ensures { result.now ≡ map id_of (family self.now id.0) }
+    {
+        match self.families.get(id.0 as usize) {
+            Some(family) => family.as_slice(),
+            None => &[],
+        }
     }
 
     fn push_entries(&self, sequence: &mut Sequence, chain: &[TypeId]) -> Result<(), Memory>
