@@ -3,18 +3,19 @@
 ghost use Rattle.std.specs.Prelude.{◌≡◌, ◌&&◌, ◌==◌, ◌≤◌, ℕ, [], not, length, option_map, OnOk};
 ghost use Rattle.std.specs.List.{list_all, flat_map};
 ghost use Rattle.eds_base.specs.declared.ids.TypeId.{TypeId as Id};
-ghost use Rattle.eds_pack.specs.Choices.{meets};
+ghost use Rattle.eds_pack.specs.Choices.{meets, fits_choice};
 ghost use Rattle.eds_pack.specs.Counting.{found};
 ghost use Rattle.eds_pack.specs.Seeking.{fields_of, numbers_of};
+ghost use Rattle.eds_types.specs.Families.{first_of};
 ghost use Rattle.eds_types.specs.Fields.{constraints_along};
 ghost use Rattle.eds_types.specs.PackedSizes.{Size, choice_size};
 ghost use Rattle.eds_types.specs.Plain.{Plain};
-ghost use Rattle.eds_types.specs.Reading.{starts_above, is_candidate, candidate_under};
-ghost use Rattle.eds_types.specs.Rows.{chain, list_has, constraints_of};
+ghost use Rattle.eds_types.specs.Reading.{starts_above, candidate_under};
+ghost use Rattle.eds_types.specs.Rows.{constraints_of};
 
 use crate::constraint::holds;
 use crate::fields::Fields;
-use crate::seek::{has, is_under};
+use crate::seek::is_under;
 use eds_base::{Path, Step, TypeId};
 use eds_types::{Constraint, PackReason, TypeTable};
 
@@ -60,36 +61,34 @@ fn meets_all(fields: &Fields<'_>, chain: &[TypeId]) -> bool
     true
 }
 
-/// Whether a container is at or under that of the fields, and the constraints of its chain on entries before the choice
-/// hold.
+/// Whether those of a container's chain do. Its own come first, since these tell it from its siblings.
 fn fits_under(fields: &Fields<'_>, under: TypeId) -> bool
-    ensures { result ≡ (list_has (chain fields.now.table.now under.0) fields.now.own.0 && list_all (meets fields.now.table.now fields.now.own.0 (fields_of fields.now.table.now fields.now.own.0 fields.now.values.now)) (constraints_along fields.now.table.now under.0)) }
+    ensures { result ≡ list_all (meets fields.now.table.now fields.now.own.0 (fields_of fields.now.table.now fields.now.own.0 fields.now.values.now)) (constraints_along fields.now.table.now under.0) }
 {
-    let chain = fields.table.chain_of(under);
-    if has(chain.as_slice(), fields.own) {
-        meets_all(fields, chain.as_slice())
-    } else {
-        false
-    }
+    meets_own(fields, fields.table.constraints_of(under))
+        && meets_all(fields, fields.table.chain_of(under).as_slice())
 }
 
-/// Whether a container strictly under that of the fields may be theirs.
-fn is_candidate(fields: &Fields<'_>, under: TypeId) -> bool
-    ensures { result ≡ (not (under.0 == fields.now.own.0) && is_candidate fields.now.table.now fields.now.own.0 under.0 (fields_of fields.now.table.now fields.now.own.0 fields.now.values.now)) }
+/// The first of some containers, strictly under that of the fields, that may be theirs.
+#[tactic(auto, unfolding(eds_types::specs::Families::first_of))]
+fn first_candidate(fields: &Fields<'_>, family: &[TypeId]) -> Option<TypeId>
+    ensures { option_map (λ (l : Id). l.0) result ≡ first_of (fits_choice fields.now.table.now fields.now.own.0 (fields_of fields.now.table.now fields.now.own.0 fields.now.values.now)) (numbers_of family.now) }
 {
-    under.0 != fields.own.0 && fields.table.is_concrete(under) && fits_under(fields, under)
+    let mut rest = family;
+    while let [under, after @ ..] = rest {
+        if under.0 != fields.own.0 && fits_under(fields, *under) {
+            return Some(*under);
+        }
+        rest = after;
+    }
+    None
 }
 
 /// The first container strictly under that of the fields that may be theirs.
 fn candidate_under(fields: &Fields<'_>) -> Option<TypeId>
     ensures { option_map (λ (l : Id). l.0) result ≡ candidate_under fields.now.table.now fields.now.own.0 (fields_of fields.now.table.now fields.now.own.0 fields.now.values.now) }
 {
-    for n in 0..fields.table.len() {
-        if is_candidate(fields, TypeId(n)) {
-            return Some(TypeId(n));
-        }
-    }
-    None
+    first_candidate(fields, fields.table.family_of(fields.own))
 }
 
 /// No container strictly under that of the fields may be theirs, or the choice is told.

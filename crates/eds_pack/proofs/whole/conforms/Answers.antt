@@ -1,4 +1,4 @@
-use Rattle.std.proofs.Common.{◌≡◌, ◌↔◌, ℕ, ap, sym, subst, refl, ◌∙◌, arith}
+use Rattle.std.proofs.Common.{◌↔◌, ℕ, ap, sym, subst, refl, ◌∙◌, arith}
 use Rattle.std.specs.Prelude.{IsTrue, is_ok}
 use Rattle.eds_types.specs.Plain.{plain}
 use Rattle.eds_types.specs.PackedSizes.{not_long, packed_size_within}
