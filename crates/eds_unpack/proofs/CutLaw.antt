@@ -1,9 +1,9 @@
 -- Octets behind which no more come are packets and nothing else, or are up to one fault.
 use Rattle.eds_base.specs.declared.fault.Fault.{Fault}
 use Rattle.eds_base.specs.declared.fault.Reason.TheVariants.{Short}
-use Rattle.std.proofs.Common.{◌≡◌, ◌≢◌, ℕ, ◌<◌, List, [], ◌∷◌, ◌++◌, length, refl, sym, subst, ◌∙◌, ◌⊎◌, inl, inr}
+use Rattle.std.proofs.Common.{◌≡◌, ◌≢◌, ℕ, ◌<◌, List, [], ◌∷◌, length, refl, sym, subst, ◌∙◌, ◌⊎◌, inl, inr}
 use Rattle.eds_unpack.specs.Packets.{Framing, Packet, AreCut}
-use Rattle.eds_unpack.specs.Splitting.{IsFraming, FailsIn, WantsMore, IsRefused, Answer, packet, more, refused}
+use Rattle.eds_unpack.specs.Splitting.{IsFraming, FailsIn, WantsMore, Answer, packet, more, refused}
 use Rattle.eds_unpack.specs.Pieces.{EndsWith, IsSplit, IsLastFault, IsCutUpTo, HasOneCut, OneCut}
 use Rattle.eds_unpack.proofs.Cutting.{one_fault, one_refusal, wants_or_refused}
 use Rattle.eds_unpack.proofs.PiecesLaw.{firsts, only_split, whole_cut, one_split}

@@ -1,11 +1,11 @@
 -- The values of containers by their places.
-use Rattle.std.proofs.Common.{◌≡◌, ℕ, zero, suc, ◌+◌, ◌<◌, ◌≤◌, Bool, true, false, List, [], ◌∷◌, length, map, drop, Option, Some, None, Result, Ok, Err, refl, sym, ap, ◌∙◌, Vec, Global, arith}
+use Rattle.std.proofs.Common.{◌≡◌, ℕ, zero, suc, ◌+◌, Bool, true, false, List, [], ◌∷◌, map, drop, Some, None, Result, Ok, refl, sym, ap, ◌∙◌, Vec, Global, arith}
 use Rattle.std.specs.Prelude.{slice_get, ◌&&◌, ◌==◌, if◌then◌else◌}
 use Rattle.eds_base.specs.declared.ids.TypeId.{TypeId}
 use Rattle.eds_types.specs.declared.value.Value.{Value}
 use Rattle.eds_types.specs.declared.value.Value.TheVariants as value
-use Rattle.eds_types.specs.Fields.{Field, has_value, paired, value_at, fields_in, field_of}
-use Rattle.eds_types.specs.Plain.{Plain, plain, list_of, plains_of}
+use Rattle.eds_types.specs.Fields.{has_value, paired, value_at, fields_in, field_of}
+use Rattle.eds_types.specs.Plain.{Plain, plain}
 use Rattle.eds_types.specs.Rows.{Table, Placed, sequence}
 use Rattle.eds_types.proofs.SameValues.{list_of-plains_of}
 use Rattle.eds_unpack.specs.Seeking.{seek, nth}

@@ -1,5 +1,5 @@
 -- One level of nesting.
-use Rattle.std.proofs.Common.{◌≡◌, ℕ, zero, suc, ◌-◌, Some, Err, ap, arith, refl}
+use Rattle.std.proofs.Common.{◌≡◌, ℕ, zero, suc, ◌-◌, Some, ap, arith, refl}
 use Rattle.std.specs.Prelude.{slice_get}
 use Rattle.eds_bits.specs.Bits.{Bits}
 use Rattle.eds_types.specs.declared.row.TypeRow.{TypeRow}

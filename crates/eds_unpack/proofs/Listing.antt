@@ -1,16 +1,20 @@
 -- Looking for a length entry, and for a candidate.
-use Rattle.std.proofs.Common.{◌≡◌, ℕ, zero, suc, ◌+◌, ◌-◌, ◌<◌, ◌≤◌, Bool, true, false, cond, List, [], ◌∷◌, ◌++◌, length, get_or, take, drop, map, reverse, Option, Some, None, Err, refl, sym, ap, ap₂, ◌∙◌, arith}
+use Rattle.std.proofs.Common.{◌≡◌, ℕ, ◌-◌, ◌<◌, Bool, true, false, cond, List, [], ◌∷◌, ◌++◌, length, get_or, take, drop, map, reverse, Option, Some, None, Err, refl, sym, ap, ◌∙◌, arith}
 use Rattle.std.specs.Prelude.{◌&&◌}
-use Rattle.std.specs.List.{AllByRecursion, flat_map, list_all}
+use Rattle.std.specs.List.{flat_map, list_all}
+use Rattle.std.proofs.lemmas.Grind.{flat_map-append}
+use Rattle.std.proofs.lemmas.List.Folds.{list_all-append}
 use Rattle.eds_base.specs.declared.ids.TypeId.{TypeId}
 use Rattle.eds_base.specs.declared.fault.Step.{Step}
 use Rattle.eds_base.specs.declared.fault.Reason.TheVariants.{Constraint as Fails}
 use Rattle.eds_types.specs.declared.row.Constraint.{Constraint}
 use Rattle.eds_types.specs.Failing.{fault_at, path_steps}
-use Rattle.eds_types.specs.Fields.{Field}
-use Rattle.eds_types.specs.Reading.{first_from, holds, check_all}
-use Rattle.eds_types.specs.Rows.{Table, Placed, id_of, chain, sequence, placed_entries, placed_trailers}
-use Rattle.eds_unpack.specs.Choices.{numbers_of}
+use Rattle.eds_types.specs.Fields.{Field, constraints_along}
+use Rattle.eds_types.specs.Families.{first_of}
+use Rattle.eds_types.specs.Reading.{holds, check_all, candidate_under}
+use Rattle.eds_types.proofs.FamilyChoice.{first_in_family}
+use Rattle.eds_types.specs.Rows.{Table, Placed, id_of, base_of, constraints_of, chain_before, chain_within, chain, family, sequence, placed_entries, placed_trailers}
+use Rattle.eds_unpack.specs.Choices.{numbers_of, meets, fits_choice}
 use Rattle.eds_unpack.specs.Seeking.{or_else, if_length, length_among, entries_along, trailers_along}
 use Rattle.eds_unpack.proofs.Paths.{rest_is}
 use Rattle.eds_unpack.proofs.Seeking.{entries_are, trailers_are}
@@ -46,25 +50,30 @@ numbers_are ids xs e = ap numbers_of e ∙ numbers_map xs
 
 -- ---- candidates
 
-module _ (p : ℕ → Bool) where
-  by_pass : ℕ → ℕ → Bool → Option ℕ
-  by_pass n i b = cond b (Some i) (first_from p n (i + 1))
+both_again : (a b : Bool) → (b && (a && (b && true))) ≡ (a && (b && true))
+both_again a true = refl
+both_again true false = refl
+both_again false false = refl
 
-  pass : (n i : ℕ) → first_from p (suc n) i ≡ by_pass n i (p i)
-  unfolding by_pass first_from
-  pass n i = refl
+-- a container's own constraints are among those of its chain
+pub own_along : (t : Table) (m : Constraint → Bool) (u : ℕ) → (list_all m (constraints_of t u) && list_all m (constraints_along t u)) ≡ list_all m (constraints_along t u)
+unfolding chain_within
+own_along t m u = ap (λ b. list_all m (constraints_of t u) && b) split ∙ both_again (list_all m (flat_map (constraints_of t) front)) (list_all m (constraints_of t u)) ∙ sym split
+  where
+    front : List ℕ
+    front = chain_before (chain_within 15 t) (base_of t u)
 
-  pub first_found : (len i : ℕ) → i < len → true ≡ p i → first_from p (len - i) i ≡ Some i
-  unfolding by_pass
-  first_found len i lt h = let k : len - i ≡ suc (len - (i + 1)) = omega arith in ap (λ n. first_from p n i) k ∙ pass (len - (i + 1)) i ∙ ap (by_pass (len - (i + 1)) i) (sym h)
+    split : list_all m (constraints_along t u) ≡ (list_all m (flat_map (constraints_of t) front) && (list_all m (constraints_of t u) && true))
+    split = ap (list_all m) (flat_map-append (constraints_of t) front (u ∷ [])) ∙ list_all-append m (flat_map (constraints_of t) front) (constraints_of t u ++ []) ∙ ap (λ b. list_all m (flat_map (constraints_of t) front) && b) (list_all-append m (constraints_of t u) [])
 
-  pub first_passed : (len i : ℕ) → i < len → false ≡ p i → first_from p (len - i) i ≡ first_from p (len - (i + 1)) (i + 1)
-  unfolding by_pass
-  first_passed len i lt h = let k : len - i ≡ suc (len - (i + 1)) = omega arith in ap (λ n. first_from p n i) k ∙ pass (len - (i + 1)) i ∙ ap (by_pass (len - (i + 1)) i) (sym h)
+-- the candidates are looked for in the family
+pub candidate_is_first : (t : Table) (x : ℕ) (fs : List Field) (ids : List TypeId) → ids ≡ map id_of (family t x) → first_of (fits_choice t x fs) (numbers_of ids) ≡ candidate_under t x fs
+candidate_is_first t x fs ids e = ap (first_of (fits_choice t x fs)) (numbers_are ids (family t x) e) ∙ sym (first_in_family t x (λ l. list_all (meets t x fs) (constraints_along t l)))
 
-  pub first_none : (len i : ℕ) → len ≤ i → first_from p (len - i) i ≡ None
-  unfolding first_from
-  first_none len i le = let k : len - i ≡ 0 = omega arith in ap (λ n. first_from p n i) k
+pub no_candidate : (t : Table) (x : ℕ) (fs : List Field) (ids : List TypeId) → ids ≡ map id_of (family t x) → length ids ≡ 0 → None ≡ candidate_under t x fs
+unfolding first_of
+no_candidate t x fs [] e n = candidate_is_first t x fs [] e
+no_candidate t x fs (id ∷ ids) e n = absurd (omega arith)
 
 -- ---- constraints
 

@@ -1,6 +1,6 @@
 -- Whatever is read, the bits that are left are the last of those that there were.
 use Rattle.eds_base.specs.declared.fault.Fault.{Fault}
-use Rattle.std.proofs.Common.{◌≡◌, ℕ, zero, suc, ◌+◌, ◌*◌, ◌<◌, ◌≤◌, Bool, true, false, cond, List, [], ◌∷◌, ◌++◌, length, take, drop, Option, Some, None, Result, Ok, Err, refl, sym, ap, subst, ◌∙◌, append_assoc, take-append-drop, pos}
+use Rattle.std.proofs.Common.{◌≡◌, ℕ, zero, suc, ◌+◌, ◌*◌, Bool, true, false, cond, List, [], ◌∷◌, ◌++◌, length, take, drop, Option, Some, None, Result, Ok, Err, refl, sym, ap, subst, ◌∙◌, append_assoc, take-append-drop, pos}
 use Rattle.std.specs.Prelude.{nat_lt, slice_get}
 use Rattle.eds_base.specs.declared.fault.Step.{Step}
 use Rattle.eds_base.specs.declared.fault.Reason.TheVariants.{Short, Unterminated, FixedDiffers, LengthDiffers, CheckDiffers}
@@ -13,11 +13,9 @@ use Rattle.eds_types.specs.declared.row.Kind.{Kind}
 use Rattle.eds_types.specs.declared.row.Kind.TheVariants as kind
 use Rattle.eds_types.specs.declared.row.Part.{Part}
 use Rattle.eds_types.specs.declared.row.Part.TheVariants as part
-use Rattle.eds_types.specs.declared.row.Constraint.{Constraint}
 use Rattle.eds_types.specs.Failing.{fault_here, whole_octets, length_path, part_step, fault_at}
-use Rattle.eds_types.specs.Fields.{Field}
 use Rattle.eds_types.specs.Plain.{Plain, plain, num, truth, bits, items, plains_of}
-use Rattle.eds_types.specs.Reading.{Read, Ends, Next, stay, nowhere, under, ◌>>=◌, inside, judged, judge, advance, read_bits, ranged, named, truth_of, expected, number_in, after_number, coded, stopped, unstopped, read_open_text, read_text, read_items, read_part, read_tail, tail_room, read_entry_by, read_entry, read_parts, check_all, read_own, read_chain, next, finish, size_fits, go_on, read_under, ended, read_to_end, read_kind, read_row, read_within, trailers_up}
+use Rattle.eds_types.specs.Reading.{Read, Ends, Next, stay, nowhere, under, ◌>>=◌, inside, judged, judge, advance, read_bits, ranged, named, truth_of, expected, number_in, after_number, coded, stopped, unstopped, read_text, read_items, read_part, read_tail, tail_room, read_entry_by, read_entry, read_parts, check_all, read_own, read_chain, next, finish, size_fits, go_on, read_under, ended, read_to_end, read_kind, read_row, read_within, trailers_up}
 use Rattle.eds_types.specs.Rows.{Table, list_has, Placed, placed_entries, chain, constraints_of}
 use Rattle.eds_types.specs.Sizes.{tail_of}
 use Rattle.eds_types.specs.Spelling.{Progress, started, with_bits, with_value, count_at}

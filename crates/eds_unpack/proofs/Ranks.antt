@@ -6,12 +6,11 @@ use Rattle.eds_base.specs.declared.ids.TypeId.{TypeId}
 use Rattle.eds_bits.specs.Lists.{Has}
 use Rattle.eds_types.specs.declared.row.TypeRow.{TypeRow}
 use Rattle.eds_types.specs.declared.row.Kind.TheVariants as kind
-use Rattle.eds_types.specs.declared.row.Kind.{Kind}
 use Rattle.eds_types.specs.declared.row.Part.{Part}
 use Rattle.eds_types.specs.declared.row.Part.TheVariants as part
 use Rattle.eds_types.specs.declared.row.Constraint.{Constraint}
-use Rattle.eds_types.specs.Fields.{Field, part_at, type_by, StartsInEntries, IsAtOrUnder}
-use Rattle.eds_types.specs.Reading.{Next, stay, nowhere, under, next, next_of, candidate_under}
+use Rattle.eds_types.specs.Fields.{Field, type_by, StartsInEntries}
+use Rattle.eds_types.specs.Reading.{stay, nowhere, under, next, next_of, candidate_under}
 use Rattle.eds_types.specs.Rows.{Table, id_of, base_of, chain, chain_within, chain_before, is_concrete, entries_of, trailers_of, constraints_of, Placed, placed_from, placed_entries, placed_trailers, own_parts}
 use Rattle.eds_types.specs.Rules.{KeepsRules, IsNested, ItemsNest, PartKeeps, ConstraintKeeps, Follows}
 use Rattle.eds_types.proofs.AllOf.{All-weaker, All-both, All-front, All-back, All-at, All-pair}

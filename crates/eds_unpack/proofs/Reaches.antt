@@ -1,16 +1,16 @@
 -- How far the reader of a container has come.
 use Rattle.eds_base.specs.declared.fault.Fault.{Fault}
-use Rattle.std.proofs.Common.{◌≡◌, ℕ, zero, suc, ◌+◌, ◌-◌, ◌<◌, ◌≤◌, ℤ, List, [], ◌∷◌, ◌++◌, length, map, take, Option, Some, None, Result, Ok, Err, refl, sym, ap, ap₂, subst, ◌∙◌, append_assoc, append-nil, arith}
+use Rattle.std.proofs.Common.{◌≡◌, ℕ, suc, ◌+◌, ◌-◌, ◌<◌, ◌≤◌, ℤ, List, [], ◌∷◌, ◌++◌, length, map, take, Option, Some, None, Ok, Err, refl, sym, ap, ap₂, ◌∙◌, append_assoc, append-nil, arith}
 use Rattle.std.proofs.lemmas.List.{map-append, length-append}
 use Rattle.eds_base.specs.declared.fault.Step.{Step}
 use Rattle.eds_base.specs.declared.fault.Step.TheVariants as step
 use Rattle.eds_bits.specs.Bits.{Bits}
 use Rattle.eds_bits.specs.Reader.{bits_left}
-use Rattle.eds_types.specs.Failing.{fault_behind, length_path, length_step, if_length as length_at, entry}
+use Rattle.eds_types.specs.Failing.{fault_behind, length_step, if_length as length_at, entry}
 use Rattle.eds_types.specs.Fields.{Field, values_of, field_of}
 use Rattle.eds_types.specs.Plain.{Plain, plain}
 use Rattle.eds_types.specs.Reading.{Read, ◌>>=◌, front, read_items, read_parts, read_entry}
-use Rattle.eds_types.specs.Rows.{Table, Placed, sequence}
+use Rattle.eds_types.specs.Rows.{Table, Placed}
 use Rattle.eds_types.specs.declared.row.Part.{Part}
 use Rattle.eds_types.specs.declared.row.Part.TheVariants as part
 use Rattle.eds_types.specs.Spelling.{Progress, with_bits, with_value, with_octets}

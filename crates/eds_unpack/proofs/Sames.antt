@@ -1,5 +1,5 @@
 -- Whether two values are the same.
-use Rattle.std.proofs.Common.{◌≡◌, Bool, true, false, refl, sym, subst, IsTrue}
+use Rattle.std.proofs.Common.{◌≡◌, Bool, true, false, refl, subst, IsTrue}
 use Rattle.std.specs.Prelude.{◌↔◌}
 use Rattle.std.proofs.lemmas.Bool.{false_from_ne_true}
 use Rattle.eds_types.specs.Plain.{Plain}

@@ -1,7 +1,7 @@
 -- The steps of the reader, part by part and container by container.
-use Rattle.std.proofs.Common.{◌≡◌, ℕ, zero, suc, ◌+◌, ◌-◌, ◌*◌, ◌^◌, ◌<◌, ◌≤◌, ℤ, pos, nat_abs, ◌+ℤ◌, ◌*ℤ◌, Bool, true, false, cond, List, [], ◌∷◌, ◌++◌, length, map, take, drop, take-append-drop, get_or, reverse, Option, Some, None, Result, Ok, Err, refl, sym, ap, subst, ◌∙◌, append-nil, arith}
-use Rattle.std.specs.Prelude.{slice_get, IfSome, nat_lt}
-use Rattle.std.specs.List.{AllByRecursion, flat_map}
+use Rattle.std.proofs.Common.{◌≡◌, ℕ, zero, suc, ◌+◌, ◌-◌, ◌*◌, ◌^◌, ◌<◌, ◌≤◌, ℤ, pos, nat_abs, ◌+ℤ◌, ◌*ℤ◌, Bool, true, false, cond, List, [], ◌∷◌, ◌++◌, length, map, take, drop, take-append-drop, get_or, reverse, Option, Some, None, Result, Ok, Err, refl, sym, ap, subst, ◌∙◌, arith}
+use Rattle.std.specs.Prelude.{IfSome, nat_lt}
+use Rattle.std.specs.List.{AllByRecursion}
 use Rattle.std.proofs.lemmas.Int.{ints}
 use Rattle.eds_base.specs.declared.ids.TypeId.{TypeId}
 use Rattle.eds_base.specs.declared.fail.Fail.{Fail}
@@ -27,14 +27,14 @@ use Rattle.eds_types.specs.declared.row.TypeRow.{TypeRow}
 use Rattle.eds_types.specs.declared.value.Value.{Value}
 use Rattle.eds_types.specs.Failing.{fault_at, fault_here, fault_behind, part_step, length_path}
 use Rattle.eds_types.specs.Fields.{Field, field_at, values_of}
-use Rattle.eds_types.specs.Plain.{Plain, plain, num, label, truth, text, bits, items, fields, plains_of}
-use Rattle.eds_types.specs.Reading.{Read, Ends, Next, stay, nowhere, under, ◌>>=◌, judged, judge, advance, front, expected, number_in, after_number, ranged, is_within, read_bits, read_items, read_part, read_parts, read_chain, read_own, read_under, read_to_end, go_on, next, finish, size_fits, ended, trailers_up, read_tail, inside, read_kind, read_row, read_within}
+use Rattle.eds_types.specs.Plain.{Plain, plain, num, bits, items, fields, plains_of}
+use Rattle.eds_types.specs.Reading.{Read, Ends, Next, stay, nowhere, under, ◌>>=◌, judged, judge, advance, front, expected, number_in, after_number, ranged, is_within, read_bits, read_items, read_part, read_parts, read_chain, read_under, read_to_end, go_on, next, finish, size_fits, ended, read_tail, inside, read_kind, read_row, read_within}
 use Rattle.eds_types.specs.Rows.{Table, id_of, chain, constraints_of, entries_of, trailers_of, Placed, placed_from, placed_entries, placed_trailers}
 use Rattle.eds_types.specs.Rules.{KeepsRules, IsInt, IsIntBy, KindKeeps}
-use Rattle.eds_types.specs.Spelling.{Progress, started, with_bits, with_value, with_octets, count_at}
+use Rattle.eds_types.specs.Spelling.{Progress, started, with_bits, with_value, count_at}
 use Rattle.eds_types.proofs.ReadingTests.{within_from}
 use Rattle.eds_unpack.specs.declared.progress.Reached.{Reached}
-use Rattle.eds_unpack.specs.Choices.{numbers_of, IsNear}
+use Rattle.eds_unpack.specs.Choices.{IsNear}
 use Rattle.eds_unpack.specs.Courses.{MovesOn, IsUnderWay, fields_of, progress_of, told_by}
 use Rattle.eds_unpack.specs.Entries.{IsLow, PartIsRead, placed}
 use Rattle.eds_unpack.specs.Readers.{Stops, passed, stop_at}

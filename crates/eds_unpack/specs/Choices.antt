@@ -1,8 +1,9 @@
 -- The choice of a derived container.
-use Rattle.std.specs.Prelude.{ℕ, ◌≤◌, List, length, map, Bool, true, cond}
+use Rattle.std.specs.Prelude.{ℕ, ◌≤◌, List, length, map, Bool, true, cond, not, ◌&&◌, ◌==◌}
+use Rattle.std.specs.List.{list_all}
 use Rattle.eds_base.specs.declared.ids.TypeId.{TypeId}
 use Rattle.eds_types.specs.declared.row.Constraint.{Constraint}
-use Rattle.eds_types.specs.Fields.{Field}
+use Rattle.eds_types.specs.Fields.{Field, constraints_along}
 use Rattle.eds_types.specs.Reading.{Next, stay, nowhere, under, starts_above, holds}
 use Rattle.eds_types.specs.Rows.{Table}
 use Rattle.eds_unpack.specs.declared.choice.Next.{Next as Chosen}
@@ -15,6 +16,11 @@ numbers_of ids = map (λ (id : TypeId). id.0) ids
 -- a constraint on an entry that is read before the choice at x holds
 abbrev pub meets : Table → ℕ → List Field → Constraint → Bool
 meets t x fs c = cond (starts_above t x c.path) (holds t fs c) true
+
+-- of the family of x, the container l is another one, and all that its chain asks of entries that are read before the
+-- choice holds
+abbrev pub fits_choice : Table → ℕ → List Field → ℕ → Bool
+fits_choice t x fs l = not (l == x) && list_all (meets t x fs) (constraints_along t l)
 
 -- what a choice is in the definition
 abbrev pub next_in : Chosen → Next

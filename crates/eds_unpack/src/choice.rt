@@ -3,11 +3,12 @@
 ghost use Rattle.std.specs.Prelude.{◌≡◌, ◌&&◌, ◌==◌, not, length, option_map, unwrap_or, slice_get};
 ghost use Rattle.std.specs.List.{list_all, flat_map};
 ghost use Rattle.eds_base.specs.declared.ids.TypeId.{TypeId as Id};
+ghost use Rattle.eds_types.specs.Families.{first_of};
 ghost use Rattle.eds_types.specs.Fields.{constraints_along};
-ghost use Rattle.eds_types.specs.Reading.{starts_above, is_candidate, candidate_under, next};
-ghost use Rattle.eds_types.specs.Rows.{chain, list_has, constraints_of};
+ghost use Rattle.eds_types.specs.Reading.{starts_above, candidate_under, next};
+ghost use Rattle.eds_types.specs.Rows.{chain, chain as chain_of, list_has, constraints_of};
 ghost use Rattle.eds_unpack.specs.Courses.{fields_of};
-ghost use Rattle.eds_unpack.specs.Choices.{numbers_of, meets, next_in};
+ghost use Rattle.eds_unpack.specs.Choices.{numbers_of, meets, fits_choice, next_in};
 
 use crate::constraint::holds;
 use crate::fields::ReadField;
@@ -37,22 +38,15 @@ fn has(ids: &[TypeId], id: TypeId) -> bool
     false
 }
 
-/// Whether a type is another one, or derives from it.
-fn is_under(table: &TypeTable, id: TypeId, base: TypeId) -> bool
-    ensures { result ≡ list_has (chain table.now id.0) base.0 }
-{
-    let chain = table.chain_of(id);
-    has(chain.as_slice(), base)
-}
-
 /// Whether a path starts in an entry of a container or of its bases.
-fn starts_above(table: &TypeTable, id: TypeId, path: &[(TypeId, u16)]) -> bool
+fn starts_above(table: &TypeTable, id: TypeId, chain: &[TypeId], path: &[(TypeId, u16)]) -> bool
+    requires { numbers_of chain.now ≡ chain_of table.now id.0 }
     ensures { result ≡ starts_above table.now id.0 path.now }
 {
     match path {
         [] => false,
         [first, ..] => {
-            is_under(table, id, first.0) && (first.1 as usize) < table.entries_of(first.0).len()
+            has(chain, first.0) && (first.1 as usize) < table.entries_of(first.0).len()
         }
     }
 }
@@ -61,14 +55,16 @@ fn starts_above(table: &TypeTable, id: TypeId, path: &[(TypeId, u16)]) -> bool
 fn meets_own(
     table: &TypeTable,
     id: TypeId,
+    chain: &[TypeId],
     fields: &[ReadField],
     constraints: &[Constraint],
 ) -> bool
+    requires { numbers_of chain.now ≡ chain_of table.now id.0 }
     ensures { result ≡ list_all (meets table.now id.0 (fields_of fields.now)) constraints.now }
 {
     let mut rest = constraints;
     while let [constraint, after @ ..] = rest {
-        if starts_above(table, id, constraint.path.as_slice())
+        if starts_above(table, id, chain, constraint.path.as_slice())
             && !holds(table, fields, constraint)
         {
             return false;
@@ -78,13 +74,20 @@ fn meets_own(
     true
 }
 
-/// Whether those of a chain of containers do.
-fn meets_all(table: &TypeTable, id: TypeId, fields: &[ReadField], chain: &[TypeId]) -> bool
-    ensures { result ≡ list_all (meets table.now id.0 (fields_of fields.now)) (flat_map (constraints_of table.now) (numbers_of chain.now)) }
+/// Whether those of some containers do.
+fn meets_all(
+    table: &TypeTable,
+    id: TypeId,
+    chain: &[TypeId],
+    fields: &[ReadField],
+    containers: &[TypeId],
+) -> bool
+    requires { numbers_of chain.now ≡ chain_of table.now id.0 }
+    ensures { result ≡ list_all (meets table.now id.0 (fields_of fields.now)) (flat_map (constraints_of table.now) (numbers_of containers.now)) }
 {
-    let mut rest = chain;
+    let mut rest = containers;
     while let [one, after @ ..] = rest {
-        if !meets_own(table, id, fields, table.constraints_of(*one)) {
+        if !meets_own(table, id, chain, fields, table.constraints_of(*one)) {
             return false;
         }
         rest = after;
@@ -92,35 +95,53 @@ fn meets_all(table: &TypeTable, id: TypeId, fields: &[ReadField], chain: &[TypeI
     true
 }
 
-/// Whether a container is at or under another one, and the constraints of its chain on entries before the choice hold.
-fn fits_under(table: &TypeTable, id: TypeId, under: TypeId, fields: &[ReadField]) -> bool
-    ensures { result ≡ (list_has (chain table.now under.0) id.0 && list_all (meets table.now id.0 (fields_of fields.now)) (constraints_along table.now under.0)) }
+/// Whether those of a container's chain do. Its own come first, since these tell it from its siblings.
+fn fits_under(
+    table: &TypeTable,
+    id: TypeId,
+    chain: &[TypeId],
+    fields: &[ReadField],
+    under: TypeId,
+) -> bool
+    requires { numbers_of chain.now ≡ chain_of table.now id.0 }
+    ensures { result ≡ list_all (meets table.now id.0 (fields_of fields.now)) (constraints_along table.now under.0) }
 {
-    let chain = table.chain_of(under);
-    if has(chain.as_slice(), id) {
-        meets_all(table, id, fields, chain.as_slice())
-    } else {
-        false
-    }
+    meets_own(table, id, chain, fields, table.constraints_of(under))
+        && meets_all(table, id, chain, fields, table.chain_of(under).as_slice())
 }
 
-/// Whether a container strictly under another one may be that of the fields.
-fn is_candidate(table: &TypeTable, id: TypeId, under: TypeId, fields: &[ReadField]) -> bool
-    ensures { result ≡ (not (under.0 == id.0) && is_candidate table.now id.0 under.0 (fields_of fields.now)) }
+/// The first of some containers, strictly under another one, that may be that of the fields.
+#[tactic(auto, unfolding(eds_types::specs::Families::first_of))]
+fn first_candidate(
+    table: &TypeTable,
+    id: TypeId,
+    chain: &[TypeId],
+    fields: &[ReadField],
+    family: &[TypeId],
+) -> Option<TypeId>
+    requires { numbers_of chain.now ≡ chain_of table.now id.0 }
+    ensures { option_map (λ (l : Id). l.0) result ≡ first_of (fits_choice table.now id.0 (fields_of fields.now)) (numbers_of family.now) }
 {
-    under.0 != id.0 && table.is_concrete(under) && fits_under(table, id, under, fields)
+    let mut rest = family;
+    while let [under, after @ ..] = rest {
+        if under.0 != id.0 && fits_under(table, id, chain, fields, *under) {
+            return Some(*under);
+        }
+        rest = after;
+    }
+    None
 }
 
 /// The first container strictly under one that may be that of the fields.
 fn candidate_under(table: &TypeTable, id: TypeId, fields: &[ReadField]) -> Option<TypeId>
     ensures { option_map (λ (l : Id). l.0) result ≡ candidate_under table.now id.0 (fields_of fields.now) }
 {
-    for n in 0..table.len() {
-        if is_candidate(table, id, TypeId(n), fields) {
-            return Some(TypeId(n));
-        }
+    let family = table.family_of(id);
+    if family.is_empty() {
+        return None;
     }
-    None
+    let chain = table.chain_of(id);
+    first_candidate(table, id, chain.as_slice(), fields, family)
 }
 
 /// Where reading goes on behind the entries of a container.

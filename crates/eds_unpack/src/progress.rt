@@ -1,6 +1,6 @@
 //! How far the reader of a container has come.
 
-ghost use Rattle.std.specs.Prelude.{◌≡◌, ◌++◌, ◌∷◌, [], length, None, OnOk};
+ghost use Rattle.std.specs.Prelude.{◌≡◌, ◌++◌, ◌∷◌, [], length, None, IfOk, OnOk};
 ghost use Rattle.eds_bits.specs.Bits.{octets_for};
 ghost use Rattle.eds_bits.specs.Reader.{bits_left};
 ghost use Rattle.eds_types.specs.Fields.{field_at};
@@ -24,20 +24,28 @@ pub(crate) struct Reached<'a> {
     pub start: BitReader<'a>,
 }
 
-/// Before the first part of a container.
-pub(crate) fn begin<'a>(alloc: Global, reader: &BitReader<'a>) -> Reached<'a>
-    ensures fields { fields_of result.fields.items ≡ [] }
-    ensures octets { result.octets ≡ None }
-    ensures start { bits_left result.start ≡ bits_left reader.now }
+/// The most fields that room is made for before any is read.
+const FEW: usize = 32;
+
+/// Before the first part of a container, with room for so many fields, or for a few where they are more.
+pub(crate) fn begin<'a>(
+    alloc: Global,
+    fields: usize,
+    reader: &BitReader<'a>,
+) -> Result<Reached<'a>, Memory>
+    ensures fields { IfOk result (λ r. fields_of r.fields.items ≡ []) }
+    ensures octets { IfOk result (λ r. r.octets ≡ None) }
+    ensures start { IfOk result (λ r. bits_left r.start ≡ bits_left reader.now) }
 {
-    Reached {
-        fields: Vec::new(alloc),
+    Ok(Reached {
+        fields: Vec::with_capacity(alloc, fields.min(FEW))?,
         octets: None,
         start: *reader,
-    }
+    })
 }
 
 /// Puts the value of the part at a place of a container last.
+#[inline(always)]
 pub(crate) fn keep_field(
     reached: &mut Reached<'_>,
     container: TypeId,

@@ -65,6 +65,7 @@ pub(crate) fn read_value(
 
 /// Reads the value of the type in a row, where so many types are nested in it at most.
 #[cycle(read)]
+#[inline(always)]
 fn read_row(
     level: &Level<'_>,
     id: TypeId,
@@ -133,6 +134,7 @@ fn read_items(
 
 /// Reads a part of a container, and keeps its value, where it has one.
 #[cycle(read)]
+#[inline(always)]
 fn read_part(
     level: &Level<'_>,
     container: TypeId,
@@ -187,6 +189,7 @@ fn read_part(
 
 /// Reads the part at a place of a container, a tail among them.
 #[cycle(read)]
+#[inline(always)]
 fn read_entry(
     level: &Level<'_>,
     container: TypeId,
@@ -399,7 +402,8 @@ fn read_container(
     ensures calm { OnOk result (path.new ≡ []) }
     ensures reason { IfErr result StopsReading }
 {
-    let mut reached = begin(level.alloc, reader);
+    let entries = level.table.entries_of(id).len();
+    let mut reached = begin(level.alloc, entries, reader)?;
     let chain = level.table.chain_of(id);
     if let Err(stop) = read_chain(level, chain.as_slice(), &mut reached, path, reader) {
         return Err(stop);

@@ -18,6 +18,7 @@ use eds_types::{Listing, Value};
 use std::alloc::Global;
 
 /// The number of the next bits in a form, whatever the domain.
+#[inline(always)]
 fn number(form: IntForm, reader: &mut BitReader) -> Result<i128, Fail<Reason>>
     ensures gives { Gives (λ n. (n, bits_left reader.new)) (with_path [] result) (read_number form (bits_left reader.old)) }
     ensures reason { IfErr result StopsReading }
@@ -32,6 +33,7 @@ fn number(form: IntForm, reader: &mut BitReader) -> Result<i128, Fail<Reason>>
 }
 
 /// Reads a number of an integer type or sub-range. A digit above 9 comes before a number outside the domain.
+#[inline(always)]
 pub(crate) fn read_integer(
     form: IntForm,
     spans: &Spans,
@@ -82,6 +84,7 @@ pub(crate) fn read_label(
 }
 
 /// Reads a truth value.
+#[inline(always)]
 pub(crate) fn read_truth(form: BoolForm, reader: &mut BitReader) -> Result<Value, Fail<Reason>>
     ensures gives { Gives (λ v. (plain v, bits_left reader.new)) (with_path [] result) (judge (λ c. Ok (truth (truth_of form c))) (read_bits form.bits (bits_left reader.old))) }
     ensures reason { IfErr result StopsReading }

@@ -1,15 +1,15 @@
-use Rattle.std.proofs.Common.{◌≡◌, ◌∙◌, ◌+◌, ap, sym, length, arith}
-use Rattle.std.specs.Prelude.{not, ◌&&◌, ◌==◌}
-use Rattle.eds_types.specs.Reading.{is_candidate}
+use Rattle.std.proofs.Common.{length, ◌∙◌, sym}
+use Rattle.std.proofs.lemmas.Bool.{eqb-true}
+use Rattle.eds_types.specs.Rows.{chain}
 use Rattle.eds_unpack.specs.Courses.{fields_of}
-use Rattle.eds_unpack.proofs.Listing.{first_found, first_passed, first_none}
+use Rattle.eds_unpack.proofs.Listing.{numbers_are, candidate_is_first, no_candidate}
 use Rattle.eds_unpack.proofs.choice.candidate_under.Goals as goal
 
-pub returns-then-is_candidate : goal.returns-then-is_candidate
-returns-then-is_candidate c = sym (first_found (λ k. not (k == c.args.id.0) && is_candidate c.args.table.now c.args.id.0 k (fields_of c.args.fields.now)) (length c.args.table.now) c.loop-n.n (omega arith) c.if-is_candidate.ensures) ∙ c.loop-n.invariant
+pub returns-then-is_empty : goal.returns-then-is_empty
+returns-then-is_empty c = no_candidate c.args.table.now c.args.id.0 (fields_of c.args.fields.now) c.family_of-family.result.now c.family_of-family.ensures (eqb-true (length c.family_of-family.result.now) 0 (sym c.is_empty.ensures ∙ c.if-is_empty.true))
 
-pub loop-n-preserved : goal.loop-n-preserved
-loop-n-preserved c = sym (first_passed (λ k. not (k == c.args.id.0) && is_candidate c.args.table.now c.args.id.0 k (fields_of c.args.fields.now)) (length c.args.table.now) c.loop-n.n (omega arith) c.if-is_candidate.ensures) ∙ c.loop-n.invariant
+pub first_candidate-requires : goal.first_candidate-requires
+first_candidate-requires c = numbers_are c.as_slice.result.now (chain c.args.table.now c.args.id.0) (c.as_slice.ensures.value ∙ c.chain_of-chain.ensures)
 
 pub returns : goal.returns
-returns c = sym (first_none (λ k. not (k == c.args.id.0) && is_candidate c.args.table.now c.args.id.0 k (fields_of c.args.fields.now)) (length c.args.table.now) c.loop-n.n (omega arith)) ∙ c.loop-n.invariant
+returns c = c.first_candidate.ensures ∙ candidate_is_first c.args.table.now c.args.id.0 (fields_of c.args.fields.now) c.family_of-family.result.now c.family_of-family.ensures

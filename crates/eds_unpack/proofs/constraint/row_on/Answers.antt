@@ -1,4 +1,4 @@
-use Rattle.std.proofs.Common.{◌≡◌, ◌∙◌, ap, sym, arith}
+use Rattle.std.proofs.Common.{◌∙◌, ap, sym, arith}
 use Rattle.std.specs.Prelude.{slice_get}
 use Rattle.eds_unpack.proofs.Paths.{last_row, no_row}
 use Rattle.eds_unpack.proofs.constraint.row_on.Goals as goal

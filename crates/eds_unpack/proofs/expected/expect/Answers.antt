@@ -1,4 +1,4 @@
-use Rattle.std.proofs.Common.{◌≡◌, ap, Ok, Err, cond, true, false}
+use Rattle.std.proofs.Common.{ap, Ok, Err, cond, true, false}
 use Rattle.eds_types.specs.Failing.{fault_here}
 use Rattle.eds_types.specs.Plain.{plain}
 use Rattle.eds_unpack.proofs.Sames.{same_by}

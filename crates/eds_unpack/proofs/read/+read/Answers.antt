@@ -1,4 +1,4 @@
-use Rattle.std.proofs.Common.{◌≡◌, ◌∙◌, ◌+◌, ◌-◌, [], ◌∷◌, ◌++◌, length, map, get_or, take, drop, reverse, true, false, refl, ap, sym, subst, Ok, Err, Some, rules, arith}
+use Rattle.std.proofs.Common.{◌≡◌, ◌∙◌, ◌+◌, ◌-◌, [], ◌∷◌, ◌++◌, length, map, get_or, true, false, refl, ap, sym, subst, Ok, Err, Some, rules, arith}
 use Rattle.std.specs.List.{AllByRecursion}
 use Rattle.std.proofs.lemmas.List.{length-take, map-append}
 use Rattle.eds_base.specs.declared.fault.Reason.TheVariants.{LengthDiffers, NoDerived}
@@ -6,7 +6,7 @@ use Rattle.eds_base.specs.declared.fault.Step.TheVariants as step
 use Rattle.eds_types.specs.Failing.{fault_at}
 use Rattle.eds_bits.specs.Reader.{bits_left}
 use Rattle.eds_types.specs.Fields.{type_by, field_at, value_at}
-use Rattle.eds_types.specs.Plain.{plain, items, fields, plains_of}
+use Rattle.eds_types.specs.Plain.{plain, fields, plains_of}
 use Rattle.eds_types.specs.Reading.{read_within, read_parts, next}
 use Rattle.eds_types.specs.Spelling.{count_in}
 use Rattle.eds_types.specs.Rows.{chain, placed_from}
@@ -155,24 +155,24 @@ read_container-read_chain-requires t c = (
   omega arith,
   (
     chain_is_low c.args.level.now.table.now c.requires.inner.rules (c.args.level.now.depth + 1) c.args.id.0 c.as_slice.result.now c.requires.inner.low (c.as_slice.ensures.value ∙ c.chain_of-chain.ensures),
-    (c.requires.few, (begins c.begin-reached.result (bits_left c.args.reader.now) c.begin-reached.ensures.start c.begin-reached.ensures.octets, c.requires.root)),
+    (c.requires.few, (begins c.in_ok-reached.reached (bits_left c.args.reader.now) c.in_ok-reached.ensures.start c.in_ok-reached.ensures.octets, c.requires.root)),
   ),
 )
 
 pub read_container-returns-in-Err-clause-gives : goal.read_container-returns-in-Err-clause-gives
 read_container-returns-in-Err-clause-gives t c =
-    chain_stops c.args.level.now.table.now (read_within c.args.level.now.depth c.args.level.now.table.now) c.args.id.0 (bits_left c.args.reader.now) (numbers_of c.as_slice.result.now) (progress_of c.begin-reached.result (bits_left c.args.reader.now)) (numbers_are c.as_slice.result.now (chain c.args.level.now.table.now c.args.id.0) (c.as_slice.ensures.value ∙ c.chain_of-chain.ensures)) (is_started c.begin-reached.result (bits_left c.args.reader.now) c.begin-reached.ensures.fields c.begin-reached.ensures.octets c.begin-reached.ensures.start) (stop_at c.read_chain.new.path c.in-Err.stop) c.in-Err.ensures.gives
+    chain_stops c.args.level.now.table.now (read_within c.args.level.now.depth c.args.level.now.table.now) c.args.id.0 (bits_left c.args.reader.now) (numbers_of c.as_slice.result.now) (progress_of c.in_ok-reached.reached (bits_left c.args.reader.now)) (numbers_are c.as_slice.result.now (chain c.args.level.now.table.now c.args.id.0) (c.as_slice.ensures.value ∙ c.chain_of-chain.ensures)) (is_started c.in_ok-reached.reached (bits_left c.args.reader.now) c.in_ok-reached.ensures.fields c.in_ok-reached.ensures.octets c.in_ok-reached.ensures.start) (stop_at c.read_chain.new.path c.in-Err.stop) c.in-Err.ensures.gives
 
 pub read_container-returns-in_ok-values-in-Ok-clause-gives : goal.read_container-returns-in_ok-values-in-Ok-clause-gives
 read_container-returns-in_ok-values-in-Ok-clause-gives t c =
-    container_reads c.args.level.now.table.now (read_within c.args.level.now.depth c.args.level.now.table.now) c.args.id.0 (bits_left c.args.reader.now) (numbers_of c.as_slice.result.now) (progress_of c.begin-reached.result (bits_left c.args.reader.now)) (numbers_are c.as_slice.result.now (chain c.args.level.now.table.now c.args.id.0) (c.as_slice.ensures.value ∙ c.chain_of-chain.ensures)) (is_started c.begin-reached.result (bits_left c.args.reader.now) c.begin-reached.ensures.fields c.begin-reached.ensures.octets c.begin-reached.ensures.start)
+    container_reads c.args.level.now.table.now (read_within c.args.level.now.depth c.args.level.now.table.now) c.args.id.0 (bits_left c.args.reader.now) (numbers_of c.as_slice.result.now) (progress_of c.in_ok-reached.reached (bits_left c.args.reader.now)) (numbers_are c.as_slice.result.now (chain c.args.level.now.table.now c.args.id.0) (c.as_slice.ensures.value ∙ c.chain_of-chain.ensures)) (is_started c.in_ok-reached.reached (bits_left c.args.reader.now) c.in_ok-reached.ensures.fields c.in_ok-reached.ensures.octets c.in_ok-reached.ensures.start)
     (progress_of c.read_chain.new.reached (bits_left c.read_chain.new.reader)) (progress_of c.read_under.new.reached (bits_left c.read_under.new.reader)) (bits_left c.read_chain.new.reader) (bits_left c.read_under.new.reader) c.in-Ok.found.0 c.in_default.ensures.gives c.in-Ok.ensures.gives
     ∙ ap (λ vs. Ok (fields c.in-Ok.found.0 (plains_of vs), bits_left c.read_under.new.reader)) (sym c.in_ok-values-in-Ok.ensures)
     ∙ ap (λ v. Ok (v, bits_left c.read_under.new.reader)) (sym (plain_fields c.in-Ok.found c.in_ok-values-in-Ok.values))
 
 pub read_container-returns-in-Err-read_under-clause-gives : goal.read_container-returns-in-Err-read_under-clause-gives
 read_container-returns-in-Err-read_under-clause-gives t c =
-    end_stops c.args.level.now.table.now (read_within c.args.level.now.depth c.args.level.now.table.now) c.args.id.0 (bits_left c.args.reader.now) (numbers_of c.as_slice.result.now) (progress_of c.begin-reached.result (bits_left c.args.reader.now)) (numbers_are c.as_slice.result.now (chain c.args.level.now.table.now c.args.id.0) (c.as_slice.ensures.value ∙ c.chain_of-chain.ensures)) (is_started c.begin-reached.result (bits_left c.args.reader.now) c.begin-reached.ensures.fields c.begin-reached.ensures.octets c.begin-reached.ensures.start)
+    end_stops c.args.level.now.table.now (read_within c.args.level.now.depth c.args.level.now.table.now) c.args.id.0 (bits_left c.args.reader.now) (numbers_of c.as_slice.result.now) (progress_of c.in_ok-reached.reached (bits_left c.args.reader.now)) (numbers_are c.as_slice.result.now (chain c.args.level.now.table.now c.args.id.0) (c.as_slice.ensures.value ∙ c.chain_of-chain.ensures)) (is_started c.in_ok-reached.reached (bits_left c.args.reader.now) c.in_ok-reached.ensures.fields c.in_ok-reached.ensures.octets c.in_ok-reached.ensures.start)
     (progress_of c.read_chain.new.reached (bits_left c.read_chain.new.reader)) (bits_left c.read_chain.new.reader) (stop_at c.read_under.new.path c.in-Err-read_under.stop) c.in_default.ensures.gives c.in-Err-read_under.ensures.gives
 
 pub read_part-keep_told-requires-clause-number : goal.read_part-keep_told-requires-clause-number

@@ -1,6 +1,4 @@
-use Rattle.std.proofs.Common.{◌≡◌, ◌∙◌, ap, sym, map, Some, option_map, rules}
-use Rattle.std.specs.Option.{option_copied}
-use Rattle.eds_types.specs.Fields.{value_at, fields_in}
+use Rattle.std.proofs.Common.{◌∙◌, ap, sym, map, rules}
 use Rattle.eds_types.specs.Plain.{plain}
 use Rattle.eds_unpack.specs.Seeking.{nth}
 use Rattle.eds_unpack.proofs.FieldsOf.{field_is}

@@ -1,4 +1,4 @@
-use Rattle.std.proofs.Common.{◌≡◌, ap, ◌∙◌, ◌+◌, get_or, drop, arith}
+use Rattle.std.proofs.Common.{ap, ◌∙◌, ◌+◌, get_or, drop, arith}
 use Rattle.eds_base.specs.declared.ids.TypeId.{TypeId}
 use Rattle.eds_types.specs.Rows.{placed_entries, placed_from}
 use Rattle.eds_unpack.specs.Seeking.{length_among, entries_along}

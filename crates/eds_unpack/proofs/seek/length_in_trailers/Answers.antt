@@ -1,4 +1,4 @@
-use Rattle.std.proofs.Common.{◌≡◌, ap, ◌∙◌, ◌-◌, length, get_or, take, reverse, arith}
+use Rattle.std.proofs.Common.{ap, ◌∙◌, ◌-◌, length, get_or, take, reverse, arith}
 use Rattle.std.proofs.lemmas.List.{length-take}
 use Rattle.eds_base.specs.declared.ids.TypeId.{TypeId}
 use Rattle.eds_types.specs.Rows.{placed_trailers, placed_from, entries_of}

@@ -1,4 +1,4 @@
-use Rattle.std.proofs.Common.{◌≡◌, ◌∙◌}
+use Rattle.std.proofs.Common.{◌∙◌}
 use Rattle.eds_unpack.proofs.Seeking.{in_entries, in_trailers}
 use Rattle.eds_unpack.proofs.seek.place_of.Goals as goal
 

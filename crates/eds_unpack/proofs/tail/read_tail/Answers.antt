@@ -1,4 +1,4 @@
-use Rattle.std.proofs.Common.{◌≡◌, ◌∙◌, ◌∷◌, [], ap, sym, subst, Ok, Err}
+use Rattle.std.proofs.Common.{◌∙◌, ◌∷◌, ap, sym, subst, Ok, Err}
 use Rattle.eds_base.specs.declared.fault.Step.TheVariants as step
 use Rattle.eds_base.specs.declared.fault.Reason.TheVariants.{LengthDiffers}
 use Rattle.eds_bits.specs.Reader.{bits_left}

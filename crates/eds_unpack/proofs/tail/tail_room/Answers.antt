@@ -1,4 +1,4 @@
-use Rattle.std.proofs.Common.{◌≡◌, ◌∙◌, ◌+◌, ap, ap₂, sym, rules}
+use Rattle.std.proofs.Common.{◌≡◌, ◌∙◌, ◌+◌, ap, ap₂, rules}
 use Rattle.eds_bits.specs.Bits.{octets_for}
 use Rattle.eds_bits.specs.Reader.{bits_left}
 use Rattle.eds_unpack.specs.Courses.{progress_of}

@@ -1,4 +1,4 @@
-use Rattle.std.proofs.Common.{ap, sym, ◌∙◌, ◌∷◌}
+use Rattle.std.proofs.Common.{ap, ◌∙◌, ◌∷◌}
 use Rattle.eds_types.specs.Rows.{sequence}
 use Rattle.eds_unpack.proofs.Reaches.{length_is, steps_of}
 use Rattle.eds_unpack.proofs.tail.tell_length.Goals as goal

@@ -1,4 +1,4 @@
-use Rattle.std.proofs.Common.{◌≡◌, ◌^◌, ◌≤◌, nat_abs, subst, sym, ◌∙◌}
+use Rattle.std.proofs.Common.{◌^◌, ◌≤◌, nat_abs, subst, sym, ◌∙◌}
 use Rattle.std.proofs.lemmas.Int.{to_z-of_z}
 use mir.Syntax.{w64}
 use Rattle.eds_unpack.proofs.ToldOctets.{told_is, sum_bound}
