@@ -1,9 +1,9 @@
 -- What is still to be started, put onto lists and taken from them.
-use Rattle.std.proofs.Common.{◌≡◌, ◌+◌, ℕ, suc, List, [], ◌∷◌, ◌++◌, length, reverse, Option, Bool, refl, sym, ap, subst, ◌∙◌, arith}
+use Rattle.std.proofs.Common.{◌≡◌, ◌≢◌, ◌+◌, ◌-◌, ◌*◌, ◌<◌, ℕ, suc, List, [], ◌∷◌, ◌++◌, length, reverse, Option, Bool, refl, sym, ap, subst, ◌∙◌, append_assoc, arith}
 use Rattle.std.proofs.lemmas.List.{reverse-append, length-append}
 use Rattle.std.proofs.lemmas.List.Concat.{flat_map-cons}
 use Rattle.std.specs.List.{flat_map}
-use Rattle.std.specs.Prelude.{IfOk, Result, Ok, Err}
+use Rattle.std.specs.Prelude.{IfOk, OnOk, Result, Ok, Err, ◌≤◌}
 use Rattle.eds_base.specs.declared.fail.Memory.{Memory}
 use Rattle.eds_types.specs.Rows.{Table}
 use Rattle.eds_types.specs.Plain.{Plain}
@@ -26,10 +26,13 @@ use Rattle.eds_act.specs.declared.event.Event.{Event}
 use Rattle.eds_act.specs.declared.work.Task.{Task}
 use Rattle.eds_act.specs.declared.work.Frame.{Frame}
 use Rattle.eds_act.specs.declared.work.Step.{Step}
+use Rattle.eds_act.specs.declared.work.Step.TheVariants as step
+use Rattle.eds_act.specs.declared.work.Ran.{Ran}
+use Rattle.eds_act.specs.declared.work.Ran.TheVariants as ran
 use Rattle.eds_act.specs.Does.{World, Item, items_of, Tells, start, goes}
-use Rattle.eds_act.specs.Running.{Leads, world, stored, OnHalted}
+use Rattle.eds_act.specs.Running.{Leads, LeadsTo, world, stored, OnHalted}
 use Rattle.eds_plan.specs.declared.run.Halt.{Halt}
-use Rattle.eds_act.specs.Work.{task_items, tasks_items, frame_items, frames_items, end_of, called_items, StepsTo}
+use Rattle.eds_act.specs.Work.{task_items, tasks_items, frame_items, frames_items, end_of, called_items, ran_end, ran_items, StepsTo, ComesTo, Lessens, CountsOn}
 use Rattle.eds_act.proofs.Leading.{leads_same, leads_on, leads_before, leads_goes, leads_stored, leads_nowhere}
 
 -- one more, which is the next
@@ -89,13 +92,82 @@ module _ (t : Table) (c : ComponentPlan) where
   steps_if_ok (Ok s) i ts l m w v h = leads_before t c (end_of s) (i ∷ []) (called_items s) ts l m w v h
   steps_if_ok (Err e) i ts l m w v h = tt
 
-  -- the next item of a frame, before other frames
-  pub ran_before : (s : Step) (args : List Plain) (i : Item) (ts us : List Task) (all behind is : List Item) (l : ℕ) (e f : Event) → all ≡ i ∷ tasks_items args ts → is ≡ called_items s ++ tasks_items args us → StepsTo t c s args i ts us l e f → Leads t c (end_of s) (all ++ behind) (is ++ behind) l (world e) f.left (world f)
-  ran_before s args i ts us all behind is l e f from to h =
-      let P : List Item → List Item → Type 0 = λ x y. Leads t c (end_of s) (x ++ behind) (y ++ behind) l (world e) f.left (world f) in
-      subst (λ x. P x is) (sym from) (subst (λ y. P (i ∷ tasks_items args ts) y) (sym to) (leads_before t c (end_of s) (i ∷ tasks_items args ts) (called_items s ++ tasks_items args us) behind l f.left (world e) (world f) h))
+  -- items of a frame, before other frames
+  pub ran_before : (s : Step) (args : List Plain) (first : List Item) (ts us : List Task) (all behind is : List Item) (e f : Event) → all ≡ first ++ tasks_items args ts → is ≡ called_items s ++ tasks_items args us → ComesTo t c s args first ts us e f → Leads t c (end_of s) (all ++ behind) (is ++ behind) e.left (world e) f.left (world f)
+  ran_before s args first ts us all behind is e f from to h =
+      let P : List Item → List Item → Type 0 = λ x y. Leads t c (end_of s) (x ++ behind) (y ++ behind) e.left (world e) f.left (world f) in
+      subst (λ x. P x is) (sym from) (subst (λ y. P (first ++ tasks_items args ts) y) (sym to) (leads_before t c (end_of s) (first ++ tasks_items args ts) (called_items s ++ tasks_items args us) behind e.left f.left (world e) (world f) h))
 
   -- the same, where so much was run before
-  pub ran_on : (s : Step) (args : List Plain) (i : Item) (ts us : List Task) (whole here behind is : List Item) (d e f : Event) → Leads t c Done whole (here ++ behind) d.left (world d) e.left (world e) → here ≡ i ∷ tasks_items args ts → is ≡ called_items s ++ tasks_items args us → StepsTo t c s args i ts us e.left e f → Leads t c (end_of s) whole (is ++ behind) d.left (world d) f.left (world f)
-  ran_on s args i ts us whole here behind is d e f before from to h =
-      leads_on t c (end_of s) whole (here ++ behind) (is ++ behind) d.left e.left f.left (world d) (world e) (world f) before (ran_before s args i ts us here behind is e.left e f from to h)
+  pub ran_on : (s : Step) (args : List Plain) (first : List Item) (ts us : List Task) (whole here behind is : List Item) (d e f : Event) → Leads t c Done whole (here ++ behind) d.left (world d) e.left (world e) → here ≡ first ++ tasks_items args ts → is ≡ called_items s ++ tasks_items args us → ComesTo t c s args first ts us e f → Leads t c (end_of s) whole (is ++ behind) d.left (world d) f.left (world f)
+  ran_on s args first ts us whole here behind is d e f before from to h =
+      leads_on t c (end_of s) whole (here ++ behind) (is ++ behind) d.left e.left f.left (world d) (world e) (world f) before (ran_before s args first ts us here behind is e f from to h)
+
+  -- items come to others, and these to what a step leaves
+  comes_on : (s : Step) (args : List Plain) (is js : List Item) (ts us : List Task) (d e f : Event) → LeadsTo t c Done is js d e → ComesTo t c s args js ts us e f → ComesTo t c s args is ts us d f
+  comes_on s args is js ts us d e f one two =
+      leads_on t c (end_of s) (is ++ tasks_items args ts) (js ++ tasks_items args ts) (called_items s ++ tasks_items args us) d.left e.left f.left (world d) (world e) (world f)
+      (leads_before t c Done is js (tasks_items args ts) d.left e.left (world d) (world e) one) two
+
+  pub comes_on_if_ok : (r : Result Step Memory) (args : List Plain) (is js : List Item) (ts us : List Task) (d e f : Event) → LeadsTo t c Done is js d e → IfOk r (λ s. ComesTo t c s args js ts us e f) → IfOk r (λ s. ComesTo t c s args is ts us d f)
+  comes_on_if_ok (Ok s) args is js ts us d e f one two = comes_on s args is js ts us d e f one two
+  comes_on_if_ok (Err m) args is js ts us d e f one two = tt
+
+  -- items that halt, before tasks
+  pub comes_to_halt : (h : Halt) (args : List Plain) (is : List Item) (ts : List Task) (d e : Event) → LeadsTo t c (Halted h) is [] d e → ComesTo t c (step.Halts h) args is ts ts d e
+  comes_to_halt h args is ts d e one = leads_before t c (Halted h) is [] (tasks_items args ts) d.left e.left (world d) (world e) one
+
+  -- items that are done, before tasks
+  pub comes_to_end : (args : List Plain) (is js : List Item) (ts us : List Task) (d e : Event) → LeadsTo t c Done is js d e → js ≡ [] → us ≡ ts → ComesTo t c step.Goes args is ts us d e
+  comes_to_end args is js ts us d e one none same =
+      let P : List Item → List Task → Type 0 = λ x y. Leads t c Done (is ++ tasks_items args ts) (x ++ tasks_items args y) d.left (world d) e.left (world e) in
+      subst (λ x. P x us) none (subst (λ y. P js y) (sym same) (leads_before t c Done is js (tasks_items args ts) d.left e.left (world d) (world e) one))
+
+  -- items that leave some, and others behind these, which are put before the tasks
+  pub comes_behind : (r : Result Step Memory) (args : List Plain) (is rest nexts : List Item) (ts mid us : List Task) (d e f : Event) → LeadsTo t c Done is (rest ++ nexts) d e → tasks_items args mid ≡ nexts ++ tasks_items args ts → IfOk r (λ s. ComesTo t c s args rest mid us e f) → IfOk r (λ s. ComesTo t c s args is ts us d f)
+  comes_behind (Err m) args is rest nexts ts mid us d e f one put two = tt
+  comes_behind (Ok s) args is rest nexts ts mid us d e f one put two =
+      leads_on t c (end_of s) (is ++ tasks_items args ts) ((rest ++ nexts) ++ tasks_items args ts) (called_items s ++ tasks_items args us) d.left e.left f.left (world d) (world e) (world f)
+      (leads_before t c Done is (rest ++ nexts) (tasks_items args ts) d.left e.left (world d) (world e) one)
+      (subst (λ x. Leads t c (end_of s) x (called_items s ++ tasks_items args us) e.left (world e) f.left (world f)) (ap (λ x. rest ++ x) put ∙ sym (append_assoc rest nexts (tasks_items args ts))) two)
+
+  -- the first of statements is counted and started, and the rest put before the tasks
+  pub comes_first : (r : Result Step Memory) (args : List Plain) (is : List Item) (i : Item) (rest : List Item) (ts mid us : List Task) (d e f : Event) → is ≡ i ∷ rest → tasks_items args mid ≡ rest ++ tasks_items args ts → d.left ≢ 0 → e.left ≡ d.left - 1 → world e ≡ world d → IfOk r (λ s. StepsTo t c s args i mid us (suc e.left) e f) → IfOk r (λ s. ComesTo t c s args is ts us d f)
+  comes_first (Err m) args is i rest ts mid us d e f from put some one same h = tt
+  comes_first (Ok s) args is i rest ts mid us d e f from put some one same h =
+      let P : List Item → ℕ → World → Type 0 = λ x l w. Leads t c (end_of s) x (called_items s ++ tasks_items args us) l w f.left (world f) in
+      let count : suc e.left ≡ d.left = omega (arith, some, one) in
+      subst (λ x. P x d.left (world d)) (ap (λ x. i ∷ x) put ∙ ap (λ x. x ++ tasks_items args ts) (sym from))
+      (subst (λ l. P (i ∷ tasks_items args mid) l (world d)) count (subst (λ w. P (i ∷ tasks_items args mid) (suc e.left) w) same h))
+
+  -- a turn, and then the stores of its statements
+  turn_goes_on : (r : Ran) (args : List Plain) (is body nexts : List Item) (d e f : Event) → LeadsTo t c Done is (body ++ nexts) d e → LeadsTo t c (ran_end r) body (ran_items args r) e f → LeadsTo t c (ran_end r) is (ran_items args r ++ nexts) d f
+  turn_goes_on r args is body nexts d e f one two =
+      leads_on t c (ran_end r) is (body ++ nexts) (ran_items args r ++ nexts) d.left e.left f.left (world d) (world e) (world f) one
+      (leads_before t c (ran_end r) body (ran_items args r) nexts e.left f.left (world e) (world f) two)
+
+  pub turn_if_ok : (r : Result Ran Memory) (args : List Plain) (is body nexts : List Item) (d e f : Event) → LeadsTo t c Done is (body ++ nexts) d e → IfOk r (λ x. LeadsTo t c (ran_end x) body (ran_items args x) e f) → IfOk r (λ x. LeadsTo t c (ran_end x) is (ran_items args x ++ nexts) d f)
+  turn_if_ok (Ok x) args is body nexts d e f one two = turn_goes_on x args is body nexts d e f one two
+  turn_if_ok (Err m) args is body nexts d e f one two = tt
+
+-- ---- counts
+
+-- fewer may start than before the turn
+pub counts_if_ok : (r : Result Ran Memory) (before mid now : ℕ) → mid < before → now ≤ mid → IfOk r (λ x. CountsOn x before now)
+counts_if_ok (Err m) before mid now one two = tt
+counts_if_ok (Ok (ran.Until rest)) before mid now one two = omega (arith, one, two)
+counts_if_ok (Ok (ran.Halted h)) before mid now one two = tt
+
+-- a statement or turn was counted, and left two tasks at most
+pub lessens_started : (r : Result Step Memory) (before tasks now left : ℕ) → now < before → OnOk r (left ≤ tasks + 2) → IfOk r (λ s. Lessens s before tasks now left)
+lessens_started (Err m) before tasks now left one two = tt
+lessens_started (Ok step.Goes) before tasks now left one two = omega (arith, one, two)
+lessens_started (Ok (step.Calls f)) before tasks now left one two = one
+lessens_started (Ok (step.Halts h)) before tasks now left one two = tt
+
+-- and before that no fewer tasks may start, or one fewer, where a task was put onto the others
+pub lessens_on : (r : Result Step Memory) (before more mid tasks now left : ℕ) → 2 * mid + tasks ≤ 2 * before + more → mid ≤ before → IfOk r (λ s. Lessens s mid tasks now left) → IfOk r (λ s. Lessens s before more now left)
+lessens_on (Err m) before more mid tasks now left one two h = tt
+lessens_on (Ok step.Goes) before more mid tasks now left one two h = omega (arith, one, h)
+lessens_on (Ok (step.Calls f)) before more mid tasks now left one two h = omega (arith, two, h)
+lessens_on (Ok (step.Halts x)) before more mid tasks now left one two h = tt

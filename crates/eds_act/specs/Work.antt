@@ -1,23 +1,21 @@
 -- What is still to be started, as it stands in memory.
-use Rattle.std.specs.Prelude.{◌≤◌, ◌<◌, ℕ, List, [], ◌∷◌, ◌++◌, map, reverse, Option, Some, None}
+use Rattle.std.specs.Prelude.{◌≤◌, ◌<◌, ◌+◌, ◌*◌, ℕ, List, [], ◌∷◌, ◌++◌, map, reverse}
 use Rattle.std.specs.List.{flat_map}
 use Rattle.eds_types.specs.Plain.{Plain, plain}
-use Rattle.eds_plan.specs.Statements.{stmt, stmts}
+use Rattle.eds_plan.specs.Statements.{stmts}
 use Rattle.eds_act.specs.declared.work.Task.{Task}
 use Rattle.eds_act.specs.declared.work.Task.TheVariants as task
 use Rattle.eds_act.specs.declared.work.Frame.{Frame}
-use Rattle.eds_act.specs.declared.work.Next.{Next}
-use Rattle.eds_act.specs.declared.work.Next.TheVariants as next
+use Rattle.eds_act.specs.declared.work.Ran.{Ran}
+use Rattle.eds_act.specs.declared.work.Ran.TheVariants as ran
 use Rattle.eds_act.specs.declared.work.Step.{Step}
 use Rattle.eds_act.specs.declared.work.Step.TheVariants as step
-use Rattle.std.specs.Prelude.{Result, Ok, Err}
-use Rattle.eds_base.specs.declared.fail.Memory.{Memory}
 use Rattle.eds_types.specs.Rows.{Table}
 use Rattle.eds_plan.specs.declared.component.ComponentPlan.{ComponentPlan}
 use Rattle.eds_act.specs.declared.ending.ActEnd.{ActEnd}
 use Rattle.eds_act.specs.declared.ending.ActEnd.TheVariants.{Done, Halted}
 use Rattle.eds_act.specs.declared.event.Event.{Event}
-use Rattle.eds_act.specs.Does.{Item, statement, items_of}
+use Rattle.eds_act.specs.Does.{Item, items_of}
 use Rattle.eds_act.specs.Running.{turn_item, Leads, world}
 
 -- what a task still does
@@ -29,15 +27,15 @@ task_items args (task.Turn t body) = turn_item t args (stmts body.now) ∷ []
 abbrev pub tasks_items : List Plain → List Task → List Item
 tasks_items args ts = flat_map (task_items args) (reverse ts)
 
--- what is done next
-abbrev pub next_item : List Plain → Next → Item
-next_item args (next.Statement s) = statement args (stmt s.now)
-next_item args (next.Turn t body) = turn_item t args (stmts body.now)
+-- how the stores that statements begin with end
+abbrev pub ran_end : Ran → ActEnd
+ran_end (ran.Until rest) = Done
+ran_end (ran.Halted h) = Halted h
 
--- what was taken, and the tasks that are left; nothing is left where nothing is taken
-abbrev pub taken_items : List Plain → Option Next → List Task → List Item
-taken_items args None ts = []
-taken_items args (Some n) ts = next_item args n ∷ tasks_items args ts
+-- what is behind them
+abbrev pub ran_items : List Plain → Ran → List Item
+ran_items args (ran.Until rest) = items_of args (stmts rest.now)
+ran_items args (ran.Halted h) = []
 
 -- ---- activities that are being run
 
@@ -67,8 +65,17 @@ called_items (step.Halts h) = []
 abbrev pub StepsTo : Table → ComponentPlan → Step → List Plain → Item → List Task → List Task → ℕ → Event → Event → Type 0
 StepsTo t c s args i ts us l e f = Leads t c (end_of s) (i ∷ tasks_items args ts) (called_items s ++ tasks_items args us) l (world e) f.left (world f)
 
+-- items of a frame come to what is called and to the frame's tasks
+abbrev pub ComesTo : Table → ComponentPlan → Step → List Plain → List Item → List Task → List Task → Event → Event → Type 0
+ComesTo t c s args is ts us e f = Leads t c (end_of s) (is ++ tasks_items args ts) (called_items s ++ tasks_items args us) e.left (world e) f.left (world f)
+
+-- each statement and turn that was started left two tasks at most; where an activity is called, fewer may start than before
+abbrev pub Lessens : Step → (before tasks now left : ℕ) → Type 0
+Lessens step.Goes before tasks now left = 2 * now + left ≤ 2 * before + tasks
+Lessens (step.Calls f) before tasks now left = now < before
+Lessens (step.Halts h) before tasks now left = Unit {0}
+
 -- fewer may start than before, unless it halted
-abbrev pub Counts : Step → ℕ → ℕ → Type 0
-Counts step.Goes before now = now < before
-Counts (step.Calls f) before now = now < before
-Counts (step.Halts h) before now = Unit {0}
+abbrev pub CountsOn : Ran → (before now : ℕ) → Type 0
+CountsOn (ran.Until rest) before now = now < before
+CountsOn (ran.Halted h) before now = Unit {0}

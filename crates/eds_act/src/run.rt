@@ -1,24 +1,25 @@
 //! Statements and turns, started one after the other from lists in memory.
 
 ghost use Rattle.eds_plan.specs.declared.component.ComponentPlan.{ComponentPlan as component_plan};
-ghost use Rattle.std.specs.Prelude.{◌≡◌, ◌≤◌, ◌<◌, ◌+◌, ◌*◌, ◌++◌, suc, length, map, Some, [], ◌∷◌, IfOk, slice_get, List, OnOk};
-ghost use Rattle.eds_types.specs.Plain.{Plain, plain};
+ghost use Rattle.std.specs.Prelude.{◌≡◌, ◌≤◌, ◌<◌, ◌+◌, ◌*◌, ◌++◌, ℕ, Bool, suc, length, map, Some, [], ◌∷◌, IfOk, IfSome, IfNone, slice_get, option_map, List, OnOk};
+ghost use Rattle.eds_types.specs.Plain.{Plain, plain, num};
 ghost use Rattle.eds_plan.specs.Statements.{condition, stmt, stmts, stmts_of, assign, calculate, choose, iterate, call as calls};
-ghost use Rattle.eds_act.specs.Does.{statement, items_of};
-ghost use Rattle.eds_act.specs.Running.{LeadsTo, Starts, Fits, HasConforming, OnDone, Leads, world, turn_item, turn_items};
-ghost use Rattle.eds_act.specs.Work.{frame_items, frames_items, tasks_items, next_item, end_of, called_items, StepsTo, Counts};
+ghost use Rattle.eds_plan.specs.Plans.{variable_types};
+ghost use Rattle.eds_act.specs.Does.{Tells, statement, items_of, storing, targeted};
+ghost use Rattle.eds_act.specs.Running.{LeadsTo, Starts, Fits, HasConforming, OnDone, OnHalted, Leads, world, stored, turn_item, turn_items, next_turns};
+ghost use Rattle.eds_act.specs.Work.{frame_items, frames_items, task_items, tasks_items, end_of, called_items, ran_end, ran_items, StepsTo, ComesTo, Lessens, CountsOn};
 
 use crate::ActEnd;
 use crate::arguments::{argument_types, arguments_of};
 use crate::event::Event;
 use crate::guard::holds;
 use crate::math::calculated;
-use crate::operand::{copy_of, number_of};
+use crate::operand::{copy_of, number_of, value_of_number};
 use crate::send::{send_command, send_parameter};
 use crate::store::store;
-use crate::target::targeted;
-use crate::turn::{Turn, next_turn, number_of_turn, this_turn, turn_of};
-use crate::work::{Frame, Next, Step, Task, take_next};
+use crate::target::{is_whole, targeted};
+use crate::turn::{Turn, next_turn, start_turn, this_turn, turn_of};
+use crate::work::{Frame, Ran, Step, Task};
 use eds_base::Memory;
 use eds_plan::{
     Action, Activity, ComponentPlan, Guard, Halt, MathItem, Operand, Statement, Target,
@@ -73,13 +74,13 @@ fn run_frame<'a>(
         arguments,
         mut tasks,
     } = frame;
-    'tasks: while let Some(next) = take_next(&mut tasks)? {
-        match run_next(
+    'tasks: while let Some(task) = tasks.pop() {
+        match run_task(
             alloc,
             table,
             comp,
             arguments.as_slice(),
-            next,
+            task,
             &mut tasks,
             event,
         )? {
@@ -95,13 +96,13 @@ fn run_frame<'a>(
     Ok(ActEnd::Done)
 }
 
-// Counts a statement or turn, and starts it.
-fn run_next<'a>(
+// Runs a task that was taken from the others.
+fn run_task<'a>(
     alloc: Global,
     table: &TypeTable,
     comp: &'a ComponentPlan,
     arguments: &[Value],
-    next: Next<'a>,
+    task: Task<'a>,
     tasks: &mut Vec<Task<'a>>,
     event: &mut Event,
 ) -> Result<Step<'a>, Memory>
@@ -110,16 +111,197 @@ fn run_next<'a>(
     ensures conform { HasConforming table.now comp.now event.new }
     ensures comp { event.new.comp ≡ event.old.comp }
     ensures left { event.new.left ≤ event.old.left }
-    ensures counts { IfOk result (λ s. Counts s event.old.left event.new.left) }
-    ensures runs { IfOk result (λ s. StepsTo table.now comp.now s (map plain arguments.now) (next_item (map plain arguments.now) next.entry) tasks.old.items tasks.new.items event.old.left event.old event.new) }
+    ensures counts { IfOk result (λ s. Lessens s event.old.left (length tasks.old.items) event.new.left (length tasks.new.items)) }
+    ensures runs { IfOk result (λ s. ComesTo table.now comp.now s (map plain arguments.now) (task_items (map plain arguments.now) task.entry) tasks.old.items tasks.new.items event.old event.new) }
 {
-    if event.left == 0 {
-        return Ok(Step::Halts(Halt::Budget));
+    match task {
+        Task::Statements(body) => run_body(alloc, table, comp, arguments, body, tasks, event),
+        Task::Turn(turn, body) => {
+            run_turns(alloc, table, comp, arguments, turn, body, tasks, event)
+        }
     }
-    event.left -= 1;
-    match next {
-        Next::Statement(this) => start(alloc, table, comp, arguments, this, tasks, event),
-        Next::Turn(turn, body) => start_turn(table, comp, arguments, &turn, body, tasks, event),
+}
+
+// Runs statements until one leaves tasks, behind which the rest of them comes.
+fn run_body<'a>(
+    alloc: Global,
+    table: &TypeTable,
+    comp: &'a ComponentPlan,
+    arguments: &[Value],
+    body: &'a [Statement],
+    tasks: &mut Vec<Task<'a>>,
+    event: &mut Event,
+) -> Result<Step<'a>, Memory>
+    requires fits { Fits table.now comp.now }
+    requires conform { HasConforming table.now comp.now event.old }
+    ensures conform { HasConforming table.now comp.now event.new }
+    ensures comp { event.new.comp ≡ event.old.comp }
+    ensures left { event.new.left ≤ event.old.left }
+    ensures counts { IfOk result (λ s. Lessens s event.old.left (length tasks.old.items) event.new.left (length tasks.new.items)) }
+    ensures runs { IfOk result (λ s. ComesTo table.now comp.now s (map plain arguments.now) (items_of (map plain arguments.now) (stmts body.now)) tasks.old.items tasks.new.items event.old event.new) }
+{
+    match run_stores(alloc, table, comp, arguments, body, event)? {
+        Ran::Until(rest) => start_first(alloc, table, comp, arguments, rest, tasks, event),
+        Ran::Halted(halt) => Ok(Step::Halts(halt)),
+    }
+}
+
+// Runs turns of an iteration until none is left, or a statement of one leaves tasks, behind which the rest of them comes.
+fn run_turns<'a>(
+    alloc: Global,
+    table: &TypeTable,
+    comp: &'a ComponentPlan,
+    arguments: &[Value],
+    first: Turn,
+    body: &'a [Statement],
+    tasks: &mut Vec<Task<'a>>,
+    event: &mut Event,
+) -> Result<Step<'a>, Memory>
+    requires fits { Fits table.now comp.now }
+    requires conform { HasConforming table.now comp.now event.old }
+    ensures conform { HasConforming table.now comp.now event.new }
+    ensures comp { event.new.comp ≡ event.old.comp }
+    ensures left { event.new.left ≤ event.old.left }
+    ensures counts { IfOk result (λ s. Lessens s event.old.left (length tasks.old.items) event.new.left (length tasks.new.items)) }
+    ensures runs { IfOk result (λ s. ComesTo table.now comp.now s (map plain arguments.now) (turn_item first (map plain arguments.now) (stmts body.now) ∷ []) tasks.old.items tasks.new.items event.old event.new) }
+{
+    let mut turn = first;
+    'turns: loop {
+        match run_turn(alloc, table, comp, arguments, &turn, body, event)? {
+            Ran::Halted(halt) => return Ok(Step::Halts(halt)),
+            Ran::Until(rest) => {
+                if rest.is_empty() {
+                    match next_turn(&turn) {
+                        None => return Ok(Step::Goes),
+                        Some(next) => turn = next,
+                    }
+                } else {
+                    push_turn(tasks, next_turn(&turn), body)?;
+                    return start_first(alloc, table, comp, arguments, rest, tasks, event);
+                }
+            }
+        }
+    }
+}
+
+// Counts a turn, stores its number, and runs the stores that its statements begin with.
+fn run_turn<'a>(
+    alloc: Global,
+    table: &TypeTable,
+    comp: &ComponentPlan,
+    arguments: &[Value],
+    turn: &Turn,
+    body: &'a [Statement],
+    event: &mut Event,
+) -> Result<Ran<'a>, Memory>
+    requires fits { Fits table.now comp.now }
+    requires conform { HasConforming table.now comp.now event.old }
+    ensures conform { HasConforming table.now comp.now event.new }
+    ensures comp { event.new.comp ≡ event.old.comp }
+    ensures left { event.new.left ≤ event.old.left }
+    ensures counts { IfOk result (λ r. CountsOn r event.old.left event.new.left) }
+    ensures runs { IfOk result (λ r. LeadsTo table.now comp.now (ran_end r) (turn_item turn.now (map plain arguments.now) (stmts body.now) ∷ []) (ran_items (map plain arguments.now) r ++ next_turns turn.now (map plain arguments.now) (stmts body.now)) event.old event.new) }
+{
+    match start_turn(table, comp, turn, event) {
+        ActEnd::Done => run_stores(alloc, table, comp, arguments, body, event),
+        ActEnd::Halted(halt) => Ok(Ran::Halted(halt)),
+    }
+}
+
+// Runs the stores that statements begin with.
+fn run_stores<'a>(
+    alloc: Global,
+    table: &TypeTable,
+    comp: &ComponentPlan,
+    arguments: &[Value],
+    body: &'a [Statement],
+    event: &mut Event,
+) -> Result<Ran<'a>, Memory>
+    requires fits { Fits table.now comp.now }
+    requires conform { HasConforming table.now comp.now event.old }
+    ensures conform { HasConforming table.now comp.now event.new }
+    ensures comp { event.new.comp ≡ event.old.comp }
+    ensures left { event.new.left ≤ event.old.left }
+    ensures runs { IfOk result (λ r. LeadsTo table.now comp.now (ran_end r) (items_of (map plain arguments.now) (stmts body.now)) (ran_items (map plain arguments.now) r) event.old event.new) }
+{
+    let mut rest = body;
+    'stores: while let Some((this, after)) = rest.split_first() {
+        match run_store(alloc, table, comp, arguments, this, event)? {
+            None => return Ok(Ran::Until(rest)),
+            Some(ActEnd::Halted(halt)) => return Ok(Ran::Halted(halt)),
+            Some(ActEnd::Done) => rest = after,
+        }
+    }
+    Ok(Ran::Until(rest))
+}
+
+// Counts a store and does it, None where the statement is of another kind.
+fn run_store(
+    alloc: Global,
+    table: &TypeTable,
+    comp: &ComponentPlan,
+    arguments: &[Value],
+    this: &Statement,
+    event: &mut Event,
+) -> Result<Option<ActEnd>, Memory>
+    requires fits { Fits table.now comp.now }
+    requires conform { HasConforming table.now comp.now event.old }
+    ensures conform { HasConforming table.now comp.now event.new }
+    ensures comp { event.new.comp ≡ event.old.comp }
+    ensures left { event.new.left ≤ event.old.left }
+    ensures runs { IfOk result (λ o. IfSome o (λ e. LeadsTo table.now comp.now e (statement (map plain arguments.now) (stmt this.now) ∷ []) [] event.old event.new)) }
+    ensures other { IfOk result (λ o. IfNone o (event.new ≡ event.old)) }
+{
+    match this {
+        Statement::Assign(target, operand) => {
+            if event.left == 0 {
+                return Ok(Some(ActEnd::Halted(Halt::Budget)));
+            }
+            event.left -= 1;
+            let end = assign(alloc, table, comp, arguments, target, operand, event)?;
+            Ok(Some(end))
+        }
+        Statement::Math(target, items) => {
+            if event.left == 0 {
+                return Ok(Some(ActEnd::Halted(Halt::Budget)));
+            }
+            event.left -= 1;
+            let items = items.as_slice();
+            let end = calculate(alloc, table, comp, arguments, target, items, event)?;
+            Ok(Some(end))
+        }
+        _ => Ok(None),
+    }
+}
+
+// Counts the first of statements and starts it; the rest comes behind what it leaves.
+fn start_first<'a>(
+    alloc: Global,
+    table: &TypeTable,
+    comp: &'a ComponentPlan,
+    arguments: &[Value],
+    body: &'a [Statement],
+    tasks: &mut Vec<Task<'a>>,
+    event: &mut Event,
+) -> Result<Step<'a>, Memory>
+    requires fits { Fits table.now comp.now }
+    requires conform { HasConforming table.now comp.now event.old }
+    ensures conform { HasConforming table.now comp.now event.new }
+    ensures comp { event.new.comp ≡ event.old.comp }
+    ensures left { event.new.left ≤ event.old.left }
+    ensures counts { IfOk result (λ s. Lessens s event.old.left (length tasks.old.items) event.new.left (length tasks.new.items)) }
+    ensures runs { IfOk result (λ s. ComesTo table.now comp.now s (map plain arguments.now) (items_of (map plain arguments.now) (stmts body.now)) tasks.old.items tasks.new.items event.old event.new) }
+{
+    match body.split_first() {
+        None => Ok(Step::Goes),
+        Some((this, rest)) => {
+            if event.left == 0 {
+                return Ok(Step::Halts(Halt::Budget));
+            }
+            event.left -= 1;
+            tasks.push(Task::Statements(rest))?;
+            start(alloc, table, comp, arguments, this, tasks, event)
+        }
     }
 }
 
@@ -150,6 +332,7 @@ fn start<'a>(
     ensures comp { event.new.comp ≡ event.old.comp }
     ensures left { event.new.left ≤ event.old.left }
     ensures runs { IfOk result (λ s. StepsTo table.now comp.now s (map plain arguments.now) (statement (map plain arguments.now) (stmt this.now)) tasks.old.items tasks.new.items (suc event.old.left) event.old event.new) }
+    ensures few { OnOk result (length tasks.new.items ≤ length tasks.old.items + 1) }
 {
     match this {
         Statement::Assign(target, operand) => {
@@ -200,6 +383,7 @@ fn start_choice<'a>(
     event: &Event,
 ) -> Result<Step<'a>, Memory>
     ensures runs { IfOk result (λ s. (c : component_plan) → StepsTo table.now c s (map plain arguments.now) (statement (map plain arguments.now) (choose (condition guard.now) (stmts_of (stmts yes.now)) (stmts_of (stmts no.now)))) tasks.old.items tasks.new.items (suc event.now.left) event.now event.now) }
+    ensures few { OnOk result (length tasks.new.items ≤ length tasks.old.items + 1) }
 {
     if holds(guard, table, arguments, event.variables.as_slice()) {
         tasks.push(Task::Statements(yes))?;
@@ -223,6 +407,7 @@ fn start_iteration<'a>(
     event: &Event,
 ) -> Result<Step<'a>, Memory>
     ensures runs { IfOk result (λ s. (c : component_plan) → StepsTo table.now c s (map plain arguments.now) (statement (map plain arguments.now) (iterate at first.now last.now step.now (stmts_of (stmts body.now)))) tasks.old.items tasks.new.items (suc event.now.left) event.now event.now) }
+    ensures few { OnOk result (length tasks.new.items ≤ length tasks.old.items + 1) }
 {
     let first = number_of(table, arguments, event.variables.as_slice(), first);
     let last = number_of(table, arguments, event.variables.as_slice(), last);
@@ -241,40 +426,13 @@ fn push_turn<'a>(
     turn: Option<Turn>,
     body: &'a [Statement],
 ) -> Result<(), Memory>
-    ensures { OnOk result ((args : List Plain) → tasks_items args tasks.new.items ≡ turn_items turn args (stmts body.now) ++ tasks_items args tasks.old.items) }
+    ensures runs { OnOk result ((args : List Plain) → tasks_items args tasks.new.items ≡ turn_items turn args (stmts body.now) ++ tasks_items args tasks.old.items) }
+    ensures few { OnOk result (length tasks.new.items ≤ length tasks.old.items + 1) }
 {
     if let Some(turn) = turn {
         tasks.push(Task::Turn(turn, body))?;
     }
     Ok(())
-}
-
-// Starts a turn that was counted: its number is stored, and its statements are next, and then the turn after it.
-fn start_turn<'a>(
-    table: &TypeTable,
-    comp: &ComponentPlan,
-    arguments: &[Value],
-    turn: &Turn,
-    body: &'a [Statement],
-    tasks: &mut Vec<Task<'a>>,
-    event: &mut Event,
-) -> Result<Step<'a>, Memory>
-    requires fits { Fits table.now comp.now }
-    requires conform { HasConforming table.now comp.now event.old }
-    ensures conform { HasConforming table.now comp.now event.new }
-    ensures comp { event.new.comp ≡ event.old.comp }
-    ensures left { event.new.left ≤ event.old.left }
-    ensures runs { IfOk result (λ s. StepsTo table.now comp.now s (map plain arguments.now) (turn_item turn.now (map plain arguments.now) (stmts body.now)) tasks.old.items tasks.new.items (suc event.old.left) event.old event.new) }
-{
-    let number = number_of_turn(turn);
-    match store(table, comp, event, turn.at, Some(number)) {
-        ActEnd::Done => {
-            push_turn(tasks, next_turn(turn), body)?;
-            tasks.push(Task::Statements(body))?;
-            Ok(Step::Goes)
-        }
-        ActEnd::Halted(halt) => Ok(Step::Halts(halt)),
-    }
 }
 
 // Another activity is next.
@@ -340,6 +498,30 @@ fn assign(
     ensures left { event.new.left ≤ event.old.left }
     ensures runs { IfOk result (λ e. Starts table.now comp.now e (statement (map plain arguments.now) (assign target.now operand.now)) [] event.old event.new) }
 {
+    let number = number_of(table, arguments, event.variables.as_slice(), operand);
+    match number {
+        Some(_) => store_at(alloc, table, comp, target, number, event),
+        None => assign_other(alloc, table, comp, arguments, target, operand, event),
+    }
+}
+
+// Stores the value of an operand, whatever its kind.
+fn assign_other(
+    alloc: Global,
+    table: &TypeTable,
+    comp: &ComponentPlan,
+    arguments: &[Value],
+    target: &Target,
+    operand: &Operand,
+    event: &mut Event,
+) -> Result<ActEnd, Memory>
+    requires fits { Fits table.now comp.now }
+    requires conform { HasConforming table.now comp.now event.old }
+    ensures conform { HasConforming table.now comp.now event.new }
+    ensures comp { event.new.comp ≡ event.old.comp }
+    ensures left { event.new.left ≤ event.old.left }
+    ensures runs { IfOk result (λ e. Starts table.now comp.now e (statement (map plain arguments.now) (assign target.now operand.now)) [] event.old event.new) }
+{
     let value = copy_of(alloc, table, arguments, event.variables.as_slice(), operand)?;
     let value = targeted(alloc, table, event.variables.as_slice(), target, value)?;
     Ok(store(table, comp, event, target.variable, value))
@@ -363,7 +545,32 @@ fn calculate(
     ensures runs { IfOk result (λ e. Starts table.now comp.now e (statement (map plain arguments.now) (calculate target.now items.now)) [] event.old event.new) }
 {
     let variables = event.variables.as_slice();
-    let value = calculated(table, arguments, variables, items, &mut event.numbers)?;
+    let number = calculated(table, arguments, variables, items, &mut event.numbers)?;
+    store_at(alloc, table, comp, target, number, event)
+}
+
+// Stores a number, where there is one.
+#[inline(always)]
+fn store_at(
+    alloc: Global,
+    table: &TypeTable,
+    comp: &ComponentPlan,
+    target: &Target,
+    number: Option<i128>,
+    event: &mut Event,
+) -> Result<ActEnd, Memory>
+    requires fits { Fits table.now comp.now }
+    requires conform { HasConforming table.now comp.now event.old }
+    ensures conform { HasConforming table.now comp.now event.new }
+    ensures comp { event.new.comp ≡ event.old.comp }
+    ensures left { event.new.left ≡ event.old.left }
+    ensures kept { IfOk result (λ e. OnHalted e (world event.new ≡ world event.old)) }
+    ensures stored { IfOk result (λ e. (packs : ℕ → Plain → Bool) → Tells table.now packs → storing packs (slice_get (variable_types comp.now) target.now.variable) target.now.variable (targeted table.now (map plain event.old.variables.items) target.now (option_map num number)) [] (world event.old) ≡ stored e [] (world event.new)) }
+{
+    let value = value_of_number(number);
+    if is_whole(target, event.variables.as_slice()) {
+        return Ok(store(table, comp, event, target.variable, value));
+    }
     let value = targeted(alloc, table, event.variables.as_slice(), target, value)?;
     Ok(store(table, comp, event, target.variable, value))
 }

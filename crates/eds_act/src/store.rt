@@ -15,6 +15,7 @@ use eds_plan::{ComponentPlan, Halt};
 use eds_types::{TypeTable, Value};
 
 // The type of a variable.
+#[inline(always)]
 fn variable_type(comp: &ComponentPlan, at: u16) -> Option<TypeId>
     ensures { option_map (λ (id : TypeId). id.0) result ≡ slice_get (variable_types comp.now) at }
 {
@@ -34,6 +35,7 @@ pub(crate) fn put(variables: &mut Vec<Value>, at: usize, value: Value)
 }
 
 // Puts a value at a place, where it packs as the type.
+#[inline(always)]
 fn put_as(table: &TypeTable, id: TypeId, variables: &mut Vec<Value>, at: u16, value: Value) -> bool
     requires known { id.0 < length table.now }
     ensures told { (packs : ℕ → Plain → Bool) → Tells table.now packs → packs id.0 (plain value) ≡ result }
@@ -48,6 +50,7 @@ fn put_as(table: &TypeTable, id: TypeId, variables: &mut Vec<Value>, at: u16, va
 }
 
 /// Puts a value into a variable of the component, where it packs.
+#[inline(always)]
 pub(crate) fn store(
     table: &TypeTable,
     comp: &ComponentPlan,

@@ -1,4 +1,4 @@
-use Rattle.std.proofs.Common.{◌≡◌, ◌≤◌, ◌++◌, map}
+use Rattle.std.proofs.Common.{◌≡◌, ◌≤◌, ◌++◌, ◌+◌, ◌*◌, length, map}
 use Rattle.eds_types.specs.Plain.{plain}
 use Rattle.eds_act.specs.declared.ending.ActEnd.TheVariants.{Done}
 use Rattle.eds_act.specs.Running.{LeadsTo, HasConforming}
@@ -15,4 +15,4 @@ invariant-tasks l = record {
 }
 
 abbrev pub decreases-tasks : goal.decreases-tasks
-decreases-tasks l = l.event.left
+decreases-tasks l = 2 * l.event.left + length l.tasks.items
