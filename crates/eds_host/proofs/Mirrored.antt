@@ -106,6 +106,11 @@ set_twice [] c o p = refl
 set_twice (x ∷ xs) zero o p = refl
 set_twice (x ∷ xs) (suc c) o p = ap (λ ys. x ∷ ys) (set_twice xs c o p)
 
+pub set_same : (ds : List (Option (ℕ × ℕ))) (c : ℕ) (o : Option (ℕ × ℕ)) → slice_get ds c ≡ Some o → slice_set ds c o ≡ ds
+set_same [] c o e = refl
+set_same (x ∷ xs) zero o e = let same : x ≡ o = cc in ap (λ y. y ∷ xs) (sym same)
+set_same (x ∷ xs) (suc c) o e = ap (λ ys. x ∷ ys) (set_same xs c o e)
+
 abbrev due : ℕ → ℕ → ℕ → Due
 due t c m = record { moment = t; comp = c; machine = m }
 

@@ -22,7 +22,7 @@ use Rattle.eds_plan.specs.declared.run.End.{End}
 use Rattle.eds_plan.specs.declared.run.Way.{Way}
 use Rattle.eds_act.specs.Does.{Conforms}
 use Rattle.eds_host.specs.Frames.{Begins, FrameIs}
-use Rattle.eds_host.specs.Hosts.{ArgumentsAreClear, FramesHaveOneOutcome, HasClearArguments, PlansReadOne, brought_to}
+use Rattle.eds_host.specs.Hosts.{ArgumentsAreClear, FramesHaveOneOutcome, OnArguments, PlansReadOne, brought_to}
 use Rattle.eds_host.proofs.FrameTypes.{all_at, one_has}
 
 module _ (t : Table) (id : ℕ) (bits : Bits) (one : HasOneOutcome t id bits) where
@@ -59,7 +59,7 @@ frames_have_one_outcome law t id readable bits r s h k = one_frame t id bits (la
 
 -- the one type that a command carries is of the table, and clear
 module _ (t : Table) (plan : List ComponentPlan) (rules : KeepsRules t) (fits : PlanFits t (Conforms t) plan) (clear : ArgumentsAreClear t plan) where
-  command_readable : (way : Way) (m : Option Member) (id : ℕ) → MemberKnown t m → ((x : Member) → m ≡ Some x → HasClearArguments t x) → carried op.Command way m ≡ id ∷ [] → IsReadable t id
+  command_readable : (way : Way) (m : Option Member) (id : ℕ) → MemberKnown t m → ((x : Member) → m ≡ Some x → OnArguments (IsClear t) x) → carried op.Command way m ≡ id ∷ [] → IsReadable t id
   command_readable way None id known free e = absurd cc
   command_readable way (Some (members.Parameter name k read_only)) id known free e = absurd cc
   command_readable way (Some (members.Command name args)) id known free e = record {
@@ -76,9 +76,9 @@ module _ (t : Table) (plan : List ComponentPlan) (rules : KeepsRules t) (fits : 
       go None p q = absurd cc
       go (Some c) p q =
           let own = all_at (ComponentFits t (Conforms t)) plan at.comp.0 c p fits.components in
-          let ends = all_at (λ (x : ComponentPlan). AllByRecursion (λ (y : EndPlan). AllByRecursion (HasClearArguments t) y.instance.members) x.ends) plan at.comp.0 c p clear in
-          let free = all_at (λ (y : EndPlan). AllByRecursion (HasClearArguments t) y.instance.members) c.ends at.face end q ends in
-          command_readable (arriving end.required) (slice_get end.instance.members number) id (own.members at.face number end q) (λ x there. all_at (HasClearArguments t) end.instance.members number x there free) e
+          let ends = all_at (λ (x : ComponentPlan). AllByRecursion (λ (y : EndPlan). AllByRecursion (OnArguments (IsClear t)) y.instance.members) x.ends) plan at.comp.0 c p clear in
+          let free = all_at (λ (y : EndPlan). AllByRecursion (OnArguments (IsClear t)) y.instance.members) c.ends at.face end q ends in
+          command_readable (arriving end.required) (slice_get end.instance.members number) id (own.members at.face number end q) (λ x there. all_at (OnArguments (IsClear t)) end.instance.members number x there free) e
 
 -- the first type is the one
 pub brought_one : (o : Option EndPlan) (e : EndPlan) (number x y : ℕ) (xs : List ℕ) → brought_to o number ≡ x ∷ xs → o ≡ Some e → brought_to (Some e) number ≡ y ∷ [] → brought_to (Some e) number ≡ x ∷ []

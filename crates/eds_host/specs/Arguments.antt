@@ -1,20 +1,18 @@
--- Under which types no two containers overlap, by marks.
-use Rattle.std.specs.Prelude.{◌≡◌, ℕ, List, Bool, true, false, get_or}
-use Rattle.std.specs.List.{AllByRecursion}
-use Rattle.eds_types.specs.Overlap.{IsClear}
+-- Which types are used and no open binaries, by marks.
+use Rattle.std.specs.Prelude.{◌≡◌, ◌<◌, ◌↔◌, ℕ, List, length, Bool, false, get_or, IsTrue, None}
+use Rattle.eds_base.specs.declared.ids.TypeId.{TypeId}
 use Rattle.eds_types.specs.Rows.{Table}
-use Rattle.eds_plan.specs.declared.component.ComponentPlan.{ComponentPlan}
-use Rattle.eds_plan.specs.declared.component.EndPlan.{EndPlan}
-use Rattle.eds_host.specs.Hosts.{HasClearArguments}
+use Rattle.eds_types.specs.Sizes.{open_of}
+use Rattle.eds_host.specs.Hosts.{IsUsedClosed}
 
--- under each type that is marked no two containers overlap
-abbrev pub MarkClear : List Bool → Table → Type 0
-MarkClear marks t = (id : ℕ) → get_or marks id false ≡ true → IsClear t id
+-- a type of the table that is no open binary
+abbrev pub IsClosed : Table → (id : ℕ) → Type 0
+IsClosed t id = (id < length t) × (open_of t id ≡ None)
 
--- it is so for the arguments of all commands of an end
-abbrev pub EndIsClear : Table → EndPlan → Type 0
-EndIsClear t e = AllByRecursion (HasClearArguments t) e.instance.members
+-- a type that is marked
+abbrev pub IsMarked : List Bool → (id : ℕ) → Type 0
+IsMarked marks id = IsTrue (get_or marks id false)
 
--- and for those of all ends of a component
-abbrev pub ComponentIsClear : Table → ComponentPlan → Type 0
-ComponentIsClear t c = AllByRecursion (EndIsClear t) c.ends
+-- just the types of the table that are used and no open binaries are marked
+abbrev pub AreMarks : Table → List TypeId → List Bool → Type 0
+AreMarks t used marks = (id : ℕ) → IsMarked marks id ↔ IsUsedClosed t used id

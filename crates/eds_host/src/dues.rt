@@ -1,6 +1,6 @@
 //! The next moment of each component, with the least at hand.
 
-ghost use Rattle.std.specs.Prelude.{◌≡◌, ◌<◌, ◌^◌, ◌++◌, ◌∷◌, ℕ, [], None, Some, length, slice_get, slice_set, OnOk, IfSome};
+ghost use Rattle.std.specs.Prelude.{◌≡◌, ◌<◌, ◌^◌, ◌++◌, ◌∷◌, ℕ, [], None, Some, length, slice_get, slice_set, OnOk, IfSome, IsTrue};
 ghost use Rattle.eds_host.specs.Mirrors.{first_in};
 ghost use Rattle.eds_host.specs.Mirrors.{when_cmp, machine_of, Mirrors};
 
@@ -75,7 +75,20 @@ fn clear(of: &mut Vec<Option<(u64, u16)>>, order: &mut BTreeMap<When, u16>, comp
     }
 }
 
-#[tactic(auto, using(crate::proofs::Mirrored::set_twice))]
+// Whether the component has this moment, or none where it is none.
+fn is_due(of: &Vec<Option<(u64, u16)>>, comp: u32, due: Option<(u64, u16)>) -> bool
+    requires { comp < length of.now.items }
+    ensures { IsTrue result → slice_get of.now.items comp ≡ Some due }
+{
+    match (of[comp as usize], due) {
+        (None, None) => true,
+        (Some(old), Some(new)) => old.0 == new.0 && old.1 == new.1,
+        _ => false,
+    }
+}
+
+// The moment of the component is set; where it is what it was, nothing is to be done.
+#[tactic(auto, using(crate::proofs::Mirrored::set_twice, crate::proofs::Mirrored::set_same))]
 fn set_due(
     of: &mut Vec<Option<(u64, u16)>>,
     order: &mut BTreeMap<When, u16>,
@@ -87,6 +100,9 @@ fn set_due(
     ensures mirrors { Mirrors order.new of.new.items }
     ensures ok { OnOk result (of.new.items ≡ slice_set of.old.items comp due) }
 {
+    if is_due(&*of, comp, due) {
+        return Ok(());
+    }
     clear(of, order, comp);
     match due {
         None => Ok(()),
