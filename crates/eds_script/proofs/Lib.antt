@@ -10,3 +10,4 @@ mod Printing
 mod Scripting
 mod Utf8
 pub mod Alike
+pub mod Untied

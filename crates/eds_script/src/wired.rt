@@ -1,6 +1,6 @@
 //! The ends that stand in wire lines.
 
-ghost use Rattle.std.specs.Prelude.{◌≡◌, ◌||◌, ℕ, List, IfOk, OnOk, map, string_bytes};
+ghost use Rattle.std.specs.Prelude.{◌≡◌, ◌||◌, [], ℕ, List, IsFalse, IfOk, OnOk, map, string_bytes};
 ghost use Rattle.std.specs.List.{list_any};
 ghost use Rattle.eds_base.specs.Reading.{same};
 ghost use Rattle.eds_script.specs.Meaning.{tied, wired_in};
@@ -34,9 +34,22 @@ fn note_end(alloc: Global, ends: &mut EndSet, end: &str) -> Result<(), Memory>
     Ok(())
 }
 
+// Whether a line begins as a wire line does; one that doesn't ties no ends.
+fn may_tie(line: &[u8]) -> bool
+    ensures { IsFalse result → tied (form_of line.now) ≡ [] }
+{
+    match line {
+        [] => false,
+        [first, ..] => *first == b'w',
+    }
+}
+
 fn note_line(alloc: Global, ends: &mut EndSet, line: &[u8]) -> Result<(), Memory>
     ensures { OnOk result ((q : List ℕ) → is_among (map string_bytes ends.new.keys) q ≡ (list_any (same q) (tied (form_of line.now)) || is_among (map string_bytes ends.old.keys) q)) }
 {
+    if !may_tie(line) {
+        return Ok(());
+    }
     match form(line) {
         Ok(Saying::Ties(lower, upper)) => {
             note_end(alloc, ends, lower)?;
