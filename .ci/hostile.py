@@ -278,6 +278,11 @@ def inputs():
     yield "4,096 types", "check s", {"s": sheet(*([U4[0], {"name": f"T{i}"}] for i in range(4096)))}, (
         0, "accepted types 4096 containers 0 interfaces 0 components 0\n")  # fmt: skip
     yield "4,097 types", "check s", {"s": sheet(*([U4[0], {"name": f"T{i}"}] for i in range(4097)))}, (1, "refused 8 Limit at 0:4099 types\n")
+    many = ["ArrayDataType", {"name": "A", "dataTypeRef": "B"}, ["DimensionList", ["Dimension", {"size": "65536"}]]]
+    crowd = sheet(U4, container("B", entry("b", "U4")), many, *(container(f"O{i}", entry("o", "U4")) for i in range(4000)))
+    items = "[" + ",".join(['{"$type":"P/B","b":5}'] * 65536) + "]"
+    yield "65,536 containers of a number among 4,000 other containers, read", "unpack P/A f s", {"s": crowd, "f": "5" * 65536}, (0, items + "\nbits 262144\n")
+    yield "65,536 containers of a number among 4,000 other containers, packed", "pack P/A v s", {"s": crowd, "v": items}, (0, "5" * 65536 + "\nbits 262144\n")
     yield "a container of 32,767 entries", "check s", {"s": sheet(U4, container("C", *(entry(f"e{i}", "U4") for i in range(32767))))}, (
         0, "accepted types 2 containers 1 interfaces 0 components 0\n")  # fmt: skip
     yield "32,767 entries of one name", "check s", {"s": sheet(U4, container("C", *(entry("e", "U4") for _ in range(32767))))}, (
