@@ -13,6 +13,7 @@ pub mod Ranks
 pub mod Reaches
 pub mod Levels
 pub mod Steps
+pub mod StraightReads
 pub mod Tails
 pub mod Fronts
 pub mod Cutting

@@ -9,5 +9,6 @@ pub mod Programs
 pub mod Holding
 pub mod Packets
 pub mod Splitting
+pub mod Straight
 pub mod Split
 pub mod Pieces

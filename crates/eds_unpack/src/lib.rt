@@ -15,6 +15,7 @@ mod read;
 mod scalar;
 mod seek;
 mod splitter;
+mod straight;
 mod sum;
 mod tail;
 mod told;

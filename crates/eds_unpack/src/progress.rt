@@ -25,7 +25,7 @@ pub(crate) struct Reached<'a> {
 }
 
 /// The most fields that room is made for before any is read.
-const FEW: usize = 32;
+pub(crate) const FEW: usize = 32;
 
 /// Before the first part of a container, with room for so many fields, or for a few where they are more.
 pub(crate) fn begin<'a>(

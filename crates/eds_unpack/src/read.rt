@@ -1,10 +1,11 @@
 //! Reading the value of a type from the bits that are left, by the kind of the type.
 
-ghost use Rattle.std.specs.Prelude.{◌≡◌, ◌+◌, ◌*◌, ◌<◌, ◌≤◌, [], length, map, reverse, slice_get, Some, IfErr, OnOk};
+ghost use Rattle.std.specs.Prelude.{◌≡◌, ◌+◌, ◌*◌, ◌<◌, ◌≤◌, [], length, map, reverse, slice_get, true, Some, IfErr, OnOk};
 ghost use Rattle.std.specs.List.{AllByRecursion};
 ghost use Rattle.eds_bits.specs.Reader.{bits_left};
 ghost use Rattle.eds_types.specs.Plain.{plain};
-ghost use Rattle.eds_types.specs.Reading.{read_within, read_kind, read_items as items_read, read_part as part_read, read_entry as entry_read, read_parts as parts_read, read_chain as chain_read, read_under as under_read, ended, read_to_end};
+ghost use Rattle.eds_base.specs.declared.fault.Step.TheVariants.{Part as ToPart};
+ghost use Rattle.eds_types.specs.Reading.{inside, read_within, read_kind, read_items as items_read, read_part as part_read, read_entry as entry_read, read_parts as parts_read, read_chain as chain_read, read_under as under_read, ended, read_to_end};
 ghost use Rattle.eds_types.specs.Rows.{placed_from};
 ghost use Rattle.eds_base.specs.declared.ids.TypeId.{TypeId as Id};
 ghost use Rattle.eds_unpack.specs.Choices.{numbers_of};
@@ -12,14 +13,16 @@ ghost use Rattle.eds_unpack.specs.Courses.{IsUnderWay, progress_of};
 ghost use Rattle.eds_unpack.specs.Entries.{IsInner, IsLow, PartIsRead, placed};
 ghost use Rattle.eds_unpack.specs.Readers.{Gives, with_path, StopsReading};
 ghost use Rattle.eds_unpack.specs.Seeking.{trailers_along};
+ghost use Rattle.eds_unpack.specs.Straight.{is_straight};
 
 use crate::choice::{Next, next_container};
 use crate::constraint::check_constraints;
 use crate::expected::{expect_check, expect_value};
 use crate::fields::{count_at, values_of};
 use crate::octets::{read_octets, read_string, skip_padding};
-use crate::progress::{Reached, begin, has_told_size, keep_field};
+use crate::progress::{FEW, Reached, begin, has_told_size, keep_field};
 use crate::scalar::{read_integer, read_label, read_truth};
+use crate::straight::{is_straight, type_of};
 use crate::sum::sum_before;
 use crate::tail::{open_bits, read_tail, tell_length};
 use crate::told::keep_told;
@@ -41,6 +44,7 @@ const CHAIN: usize = 16;
 
 /// Reads the value of a type.
 #[cycle(read)]
+#[inline(always)]
 pub(crate) fn read_value(
     level: &Level<'_>,
     id: TypeId,
@@ -130,6 +134,65 @@ fn read_items(
         place = place.checked_add(1).ok_or(Memory)?;
     }
     Ok(values)
+}
+
+/// Reads the value of an entry at a place of a container.
+#[cycle(read)]
+#[inline(always)]
+fn read_field(
+    level: &Level<'_>,
+    container: TypeId,
+    place: u16,
+    id: TypeId,
+    path: &mut Path,
+    reader: &mut BitReader,
+) -> Result<Value, Fail<Reason>>
+    requires inner { IsInner level.now.table.now level.now.depth id.0 }
+    requires few { level.now.depth < 32 }
+    requires root { path.old ≡ [] }
+    ensures gives { Gives (λ v. (plain v, bits_left reader.new)) (with_path path.new result) (inside (ToPart container place) (read_within level.now.depth level.now.table.now id.0 (bits_left reader.old))) }
+    ensures near { length path.new ≤ 2 * level.now.depth + 1 }
+    ensures calm { OnOk result (path.new ≡ []) }
+    ensures reason { IfErr result StopsReading }
+{
+    match read_value(level, id, path, reader) {
+        Ok(value) => Ok(value),
+        Err(stop) => {
+            path.put_first(Step::Part(container, place));
+            Err(stop)
+        }
+    }
+}
+
+/// Reads the fields of a container whose entries are all that it has.
+#[cycle(read)]
+fn read_straight(
+    level: &Level<'_>,
+    container: TypeId,
+    path: &mut Path,
+    reader: &mut BitReader,
+) -> Result<Value, Fail<Reason>>
+    requires inner { IsLow level.now.table.now (level.now.depth + 1) container.0 }
+    requires straight { is_straight level.now.table.now container.0 ≡ true }
+    requires few { level.now.depth < 32 }
+    requires root { path.old ≡ [] }
+    ensures gives { Gives (λ v. (plain v, bits_left reader.new)) (with_path path.new result) (ended level.now.table.now (read_within level.now.depth level.now.table.now) (read_to_end level.now.table.now (read_within level.now.depth level.now.table.now) container.0 (bits_left reader.old))) }
+    ensures near { length path.new ≤ 2 * level.now.depth + 2 }
+    ensures calm { OnOk result (path.new ≡ []) }
+    ensures reason { IfErr result StopsReading }
+{
+    let mut rest = level.table.entries_of(container);
+    let mut values = Vec::with_capacity(level.alloc, rest.len().min(FEW))?;
+    let mut place = 0;
+    while let [part, after @ ..] = rest {
+        match read_field(level, container, place, type_of(part), path, reader) {
+            Ok(value) => values.push(value)?,
+            Err(stop) => return Err(stop),
+        }
+        place += 1;
+        rest = after;
+    }
+    Ok(Value::Fields(container, values))
 }
 
 /// Reads a part of a container, and keeps its value, where it has one.
@@ -402,6 +465,9 @@ fn read_container(
     ensures calm { OnOk result (path.new ≡ []) }
     ensures reason { IfErr result StopsReading }
 {
+    if is_straight(level.table, id) {
+        return read_straight(level, id, path, reader);
+    }
     let entries = level.table.entries_of(id).len();
     let mut reached = begin(level.alloc, entries, reader)?;
     let chain = level.table.chain_of(id);

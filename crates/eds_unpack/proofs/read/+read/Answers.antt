@@ -1,5 +1,5 @@
 use Rattle.std.proofs.Common.{◌≡◌, ◌∙◌, ◌+◌, ◌-◌, [], ◌∷◌, ◌++◌, length, map, get_or, true, false, refl, ap, sym, subst, Ok, Err, Some, rules, arith}
-use Rattle.std.specs.List.{AllByRecursion}
+use Rattle.std.specs.List.{AllByRecursion, list_all}
 use Rattle.std.proofs.lemmas.List.{length-take, map-append}
 use Rattle.eds_base.specs.declared.fault.Reason.TheVariants.{LengthDiffers, NoDerived}
 use Rattle.eds_base.specs.declared.fault.Step.TheVariants as step
@@ -21,6 +21,8 @@ use Rattle.eds_unpack.proofs.OnReads.{value_moves, items_move, pad_moves}
 use Rattle.eds_unpack.proofs.Ranks.{chain_is_low, child_is_low, item_is_read}
 use Rattle.eds_unpack.proofs.Values.{plain_items, plain_fields}
 use Rattle.eds_unpack.proofs.Steps.{stops_as, first_low, last_low, front_low, near_low, near_most, entries_low, trailers_low, under_way, told_way, begins, is_started, plain_part, list_part, fixed_part, check_part, pad_part, length_part, length_number, items_more, trailers_stop, trailers_go, trailers_done, stay_stops, stay_ends, nowhere_is, under_stops, under_goes, under_ends, chain_stops, end_stops, container_reads}
+use Rattle.eds_unpack.specs.Straight.{is_straight_entry}
+use Rattle.eds_unpack.proofs.StraightReads.{IsStraightSoFar, first_part, first_type, first_straight, none_left, straight_begins, straight_stops, straight_goes, straight_done, straight_ends, straight_fails, entries_straight}
 use Rattle.eds_unpack.proofs.read.+read.Goals as goal
 use Rattle.eds_unpack.proofs.read.+read.Goals.{read_under-else-loop-test, read_under-then-loop-test+in-Nowhere}
 
@@ -94,6 +96,56 @@ pub read_part-returns-in_ok-keep_field-in-List-clause-begun : goal.read_part-ret
 read_part-returns-in_ok-keep_field-in-List-clause-begun t c =
     let on = items_move c.args.level.now.depth c.args.level.now.table.now c.in-List.id.0 c.count_at-count.result (bits_left c.args.reader.now) (map plain c.in_ok-items-in-List.items.items) (bits_left c.read_items.new.reader) c.in_ok-items-in-List.ensures.gives in
     under_way c.args.reached.now c.keep_field-in-List.new.reached (bits_left c.args.reader.now) (bits_left c.read_items.new.reader) c.requires.begun on c.keep_field-in-List.ensures.octets c.keep_field-in-List.ensures.start
+
+-- ---- containers that are read straight
+
+pub read_straight-loop-rest-init : goal.read_straight-loop-rest-init
+read_straight-loop-rest-init t c = record {
+  root = c.requires.root;
+  inner = subst (AllByRecursion (PartIsRead c.args.level.now.table.now c.args.level.now.depth)) (sym c.entries_of-rest.ensures.value) (entries_low c.args.level.now.table.now c.args.level.now.depth c.args.container.0 c.requires.inner);
+  straight = ap (list_all (is_straight_entry c.args.level.now.table.now)) c.entries_of-rest.ensures.value ∙ entries_straight c.args.level.now.table.now c.args.container.0 c.requires.straight;
+  many = omega (arith, c.entries_of-rest.ensures.few);
+  read = straight_begins c.args.level.now.table.now (read_within c.args.level.now.depth c.args.level.now.table.now) c.args.container.0 (bits_left c.args.reader.now) c.entries_of-rest.result.now _ c.entries_of-rest.ensures.value (ap (map plain) c.in_ok-values.ensures.items);
+}
+
+pub read_straight-read_field-requires : goal.read_straight-read_field-requires
+read_straight-read_field-requires t c =
+    let first = first_part c.loop-rest.rest.now c.part-item.result _ (omega (arith, c.in-len1-up.len_at_least)) c.part-item.is in
+    let parts = subst (AllByRecursion (PartIsRead c.args.level.now.table.now c.args.level.now.depth)) first c.loop-rest.invariant.inner in
+    let plain_one = first_straight c.args.level.now.table.now c.loop-rest.rest.now _ c.part-item.result first c.loop-rest.invariant.straight in
+    (omega arith, (parts.0.inner c.type_of.result.0 (first_type c.args.level.now.table.now c.part-item.result c.type_of.result.0 plain_one.0 c.type_of.ensures), (c.requires.few, c.loop-rest.invariant.root)))
+
+pub read_straight-returns-in-Err-clause-gives : goal.read_straight-returns-in-Err-clause-gives
+read_straight-returns-in-Err-clause-gives t c =
+    let first = first_part c.loop-rest.rest.now c.part-item.result _ (omega (arith, c.in-len1-up.len_at_least)) c.part-item.is in
+    let plain_one = first_straight c.args.level.now.table.now c.loop-rest.rest.now _ c.part-item.result first c.loop-rest.invariant.straight in
+    let so = subst (λ ps. IsStraightSoFar c.args.level.now.table.now (read_within c.args.level.now.depth c.args.level.now.table.now) c.args.container.0 (bits_left c.args.reader.now) c.loop-rest.place ps (map plain c.loop-rest.values.items) (bits_left c.loop-rest.reader)) first c.loop-rest.invariant.read in
+    straight_fails c.args.level.now.table.now c.args.container.0 c.requires.straight (read_within c.args.level.now.depth c.args.level.now.table.now) (bits_left c.args.reader.now) _
+    (straight_stops c.args.level.now.table.now (read_within c.args.level.now.depth c.args.level.now.table.now) c.args.container.0 (bits_left c.args.reader.now) c.loop-rest.place c.part-item.result _ _ _ so c.type_of.result.0 plain_one.0 (first_type c.args.level.now.table.now c.part-item.result c.type_of.result.0 plain_one.0 c.type_of.ensures) _ c.in-Err.ensures.gives)
+
+pub read_straight-loop-rest-preserved : goal.read_straight-loop-rest-preserved
+read_straight-loop-rest-preserved t c =
+    let first = first_part c.loop-rest.rest.now c.part-item.result _ (omega (arith, c.in-len1-up.len_at_least)) c.part-item.is in
+    let parts = subst (AllByRecursion (PartIsRead c.args.level.now.table.now c.args.level.now.depth)) first c.loop-rest.invariant.inner in
+    let plain_one = first_straight c.args.level.now.table.now c.loop-rest.rest.now _ c.part-item.result first c.loop-rest.invariant.straight in
+    let so = subst (λ ps. IsStraightSoFar c.args.level.now.table.now (read_within c.args.level.now.depth c.args.level.now.table.now) c.args.container.0 (bits_left c.args.reader.now) c.loop-rest.place ps (map plain c.loop-rest.values.items) (bits_left c.loop-rest.reader)) first c.loop-rest.invariant.read in
+    let fewer = ap length first in
+    record {
+      root = c.in-Ok.ensures.calm;
+      inner = parts.1;
+      straight = plain_one.1;
+      many = omega (arith, fewer, c.loop-rest.invariant.many);
+      read = straight_goes c.args.level.now.table.now (read_within c.args.level.now.depth c.args.level.now.table.now) c.args.container.0 (bits_left c.args.reader.now) c.loop-rest.place c.part-item.result _ (map plain c.loop-rest.values.items) (bits_left c.loop-rest.reader) so c.type_of.result.0 plain_one.0 (first_type c.args.level.now.table.now c.part-item.result c.type_of.result.0 plain_one.0 c.type_of.ensures) (plain c.in-Ok.value) (map plain c.push.new.self.items) (bits_left c.read_field.new.reader)
+          (ap (map plain) c.in_ok-push-in-Ok.ensures.items ∙ map-append plain c.loop-rest.values.items (c.in-Ok.value ∷ [])) c.in-Ok.ensures.gives;
+    }
+
+pub read_straight-returns-clause-gives : goal.read_straight-returns-clause-gives
+read_straight-returns-clause-gives t c =
+    let so = c.loop-rest.invariant.read in
+    straight_ends c.args.level.now.table.now c.args.container.0 c.requires.straight (read_within c.args.level.now.depth c.args.level.now.table.now) (bits_left c.args.reader.now) so.s (bits_left c.loop-rest.reader) so.octets
+    (straight_done c.args.level.now.table.now (read_within c.args.level.now.depth c.args.level.now.table.now) c.args.container.0 (bits_left c.args.reader.now) c.loop-rest.place c.loop-rest.rest.now (map plain c.loop-rest.values.items) (bits_left c.loop-rest.reader) so (none_left c.loop-rest.rest.now c.in_default.len_below))
+    ∙ ap (λ us. Ok (fields c.args.container.0 (plains_of us), bits_left c.loop-rest.reader)) so.values
+    ∙ ap (λ v. Ok (v, bits_left c.loop-rest.reader)) (sym (plain_fields c.args.container c.loop-rest.values))
 
 -- ---- chains
 

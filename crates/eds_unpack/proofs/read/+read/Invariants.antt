@@ -1,5 +1,5 @@
-use Rattle.std.proofs.Common.{◌≡◌, ◌+◌, ◌-◌, ◌*◌, ◌≤◌, [], length, map, reverse}
-use Rattle.std.specs.List.{AllByRecursion}
+use Rattle.std.proofs.Common.{◌≡◌, ◌+◌, ◌-◌, ◌*◌, ◌≤◌, [], length, map, reverse, true}
+use Rattle.std.specs.List.{AllByRecursion, list_all}
 use Rattle.eds_base.specs.declared.ids.TypeId.{TypeId}
 use Rattle.eds_bits.specs.Reader.{bits_left}
 use Rattle.eds_types.specs.Plain.{plain}
@@ -9,7 +9,9 @@ use Rattle.eds_unpack.specs.Choices.{numbers_of}
 use Rattle.eds_unpack.specs.Courses.{IsUnderWay, progress_of}
 use Rattle.eds_unpack.specs.Entries.{IsLow, PartIsRead}
 use Rattle.eds_unpack.specs.Seeking.{trailers_along}
+use Rattle.eds_unpack.specs.Straight.{is_straight_entry}
 use Rattle.eds_unpack.proofs.Reaches.{behind_items}
+use Rattle.eds_unpack.proofs.StraightReads.{IsStraightSoFar}
 use Rattle.eds_unpack.proofs.read.+read.Given as goal
 
 abbrev pub decreases-read_value : goal.decreases-read_value
@@ -17,6 +19,12 @@ decreases-read_value l = 16 * l.level.now.depth
 
 abbrev pub decreases-read_items : goal.decreases-read_items
 decreases-read_items l = 16 * l.level.now.depth + 1
+
+abbrev pub decreases-read_field : goal.decreases-read_field
+decreases-read_field l = 16 * l.level.now.depth + 1
+
+abbrev pub decreases-read_straight : goal.decreases-read_straight
+decreases-read_straight l = 16 * l.level.now.depth + 2
 
 abbrev pub decreases-read_part : goal.decreases-read_part
 decreases-read_part l = 16 * l.level.now.depth + 2
@@ -50,6 +58,18 @@ invariant-read_items-loop-id l = record {
 
 abbrev pub decreases-read_items-loop-id : goal.decreases-read_items-loop-id
 decreases-read_items-loop-id l = l.count - l.place
+
+abbrev pub invariant-read_straight-loop-rest : goal.invariant-read_straight-loop-rest
+invariant-read_straight-loop-rest l = record {
+  root : l.path ≡ [];
+  inner : AllByRecursion (PartIsRead l.level.table.now l.level.depth) l.rest;
+  straight : list_all (is_straight_entry l.level.table.now) l.rest ≡ true;
+  many : l.place + length l.rest ≤ 32767;
+  read : IsStraightSoFar l.level.table.now (read_within l.level.depth l.level.table.now) l.container.0 (bits_left l.fn.reader) l.place l.rest (map plain l.values.items) (bits_left l.reader);
+}
+
+abbrev pub decreases-read_straight-loop-rest : goal.decreases-read_straight-loop-rest
+decreases-read_straight-loop-rest l = length l.rest
 
 abbrev pub invariant-read_parts-loop-rest : goal.invariant-read_parts-loop-rest
 invariant-read_parts-loop-rest l = record {
