@@ -1,8 +1,11 @@
 -- Tests that a component passes only where it fits its table. Each has the name of what it tests in small letters.
-use Rattle.std.specs.Prelude.{ℕ, ◌+◌, ◌-◌, ◌^◌, nat_le, nat_lt, ◌==◌, ◌&&◌, ◌||◌, not, pos, List, [], ◌∷◌, ◌++◌, length, Bool, true, false, if◌then◌else◌, Option, Some, None, option_map, slice_get, unwrap_or}
+use Rattle.std.specs.Prelude.{ℕ, ◌+◌, ◌-◌, ◌^◌, nat_le, nat_lt, ◌==◌, ◌&&◌, ◌||◌, not, pos, List, [], ◌∷◌, ◌++◌, length, Bool, true, false, if◌then◌else◌, Option, Some, None, option_map, slice_get, unwrap_or, map}
 use Rattle.std.specs.Ordering.{int_eq}
 use Rattle.eds_base.specs.Reading.{◌>>=◌, only}
 use Rattle.eds_base.specs.declared.ids.TypeId.{TypeId}
+use Rattle.eds_graph.specs.declared.course.Course.{Course}
+use Rattle.eds_graph.specs.declared.course.Course.TheVariants as course
+use Rattle.eds_graph.specs.Ways.{all_courses}
 use Rattle.eds_types.specs.declared.row.Kind.{Kind}
 use Rattle.eds_types.specs.declared.row.Kind.TheVariants as kind
 use Rattle.eds_types.specs.declared.row.Part.{Part}
@@ -462,3 +465,46 @@ module _ (t : Table) (c : ComponentPlan) (ranks : List ℕ) where
   -- a component fits, where calls lead down by these ranks of its activities
   abbrev pub component_fits : Bool
   component_fits = declares_known t c && does_fitting
+
+-- ---- ranks of activities
+
+abbrev mutual
+  -- the activities that a statement calls
+  pub called_by : Stmt → List ℕ
+  called_by (assign x a) = []
+  called_by (calculate x is) = []
+  called_by (choose g a b) = called_in a ++ called_in b
+  called_by (iterate x a b step body) = called_in body
+  called_by (call action) = action.activity ∷ []
+  called_by (send_command end number os name) = []
+  called_by (send_parameter end number o a name) = []
+
+  -- those that some statements call, in their order
+  pub called_in : Stmts → List ℕ
+  called_in done = []
+  called_in (next s ss) = called_by s ++ called_in ss
+
+-- at each activity those that it calls
+abbrev pub call_graph : List Activity → List (List ℕ)
+call_graph as' = map (λ (a : Activity). called_in (stmts_of (stmts a.body))) as'
+
+-- how many activities the longest way of calls goes over, and 0 where it has no end
+abbrev pub rank_by : Course → ℕ
+rank_by course.OnCircle = 0
+rank_by course.ToCircle = 0
+rank_by (course.Ends n) = n
+
+abbrev pub ranks_of : List Activity → List ℕ
+ranks_of as' = map rank_by (all_courses (call_graph as'))
+
+-- ---- plans
+
+module _ (t : Table) where
+  -- each component fits
+  abbrev pub all_fit : List ComponentPlan → Bool
+  all_fit [] = true
+  all_fit (c ∷ cs) = component_fits t c (ranks_of c.activities) && all_fit cs
+
+  -- there are at most 64, and each fits
+  abbrev pub plan_fits : List ComponentPlan → Bool
+  plan_fits cs = nat_le (length cs) 64 && all_fit cs

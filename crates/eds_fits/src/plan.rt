@@ -2,7 +2,7 @@
 
 ghost use Rattle.std.specs.Prelude.{◌≡◌, true, IfOk};
 ghost use Rattle.eds_plan.specs.Fitting.{ComponentFits};
-ghost use Rattle.eds_fits.specs.Deciding.{does_fitting as does_fitting_in, component_fits as component_fits_in};
+ghost use Rattle.eds_fits.specs.Deciding.{does_fitting as does_fitting_in, component_fits as component_fits_in, ranks_of as ranks_in, plan_fits};
 ghost use Rattle.eds_fits.specs.Fitting.{Conforms, ComponentsFit};
 
 use crate::activity::bodies_fit;
@@ -34,7 +34,8 @@ fn component_fits(
     table: &TypeTable,
     component: &ComponentPlan,
 ) -> Result<bool, Memory>
-    ensures { IfOk result (λ b. b ≡ true → ComponentFits table.now (Conforms table.now) component.now) }
+    ensures told { IfOk result (λ b. b ≡ component_fits_in table.now component.now (ranks_in component.now.activities)) }
+    ensures fits { IfOk result (λ b. b ≡ true → ComponentFits table.now (Conforms table.now) component.now) }
 {
     table.keeps_rules();
     let ranks = ranks_of(alloc, component.activities.as_slice())?;
@@ -48,7 +49,8 @@ pub fn components_fit(
     table: &TypeTable,
     components: &[ComponentPlan],
 ) -> Result<bool, Memory>
-    ensures { IfOk result (λ b. b ≡ true → ComponentsFit table.now components.now) }
+    ensures told { IfOk result (λ b. b ≡ plan_fits table.now components.now) }
+    ensures fits { IfOk result (λ b. b ≡ true → ComponentsFit table.now components.now) }
 {
     if components.len() > 64 {
         return Ok(false);
