@@ -3,6 +3,7 @@
 ghost use Rattle.std.specs.Prelude.{◌≡◌, IfOk, IfSome, Ok, Some, codes, map, option_map, slice_get, string_bytes};
 ghost use Rattle.hex.specs.Hex.{encode_lower};
 ghost use Rattle.eds_bits.specs.Bits.{Bits, octets_of};
+ghost use Rattle.eds_plan.specs.Carried.{carried_fields as carried_of};
 ghost use Rattle.eds_plan.specs.Outs.{report, signal};
 ghost use Rattle.eds_plan.specs.Plans.{component_at};
 ghost use Rattle.eds_plan.specs.declared.component.Level.TheVariants as level_is;
@@ -17,14 +18,17 @@ ghost use Rattle.eds_script.specs.Fitting.{AreValuesOf, FitsMember, FitsParamete
 ghost use Rattle.eds_script.specs.Laws.{ArgumentsRead, EventReads, MemberReads, SentReads};
 ghost use Rattle.eds_script.specs.Names.{machine_name as name_of_machine, member_at, member_name as name_in_end, text_of_end as text_in};
 
-use crate::members::carried_fields;
+use crate::members::{carried_fields, goes};
 use crate::names::{component_name, end_at, machine_name, member_in, member_name_at, text_of_end};
 use crate::print::{line_given, line_of, value_at};
 use eds_base::{CompId, Fail, Fault, Memory, Octets, Text, TypeId};
 use eds_pack::pack;
-use eds_plan::{End, EndPlan, FieldList, Halt, Level, Member, Op, Out, Plan, Primitive};
+use eds_plan::{
+    Argument, End, EndPlan, FieldList, Halt, Level, Member, Op, Out, Plan, Primitive, Way,
+};
 use eds_types::{TypeTable, Value, Values};
 use eds_value::{args_to_json, path_text, to_json};
+use itoa::Buffer;
 use std::alloc::{AllocError, Global};
 
 /// When and where something happens: the time in nanoseconds, and the names of an end and its member, or of a component and
@@ -36,15 +40,24 @@ struct Spot<'a> {
     name: &'a str,
 }
 
+/// The octets for which a line has room at first: few lines are longer.
+const LINE_ROOM: usize = 96;
+
 // `T WORD PLACE NAME`.
 #[tactic(auto, unfolding(crate::specs::Events::front))]
 fn front(alloc: Global, spot: &Spot<'_>, word: &str) -> Result<String, AllocError>
     ensures { IfOk result (λ s. string_bytes s ≡ front_text spot.now.time word.now spot.now.place.now spot.now.name.now) }
 {
-    let time = spot.time;
-    let place = spot.place;
-    let name = spot.name;
-    Ok(format!(in alloc; "{time} {word} {place} {name}")?)
+    let mut number = Buffer::new();
+    let mut text = String::with_capacity(alloc, LINE_ROOM)?;
+    text.push_str(number.format(spot.time))?;
+    text.push_str(" ")?;
+    text.push_str(word)?;
+    text.push_str(" ")?;
+    text.push_str(spot.place)?;
+    text.push_str(" ")?;
+    text.push_str(spot.name)?;
+    Ok(text)
 }
 
 // ---- commands
@@ -107,7 +120,7 @@ fn frame_line(
     match value_at(values, 0) {
         Some(value) => {
             let hex = frame_hex(alloc, table, id, value)?;
-            Ok(line_given(alloc, head.as_str(), hex.as_bytes())?)
+            Ok(line_given(head, hex.as_bytes())?)
         }
         None => unreachable!(),
     }
@@ -140,7 +153,7 @@ fn arguments_line(
     let head = front(alloc, spot, "cmd")?;
     let list = listed(alloc, values)?;
     let json = args_to_json(alloc, table, fields, &list)?;
-    Ok(line_given(alloc, head.as_str(), json.as_slice())?)
+    Ok(line_given(head, json.as_slice())?)
 }
 
 // A command: a frame of its one argument, or else the JSON of what it carries.
@@ -190,15 +203,49 @@ fn parameter_line(
 {
     let head = front(alloc, spot, op_word(op))?;
     match value_at(values, 0) {
-        None => Ok(line_of(alloc, head.as_str())?),
+        None => Ok(line_of(head)?),
         Some(value) => {
             let json = to_json(alloc, table, id, value)?;
-            Ok(line_given(alloc, head.as_str(), json.as_slice())?)
+            Ok(line_given(head, json.as_slice())?)
         }
     }
 }
 
 // ---- what is sent
+
+// The type of the one argument of a command, where it goes that way and is written as a frame.
+fn framed_type(level: Level, way: Way, arguments: &[Argument]) -> Option<TypeId>
+    ensures { IfSome result (λ id. type_of_frame level (carried_of way arguments.now) ≡ Some id) }
+{
+    let Level::Subnetwork = level else {
+        return None;
+    };
+    match arguments {
+        [argument] => if goes(way, argument.mode) { Some(argument.id) } else { None },
+        _ => None,
+    }
+}
+
+// A command that is sent: most frames need no list of what the command carries.
+fn sent_command(
+    alloc: Global,
+    table: &TypeTable,
+    spot: &Spot<'_>,
+    level: Level,
+    arguments: &[Argument],
+    primitive: &Primitive,
+) -> Result<Octets, Memory>
+    requires { AreValuesOf table.now (carried_of primitive.now.way arguments.now) (map plain primitive.now.arguments) }
+    ensures line { IfOk result (λ o. IsCommandBy (type_of_frame level (carried_of primitive.now.way arguments.now)) table.now spot.now.time spot.now.place.now spot.now.name.now (carried_of primitive.now.way arguments.now) (map plain primitive.now.arguments) o) }
+    ensures reads { HasNoTypeEntry table.now → IfOk result (λ o. ArgumentsRead (type_of_frame level (carried_of primitive.now.way arguments.now)) table.now (carried_of primitive.now.way arguments.now) (map plain primitive.now.arguments)) }
+{
+    let values = primitive.arguments.as_slice();
+    if let Some(id) = framed_type(level, primitive.way, arguments) {
+        return frame_line(alloc, table, spot, id, values);
+    }
+    let fields = carried_fields(alloc, primitive.way, arguments)?;
+    command_line(alloc, table, spot, level, &fields, values)
+}
 
 // What is sent for a member of an end, which is written so.
 fn member_line(
@@ -214,9 +261,9 @@ fn member_line(
     ensures line { IfOk result (λ o. IsMemberLine table.now time end.now level (signal primitive.now) (Some member.now) o) }
     ensures reads { HasNoTypeEntry table.now → IfOk result (λ o. MemberReads table.now level (signal primitive.now) (Some member.now)) }
 {
-    let values = primitive.arguments.as_slice();
     match member {
         Member::Parameter(name, id, _) => {
+            let values = primitive.arguments.as_slice();
             let spot = Spot {
                 time,
                 place: end,
@@ -230,8 +277,7 @@ fn member_line(
                 place: end,
                 name: name.as_str(),
             };
-            let fields = carried_fields(alloc, primitive.way, arguments.as_slice())?;
-            command_line(alloc, table, &spot, level, &fields, values)
+            sent_command(alloc, table, &spot, level, arguments.as_slice(), primitive)
         }
     }
 }
@@ -283,7 +329,7 @@ fn halt_line(alloc: Global, spot: &Spot<'_>, halt: Halt) -> Result<Octets, Memor
     ensures { IfOk result (λ o. o ≡ line_of_halt spot.now.time spot.now.place.now spot.now.name.now halt) }
 {
     let head = front(alloc, spot, "halt")?;
-    Ok(line_given(alloc, head.as_str(), halt_word(halt).as_bytes())?)
+    Ok(line_given(head, halt_word(halt).as_bytes())?)
 }
 
 fn halted_line(
@@ -317,7 +363,7 @@ fn reject_line(
     let reason = fault.reason.name();
     let path = path.as_str();
     let what = format!(in alloc; "{reason} at {path}")?;
-    Ok(line_given(alloc, head.as_str(), what.as_bytes())?)
+    Ok(line_given(head, what.as_bytes())?)
 }
 
 fn rejected_line(

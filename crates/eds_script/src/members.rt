@@ -91,7 +91,8 @@ pub(crate) fn arriving(required: bool) -> Way
     if required { Way::Up } else { Way::Down }
 }
 
-fn goes(way: Way, mode: Mode) -> bool
+/// Whether an argument of a mode goes that way.
+pub(crate) fn goes(way: Way, mode: Mode) -> bool
     ensures { result ≡ goes_way way mode }
 {
     match way {

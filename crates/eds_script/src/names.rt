@@ -7,7 +7,7 @@ ghost use Rattle.eds_plan.specs.Ends.{end_at as end_in};
 ghost use Rattle.eds_script.specs.Names.{end_name as name_of_end, machine_name as name_of_machine, member_in as member_of, member_name as name_in_end, name_of_member as name_in_member, state_name as name_of_state, text_of_end as text_in, transaction_name as name_of_transaction};
 
 use eds_base::CompId;
-use eds_plan::{ComponentPlan, End, EndPlan, Machine, Member, Plan, end_text};
+use eds_plan::{ComponentPlan, End, EndPlan, Machine, Member, Plan};
 use std::alloc::{AllocError, Global};
 
 // ---- of a component
@@ -128,13 +128,16 @@ fn name_of_face(plan: &Plan, end: End) -> &str
     }
 }
 
+// The octets for which the text of an end has room at first: few are longer.
+const END_ROOM: usize = 64;
+
 /// `Package/Component:end`.
 pub(crate) fn text_of_end(alloc: Global, plan: &Plan, end: End) -> Result<String, AllocError>
     ensures { IfOk result (λ s. string_bytes s ≡ text_in plan.now end) }
 {
-    end_text(
-        alloc,
-        component_name(plan, end.comp),
-        name_of_face(plan, end),
-    )
+    let mut text = String::with_capacity(alloc, END_ROOM)?;
+    text.push_str(component_name(plan, end.comp))?;
+    text.push_str(":")?;
+    text.push_str(name_of_face(plan, end))?;
+    Ok(text)
 }

@@ -1,12 +1,11 @@
 //! Octets put together, and values one by one.
 
-ghost use Rattle.std.specs.Prelude.{◌≡◌, ◌++◌, IfOk, OnOk, codes, map, option_map, slice_get};
+ghost use Rattle.std.specs.Prelude.{◌≡◌, ◌++◌, IfOk, OnOk, codes, map, option_map, slice_get, string_bytes};
 ghost use Rattle.std.specs.Option.{option_copied};
 ghost use Rattle.eds_types.specs.Plain.{plain};
 
 use eds_base::{Memory, Octets};
 use eds_types::Value;
-use std::alloc::Global;
 
 /// Puts octets behind others.
 pub(crate) fn add(text: &mut Vec<u8>, octets: &[u8]) -> Result<(), Memory>
@@ -17,24 +16,22 @@ pub(crate) fn add(text: &mut Vec<u8>, octets: &[u8]) -> Result<(), Memory>
 }
 
 /// A line that ends in what is given behind a space.
-pub(crate) fn line_given(alloc: Global, front: &str, given: &[u8]) -> Result<Octets, Memory>
-    ensures { IfOk result (λ o. o ≡ front.now ++ codes " " ++ given.now ++ codes "\n") }
+pub(crate) fn line_given(front: String, given: &[u8]) -> Result<Octets, Memory>
+    ensures { IfOk result (λ o. o ≡ string_bytes front ++ codes " " ++ given.now ++ codes "\n") }
 {
-    let mut line = Vec::new(alloc);
-    add(&mut line, front.as_bytes())?;
-    add(&mut line, " ".as_bytes())?;
+    let mut line = front.into_bytes();
+    line.push(b' ')?;
     add(&mut line, given)?;
-    add(&mut line, "\n".as_bytes())?;
+    line.push(b'\n')?;
     Ok(Octets::from_vec(line))
 }
 
 /// A line.
-pub(crate) fn line_of(alloc: Global, front: &str) -> Result<Octets, Memory>
-    ensures { IfOk result (λ o. o ≡ front.now ++ codes "\n") }
+pub(crate) fn line_of(front: String) -> Result<Octets, Memory>
+    ensures { IfOk result (λ o. o ≡ string_bytes front ++ codes "\n") }
 {
-    let mut line = Vec::new(alloc);
-    add(&mut line, front.as_bytes())?;
-    add(&mut line, "\n".as_bytes())?;
+    let mut line = front.into_bytes();
+    line.push(b'\n')?;
     Ok(Octets::from_vec(line))
 }
 

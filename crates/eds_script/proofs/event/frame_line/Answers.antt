@@ -17,5 +17,5 @@ returns c =
       bits = hex.0;
       one = one-list c.args.table.now c.args.id (map plain c.args.values.now) (plain c.in-Some.value.now) c.requires (sym c.in-Some.ensures);
       canonical = hex.1;
-      line = c.in_ok-line_given-in-Some.ensures ∙ ap₂ (λ (h : List ℕ) (g : List ℕ). h ++ codes " " ++ g ++ codes "\n") (c.as_str.ensures.value ∙ c.in_ok-head.ensures) (c.as_bytes.ensures.value ∙ hex.2);
+      line = c.in_ok-line_given-in-Some.ensures ∙ ap₂ (λ (h : List ℕ) (g : List ℕ). h ++ codes " " ++ g ++ codes "\n") c.in_ok-head.ensures (c.as_bytes.ensures.value ∙ hex.2);
     }

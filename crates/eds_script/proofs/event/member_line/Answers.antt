@@ -10,9 +10,7 @@ parameter_line-requires c =
     let fits = rw c.in-Parameter.is at c.requires in
     rw c.as_slice-values.ensures fits
 
-pub command_line-requires : goal.command_line-requires
-command_line-requires c =
+pub sent_command-requires : goal.sent_command-requires
+sent_command-requires c =
     let fits = rw c.in-Command.is at c.requires in
-    let fields = c.in_ok-fields-in-Command.ensures ∙ ap (carried_fields c.args.primitive.now.way) c.as_slice.ensures in
-    let carried = subst (λ (fs : List (List ℕ × TypeId)). AreValuesOf c.args.table.now fs (map plain c.args.primitive.now.arguments)) (sym fields) fits.1 in
-    rw c.as_slice-values.ensures carried
+    rw c.as_slice.ensures fits.1

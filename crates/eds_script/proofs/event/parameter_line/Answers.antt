@@ -12,24 +12,24 @@ to_json-requires-clause-known c = (parameter-one c.args.table.now c.args.id c.ar
 pub to_json-requires-clause-one : goal.to_json-requires-clause-one
 to_json-requires-clause-one c = is-of-type c.args.table.now c.args.id.0 (plain c.in-Some.value.now) (parameter-one c.args.table.now c.args.id c.args.op (map plain c.args.values.now) (plain c.in-Some.value.now) c.requires (sym c.in-Some.ensures))
 
-pub returns-in-None-clause-line : goal.returns-in-None-clause-line
-returns-in-None-clause-line c =
+pub returns-in_ok-line_of-in-None-clause-line : goal.returns-in_ok-line_of-in-None-clause-line
+returns-in_ok-line_of-in-None-clause-line c =
     let none : slice_get (map plain c.args.values.now) 0 ≡ None = sym c.in-None.ensures in
-    let head = c.as_str.ensures.value ∙ c.in_ok-head.ensures ∙ ap (λ (w : List ℕ). front c.args.spot.now.time w c.args.spot.now.place.now c.args.spot.now.name.now) c.op_word.ensures in
+    let head = c.in_ok-head.ensures ∙ ap (λ (w : List ℕ). front c.args.spot.now.time w c.args.spot.now.place.now c.args.spot.now.name.now) c.op_word.ensures in
     rw none (c.in_ok-line_of-in-None.ensures ∙ ap (λ (h : List ℕ). h ++ codes "\n") (head ∙ sym (append-nil (front c.args.spot.now.time (op_word c.args.op) c.args.spot.now.place.now c.args.spot.now.name.now))))
 
-pub returns-in-None-clause-reads : goal.returns-in-None-clause-reads
-returns-in-None-clause-reads c bare v e = let none : slice_get (map plain c.args.values.now) 0 ≡ None = sym c.in-None.ensures in cc
+pub returns-in_ok-line_of-in-None-clause-reads : goal.returns-in_ok-line_of-in-None-clause-reads
+returns-in_ok-line_of-in-None-clause-reads c bare v e = let none : slice_get (map plain c.args.values.now) 0 ≡ None = sym c.in-None.ensures in cc
 
-pub returns-clause-line : goal.returns-clause-line
-returns-clause-line c =
+pub returns-in_ok-line_given-in-Some-clause-line : goal.returns-in_ok-line_given-in-Some-clause-line
+returns-in_ok-line_given-in-Some-clause-line c =
     let some : slice_get (map plain c.args.values.now) 0 ≡ Some (plain c.in-Some.value.now) = sym c.in-Some.ensures in
-    let head = c.as_str-in-Some.ensures.value ∙ c.in_ok-head.ensures ∙ ap (λ (w : List ℕ). front c.args.spot.now.time w c.args.spot.now.place.now c.args.spot.now.name.now) c.op_word.ensures in
+    let head = c.in_ok-head.ensures ∙ ap (λ (w : List ℕ). front c.args.spot.now.time w c.args.spot.now.place.now c.args.spot.now.name.now) c.op_word.ensures in
     let json = c.as_slice.ensures ∙ c.in_ok-json-in-Some.ensures.text in
     let together = append_assoc (front c.args.spot.now.time (op_word c.args.op) c.args.spot.now.place.now c.args.spot.now.name.now) (codes " ") (json_text c.args.table.now (plain c.in-Some.value.now)) in
     rw some (c.in_ok-line_given-in-Some.ensures ∙ ap₂ (λ (h : List ℕ) (g : List ℕ). h ++ codes " " ++ g ++ codes "\n") head json ∙ ap (λ (xs : List ℕ). xs ++ codes "\n") together)
 
-pub returns-clause-reads : goal.returns-clause-reads
-returns-clause-reads c bare v e =
+pub returns-in_ok-line_given-in-Some-clause-reads : goal.returns-in_ok-line_given-in-Some-clause-reads
+returns-in_ok-line_given-in-Some-clause-reads c bare v e =
     let is : plain c.in-Some.value.now ≡ v = (let some : slice_get (map plain c.args.values.now) 0 ≡ Some (plain c.in-Some.value.now) = sym c.in-Some.ensures in cc) in
     rw (← is, ← c.in_ok-json-in-Some.ensures.text) (c.in_ok-json-in-Some.ensures.reads_back bare)
