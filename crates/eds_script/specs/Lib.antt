@@ -11,6 +11,7 @@ pub mod Arrivals
 pub mod Meaning
 pub mod Scripts
 pub mod Pairs
+pub mod Places
 pub mod Names
 pub mod Fitting
 pub mod Events

@@ -16,10 +16,13 @@ ghost use Rattle.eds_plan.specs.Ends.{end_at as end_in};
 ghost use Rattle.eds_script.specs.Events.{IsCommandBy, IsEventLine, IsFrameLine, IsMemberLine, IsSentLine, frame_type as type_of_frame, front as front_text, given_line, halt_line as line_of_halt, halt_word as word_of_halt, op_word as word_of_op, parameter_line as line_of_parameter, reject_line as line_of_reject};
 ghost use Rattle.eds_script.specs.Fitting.{AreValuesOf, FitsMember, FitsParameter, FitsPlan, IsOneOf, IsValueOf};
 ghost use Rattle.eds_script.specs.Laws.{ArgumentsRead, EventReads, MemberReads, SentReads};
+ghost use Rattle.eds_script.specs.Places.{place_text};
 ghost use Rattle.eds_script.specs.Names.{machine_name as name_of_machine, member_at, member_name as name_in_end, text_of_end as text_in};
 
 use crate::members::{carried_fields, goes};
-use crate::names::{component_name, end_at, machine_name, member_in, member_name_at, text_of_end};
+use crate::names::{
+    Place, component_name, end_at, machine_name, member_in, member_name_at, place_of_end, push_place,
+};
 use crate::print::{line_given, line_of, value_at};
 use eds_base::{CompId, Fail, Fault, Memory, Octets, Text, TypeId};
 use eds_pack::pack;
@@ -31,12 +34,12 @@ use eds_value::{args_to_json, path_text, to_json};
 use itoa::Buffer;
 use std::alloc::{AllocError, Global};
 
-/// When and where something happens: the time in nanoseconds, and the names of an end and its member, or of a component and
-/// its machine.
+/// When and where something happens: the time in nanoseconds, and an end and the name of its member, or a component and the
+/// name of its machine.
 #[derive(Clone, Copy)]
 struct Spot<'a> {
     time: u64,
-    place: &'a str,
+    place: Place<'a>,
     name: &'a str,
 }
 
@@ -46,7 +49,7 @@ const LINE_ROOM: usize = 96;
 // `T WORD PLACE NAME`.
 #[tactic(auto, unfolding(crate::specs::Events::front))]
 fn front(alloc: Global, spot: &Spot<'_>, word: &str) -> Result<String, AllocError>
-    ensures { IfOk result (λ s. string_bytes s ≡ front_text spot.now.time word.now spot.now.place.now spot.now.name.now) }
+    ensures { IfOk result (λ s. string_bytes s ≡ front_text spot.now.time word.now (place_text spot.now.place) spot.now.name.now) }
 {
     let mut number = Buffer::new();
     let mut text = String::with_capacity(alloc, LINE_ROOM)?;
@@ -54,7 +57,7 @@ fn front(alloc: Global, spot: &Spot<'_>, word: &str) -> Result<String, AllocErro
     text.push_str(" ")?;
     text.push_str(word)?;
     text.push_str(" ")?;
-    text.push_str(spot.place)?;
+    push_place(&mut text, spot.place)?;
     text.push_str(" ")?;
     text.push_str(spot.name)?;
     Ok(text)
@@ -114,7 +117,7 @@ fn frame_line(
     values: &[Value],
 ) -> Result<Octets, Memory>
     requires { IsOneOf table.now id (map plain values.now) }
-    ensures { IfOk result (λ o. IsFrameLine table.now spot.now.time spot.now.place.now spot.now.name.now id (map plain values.now) o) }
+    ensures { IfOk result (λ o. IsFrameLine table.now spot.now.time (place_text spot.now.place) spot.now.name.now id (map plain values.now) o) }
 {
     let head = front(alloc, spot, "frame")?;
     match value_at(values, 0) {
@@ -147,7 +150,7 @@ fn arguments_line(
     values: &[Value],
 ) -> Result<Octets, Memory>
     requires { AreValuesOf table.now fields.now (map plain values.now) }
-    ensures line { IfOk result (λ o. o ≡ given_line spot.now.time (codes "cmd") spot.now.place.now spot.now.name.now (arguments_text table.now fields.now (map plain values.now))) }
+    ensures line { IfOk result (λ o. o ≡ given_line spot.now.time (codes "cmd") (place_text spot.now.place) spot.now.name.now (arguments_text table.now fields.now (map plain values.now))) }
     ensures reads { HasNoTypeEntry table.now → IfOk result (λ o. AreNamed fields.now → arguments_in table.now fields.now (arguments_text table.now fields.now (map plain values.now)) ≡ Ok (map plain values.now)) }
 {
     let head = front(alloc, spot, "cmd")?;
@@ -166,7 +169,7 @@ fn command_line(
     values: &[Value],
 ) -> Result<Octets, Memory>
     requires { AreValuesOf table.now fields.now (map plain values.now) }
-    ensures line { IfOk result (λ o. IsCommandBy (type_of_frame level fields.now) table.now spot.now.time spot.now.place.now spot.now.name.now fields.now (map plain values.now) o) }
+    ensures line { IfOk result (λ o. IsCommandBy (type_of_frame level fields.now) table.now spot.now.time (place_text spot.now.place) spot.now.name.now fields.now (map plain values.now) o) }
     ensures reads { HasNoTypeEntry table.now → IfOk result (λ o. ArgumentsRead (type_of_frame level fields.now) table.now fields.now (map plain values.now)) }
 {
     match frame_type(level, fields.as_slice()) {
@@ -198,7 +201,7 @@ fn parameter_line(
     values: &[Value],
 ) -> Result<Octets, Memory>
     requires { FitsParameter table.now id op (map plain values.now) }
-    ensures line { IfOk result (λ o. o ≡ line_of_parameter table.now spot.now.time spot.now.place.now spot.now.name.now op (map plain values.now)) }
+    ensures line { IfOk result (λ o. o ≡ line_of_parameter table.now spot.now.time (place_text spot.now.place) spot.now.name.now op (map plain values.now)) }
     ensures reads { HasNoTypeEntry table.now → IfOk result (λ o. (v : Plain) → slice_get (map plain values.now) 0 ≡ Some v → value_in table.now id.0 (json_text table.now v) ≡ Ok v) }
 {
     let head = front(alloc, spot, op_word(op))?;
@@ -236,7 +239,7 @@ fn sent_command(
     primitive: &Primitive,
 ) -> Result<Octets, Memory>
     requires { AreValuesOf table.now (carried_of primitive.now.way arguments.now) (map plain primitive.now.arguments) }
-    ensures line { IfOk result (λ o. IsCommandBy (type_of_frame level (carried_of primitive.now.way arguments.now)) table.now spot.now.time spot.now.place.now spot.now.name.now (carried_of primitive.now.way arguments.now) (map plain primitive.now.arguments) o) }
+    ensures line { IfOk result (λ o. IsCommandBy (type_of_frame level (carried_of primitive.now.way arguments.now)) table.now spot.now.time (place_text spot.now.place) spot.now.name.now (carried_of primitive.now.way arguments.now) (map plain primitive.now.arguments) o) }
     ensures reads { HasNoTypeEntry table.now → IfOk result (λ o. ArgumentsRead (type_of_frame level (carried_of primitive.now.way arguments.now)) table.now (carried_of primitive.now.way arguments.now) (map plain primitive.now.arguments)) }
 {
     let values = primitive.arguments.as_slice();
@@ -252,13 +255,13 @@ fn member_line(
     alloc: Global,
     table: &TypeTable,
     time: u64,
-    end: &str,
+    place: Place<'_>,
     level: Level,
     member: &Member,
     primitive: &Primitive,
 ) -> Result<Octets, Memory>
     requires { FitsMember table.now (signal primitive.now) (Some member.now) }
-    ensures line { IfOk result (λ o. IsMemberLine table.now time end.now level (signal primitive.now) (Some member.now) o) }
+    ensures line { IfOk result (λ o. IsMemberLine table.now time (place_text place.entry) level (signal primitive.now) (Some member.now) o) }
     ensures reads { HasNoTypeEntry table.now → IfOk result (λ o. MemberReads table.now level (signal primitive.now) (Some member.now)) }
 {
     match member {
@@ -266,7 +269,7 @@ fn member_line(
             let values = primitive.arguments.as_slice();
             let spot = Spot {
                 time,
-                place: end,
+                place,
                 name: name.as_str(),
             };
             parameter_line(alloc, table, &spot, *id, primitive.op, values)
@@ -274,7 +277,7 @@ fn member_line(
         Member::Command(name, arguments) => {
             let spot = Spot {
                 time,
-                place: end,
+                place,
                 name: name.as_str(),
             };
             sent_command(alloc, table, &spot, level, arguments.as_slice(), primitive)
@@ -305,9 +308,8 @@ fn sent_line(
 {
     match sent_at(plan, primitive) {
         Some((end, member)) => {
-            let text = text_of_end(alloc, plan, primitive.end)?;
-            let level = end.level;
-            member_line(alloc, table, time, text.as_str(), level, member, primitive)
+            let place = place_of_end(plan, primitive.end);
+            member_line(alloc, table, time, place, end.level, member, primitive)
         }
         None => unreachable!(),
     }
@@ -326,7 +328,7 @@ fn halt_word(halt: Halt) -> &'static str
 }
 
 fn halt_line(alloc: Global, spot: &Spot<'_>, halt: Halt) -> Result<Octets, Memory>
-    ensures { IfOk result (λ o. o ≡ line_of_halt spot.now.time spot.now.place.now spot.now.name.now halt) }
+    ensures { IfOk result (λ o. o ≡ line_of_halt spot.now.time (place_text spot.now.place) spot.now.name.now halt) }
 {
     let head = front(alloc, spot, "halt")?;
     Ok(line_given(head, halt_word(halt).as_bytes())?)
@@ -344,7 +346,7 @@ fn halted_line(
 {
     let spot = Spot {
         time,
-        place: component_name(plan, comp),
+        place: Place::Component(component_name(plan, comp)),
         name: machine_name(plan, comp, machine),
     };
     halt_line(alloc, &spot, halt)
@@ -356,7 +358,7 @@ fn reject_line(
     spot: &Spot<'_>,
     fault: &Fault,
 ) -> Result<Octets, Memory>
-    ensures { IfOk result (λ o. o ≡ line_of_reject table.now spot.now.time spot.now.place.now spot.now.name.now fault.now) }
+    ensures { IfOk result (λ o. o ≡ line_of_reject table.now spot.now.time (place_text spot.now.place) spot.now.name.now fault.now) }
 {
     let head = front(alloc, spot, "reject")?;
     let path = path_text(alloc, table, &fault.path)?;
@@ -377,10 +379,9 @@ fn rejected_line(
 ) -> Result<Octets, Memory>
     ensures { IfOk result (λ o. o ≡ line_of_reject table.now time (text_in plan.now end) (name_in_end (end_in plan.now end) member) fault.now) }
 {
-    let text = text_of_end(alloc, plan, end)?;
     let spot = Spot {
         time,
-        place: text.as_str(),
+        place: place_of_end(plan, end),
         name: member_name_at(plan, end, member),
     };
     reject_line(alloc, table, &spot, fault)

@@ -1,14 +1,15 @@
 //! The names by which a plan's things are told, empty where there is no such thing.
 
-ghost use Rattle.std.specs.Prelude.{◌≡◌, IfOk, Some, string_bytes};
+ghost use Rattle.std.specs.Prelude.{◌≡◌, ◌++◌, OnOk, Some, string_bytes};
 ghost use Rattle.std.specs.Option.{option_copied};
 ghost use Rattle.eds_plan.specs.Plans.{component_at};
 ghost use Rattle.eds_plan.specs.Ends.{end_at as end_in};
+ghost use Rattle.eds_script.specs.Places.{place_text};
 ghost use Rattle.eds_script.specs.Names.{end_name as name_of_end, machine_name as name_of_machine, member_in as member_of, member_name as name_in_end, name_of_member as name_in_member, state_name as name_of_state, text_of_end as text_in, transaction_name as name_of_transaction};
 
 use eds_base::CompId;
 use eds_plan::{ComponentPlan, End, EndPlan, Machine, Member, Plan};
-use std::alloc::{AllocError, Global};
+use std::alloc::AllocError;
 
 // ---- of a component
 
@@ -128,16 +129,30 @@ fn name_of_face(plan: &Plan, end: End) -> &str
     }
 }
 
-// The octets for which the text of an end has room at first: few are longer.
-const END_ROOM: usize = 64;
+/// Where something happens: at a component of a name, or at an end of one, which has its own name.
+#[derive(Clone, Copy)]
+pub(crate) enum Place<'a> {
+    Component(&'a str),
+    End(&'a str, &'a str),
+}
 
-/// `Package/Component:end`.
-pub(crate) fn text_of_end(alloc: Global, plan: &Plan, end: End) -> Result<String, AllocError>
-    ensures { IfOk result (λ s. string_bytes s ≡ text_in plan.now end) }
+/// The place of an end.
+pub(crate) fn place_of_end(plan: &Plan, end: End) -> Place<'_>
+    ensures { place_text result ≡ text_in plan.now end }
 {
-    let mut text = String::with_capacity(alloc, END_ROOM)?;
-    text.push_str(component_name(plan, end.comp))?;
-    text.push_str(":")?;
-    text.push_str(name_of_face(plan, end))?;
-    Ok(text)
+    Place::End(component_name(plan, end.comp), name_of_face(plan, end))
+}
+
+/// Puts `Package/Component` or `Package/Component:end` last.
+pub(crate) fn push_place(text: &mut String, place: Place<'_>) -> Result<(), AllocError>
+    ensures { OnOk result (string_bytes text.new ≡ string_bytes text.old ++ place_text place.entry) }
+{
+    match place {
+        Place::Component(name) => text.push_str(name),
+        Place::End(component, end) => {
+            text.push_str(component)?;
+            text.push_str(":")?;
+            text.push_str(end)
+        }
+    }
 }

@@ -3,6 +3,7 @@ use Rattle.std.proofs.lemmas.List.{append_assoc}
 use Rattle.eds_types.specs.Plain.{plain}
 use Rattle.eds_value.specs.JsonOfValue.{json_text}
 use Rattle.eds_script.specs.Events.{front, op_word}
+use Rattle.eds_script.specs.Places.{place_text}
 use Rattle.eds_script.proofs.Printing.{is-of-type, parameter-one}
 use Rattle.eds_script.proofs.event.parameter_line.Goals as goal
 
@@ -15,8 +16,8 @@ to_json-requires-clause-one c = is-of-type c.args.table.now c.args.id.0 (plain c
 pub returns-in_ok-line_of-in-None-clause-line : goal.returns-in_ok-line_of-in-None-clause-line
 returns-in_ok-line_of-in-None-clause-line c =
     let none : slice_get (map plain c.args.values.now) 0 ≡ None = sym c.in-None.ensures in
-    let head = c.in_ok-head.ensures ∙ ap (λ (w : List ℕ). front c.args.spot.now.time w c.args.spot.now.place.now c.args.spot.now.name.now) c.op_word.ensures in
-    rw none (c.in_ok-line_of-in-None.ensures ∙ ap (λ (h : List ℕ). h ++ codes "\n") (head ∙ sym (append-nil (front c.args.spot.now.time (op_word c.args.op) c.args.spot.now.place.now c.args.spot.now.name.now))))
+    let head = c.in_ok-head.ensures ∙ ap (λ (w : List ℕ). front c.args.spot.now.time w (place_text c.args.spot.now.place) c.args.spot.now.name.now) c.op_word.ensures in
+    rw none (c.in_ok-line_of-in-None.ensures ∙ ap (λ (h : List ℕ). h ++ codes "\n") (head ∙ sym (append-nil (front c.args.spot.now.time (op_word c.args.op) (place_text c.args.spot.now.place) c.args.spot.now.name.now))))
 
 pub returns-in_ok-line_of-in-None-clause-reads : goal.returns-in_ok-line_of-in-None-clause-reads
 returns-in_ok-line_of-in-None-clause-reads c bare v e = let none : slice_get (map plain c.args.values.now) 0 ≡ None = sym c.in-None.ensures in cc
@@ -24,9 +25,9 @@ returns-in_ok-line_of-in-None-clause-reads c bare v e = let none : slice_get (ma
 pub returns-in_ok-line_given-in-Some-clause-line : goal.returns-in_ok-line_given-in-Some-clause-line
 returns-in_ok-line_given-in-Some-clause-line c =
     let some : slice_get (map plain c.args.values.now) 0 ≡ Some (plain c.in-Some.value.now) = sym c.in-Some.ensures in
-    let head = c.in_ok-head.ensures ∙ ap (λ (w : List ℕ). front c.args.spot.now.time w c.args.spot.now.place.now c.args.spot.now.name.now) c.op_word.ensures in
+    let head = c.in_ok-head.ensures ∙ ap (λ (w : List ℕ). front c.args.spot.now.time w (place_text c.args.spot.now.place) c.args.spot.now.name.now) c.op_word.ensures in
     let json = c.as_slice.ensures ∙ c.in_ok-json-in-Some.ensures.text in
-    let together = append_assoc (front c.args.spot.now.time (op_word c.args.op) c.args.spot.now.place.now c.args.spot.now.name.now) (codes " ") (json_text c.args.table.now (plain c.in-Some.value.now)) in
+    let together = append_assoc (front c.args.spot.now.time (op_word c.args.op) (place_text c.args.spot.now.place) c.args.spot.now.name.now) (codes " ") (json_text c.args.table.now (plain c.in-Some.value.now)) in
     rw some (c.in_ok-line_given-in-Some.ensures ∙ ap₂ (λ (h : List ℕ) (g : List ℕ). h ++ codes " " ++ g ++ codes "\n") head json ∙ ap (λ (xs : List ℕ). xs ++ codes "\n") together)
 
 pub returns-in_ok-line_given-in-Some-clause-reads : goal.returns-in_ok-line_given-in-Some-clause-reads

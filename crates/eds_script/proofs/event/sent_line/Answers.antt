@@ -2,6 +2,7 @@ use Rattle.std.proofs.Common.{◌≡◌, Some, None, sym, ◌∙◌}
 use Rattle.eds_plan.specs.Outs.{signal}
 use Rattle.eds_plan.specs.Ends.{end_at}
 use Rattle.eds_script.specs.Names.{member_at}
+use Rattle.eds_script.specs.Places.{place_text}
 use Rattle.eds_script.proofs.Printing.{sent-line, sent-reads}
 use Rattle.eds_script.proofs.event.sent_line.Goals as goal
 
@@ -19,7 +20,7 @@ member_line-requires c =
 pub returns-clause-line : goal.returns-clause-line
 returns-clause-line c =
     sent-line c.args.table.now (signal c.args.primitive.now) (end_at c.args.plan.now c.args.primitive.now.end) c.in-Some.end.now c.in-Some.member.now c.member_line.result c.in-Some.ensures.end (sym c.in-Some.ensures.member)
-    c.args.time _ c.as_str.result.now (c.as_str.ensures.value ∙ c.in_ok-text-in-Some.ensures) c.member_line.ensures.line
+    c.args.time _ (place_text c.place_of_end-place.result) c.place_of_end-place.ensures c.member_line.ensures.line
 
 pub returns-clause-reads : goal.returns-clause-reads
 returns-clause-reads c bare =
