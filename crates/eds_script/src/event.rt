@@ -21,7 +21,8 @@ ghost use Rattle.eds_script.specs.Names.{machine_name as name_of_machine, member
 
 use crate::members::{carried_fields, goes};
 use crate::names::{
-    Place, component_name, end_at, machine_name, member_in, member_name_at, place_of_end, push_place,
+    Place, component_name, end_at, machine_name, member_in, member_name_at, place_of_end,
+    push_place,
 };
 use crate::print::{line_given, line_of, value_at};
 use eds_base::{CompId, Fail, Fault, Memory, Octets, Text, TypeId};
@@ -224,7 +225,11 @@ fn framed_type(level: Level, way: Way, arguments: &[Argument]) -> Option<TypeId>
         return None;
     };
     match arguments {
-        [argument] => if goes(way, argument.mode) { Some(argument.id) } else { None },
+        [argument] => if goes(way, argument.mode) {
+            Some(argument.id)
+        } else {
+            None
+        },
         _ => None,
     }
 }

@@ -1,4 +1,4 @@
-use Rattle.std.proofs.Common.{◌≡◌, Some, None, sym, ◌∙◌}
+use Rattle.std.proofs.Common.{◌≡◌, Some, None, sym}
 use Rattle.eds_plan.specs.Outs.{signal}
 use Rattle.eds_plan.specs.Ends.{end_at}
 use Rattle.eds_script.specs.Names.{member_at}
