@@ -1,6 +1,6 @@
 -- Values that fit, and texts that are put together.
 use Rattle.std.proofs.Common.{◌≡◌, ℕ, zero, suc, ◌+◌, ◌*◌, ◌-◌, ◌<◌, ◌≤◌, true, false, nat_le, All, Option, Some, None, List, [], ◌∷◌, ◌++◌, Result, Ok, Err, length, drop, replicate, slice_get, subst, refl, sym, ap, ◌∙◌, arith, lit<, codes}
-use Rattle.std.specs.Prelude.{IfOk}
+use Rattle.std.specs.Prelude.{IfOk, OnOk}
 use Rattle.std.proofs.lemmas.Bool.Decides.{nat_tests}
 use Rattle.std.proofs.lemmas.List.{append_assoc, length-replicate}
 use Rattle.std.proofs.lemmas.List.Elements.{All-head, All-tail}
@@ -50,15 +50,6 @@ one-at t id [] v h e = absurd h
 one-at t id (w ∷ []) v h e = let is : w ≡ v = cc in subst (λ (x : Plain). IsValueOf t id.0 x) is h
 one-at t id (w ∷ x ∷ vs) v h e = absurd h
 
-pub one-list : (t : Table) (id : TypeId) (vs : List Plain) (v : Plain) → IsOneOf t id vs → slice_get vs 0 ≡ Some v → vs ≡ v ∷ []
-one-list t id [] v h e = absurd h
-one-list t id (w ∷ []) v h e = let is : w ≡ v = cc in ap (λ (x : Plain). x ∷ []) is
-one-list t id (w ∷ x ∷ vs) v h e = absurd h
-
-pub one-there : (t : Table) (id : TypeId) (vs : List Plain) → IsOneOf t id vs → slice_get vs 0 ≡ None → ⊥
-one-there t id [] h e = h
-one-there t id (v ∷ vs) h e = cc
-
 -- the value of a parameter
 pub parameter-one : (t : Table) (id : TypeId) (o : Op) (vs : List Plain) (v : Plain) → FitsParameter t id o vs → slice_get vs 0 ≡ Some v → IsValueOf t id.0 v
 parameter-one t id op.Command vs v h e = absurd h
@@ -82,6 +73,11 @@ frame-one t level.Application fs vs id e h = cc
 pub anyway : {A E : Type 0} (r : Result A E) → IfOk r (λ (x : A). Unit {0})
 anyway (Ok x) = tt
 anyway (Err e) = tt
+
+-- what is done comes to more
+pub when-done : {A E P Q : Type 0} (r : Result A E) → (P → Q) → OnOk r P → OnOk r Q
+when-done (Ok x) more h = more h
+when-done (Err e) more h = tt
 
 -- ---- lists side by side
 

@@ -1,6 +1,6 @@
 //! The line of an event.
 
-ghost use Rattle.std.specs.Prelude.{◌≡◌, IfOk, IfSome, Ok, Some, codes, map, option_map, slice_get, string_bytes};
+ghost use Rattle.std.specs.Prelude.{◌≡◌, ◌≤◌, ◌++◌, IfOk, IfSome, Ok, OnOk, Some, codes, length, map, option_map, slice_get, string_bytes};
 ghost use Rattle.hex.specs.Hex.{encode_lower};
 ghost use Rattle.eds_bits.specs.Bits.{Bits, octets_of};
 ghost use Rattle.eds_plan.specs.Carried.{carried_fields as carried_of};
@@ -24,9 +24,9 @@ use crate::names::{
     Place, component_name, end_at, machine_name, member_in, member_name_at, place_of_end,
     push_place,
 };
-use crate::print::{line_given, line_of, value_at};
+use crate::print::{add, line_given, line_of, value_at};
 use eds_base::{CompId, Fail, Fault, Memory, Octets, Text, TypeId};
-use eds_pack::pack;
+use eds_pack::{pack, pack_into};
 use eds_plan::{
     Argument, End, EndPlan, FieldList, Halt, Level, Member, Op, Out, Plan, Primitive, Way,
 };
@@ -109,6 +109,43 @@ fn frame_hex(alloc: Global, table: &TypeTable, id: TypeId, value: &Value) -> Res
     Ok(hex::encode(alloc, octets.as_slice())?)
 }
 
+/// Most frames have no more octets, and take no memory but that of their line.
+const FEW_OCTETS: usize = 64;
+
+// Puts the hex of a few octets last.
+fn add_hex(text: &mut Vec<u8>, octets: &[u8]) -> Result<(), Memory>
+    requires { length octets.now ≤ 64 }
+    ensures { OnOk result (text.new.items ≡ text.old.items ++ encode_lower octets.now) }
+{
+    let mut digits = [0u8; 2 * FEW_OCTETS];
+    let hex = &mut digits[..2 * octets.len()];
+    match hex::encode_to_slice(octets, hex) {
+        Ok(()) => add(text, hex),
+        Err(_) => unreachable!(),
+    }
+}
+
+// Puts the canonical bits of a value in hex last.
+fn add_frame(
+    alloc: Global,
+    text: &mut Vec<u8>,
+    table: &TypeTable,
+    id: TypeId,
+    value: &Value,
+) -> Result<(), Memory>
+    requires { IsValueOf table.now id.0 (plain value.now) }
+    ensures { OnOk result ((b : Bits) × Canon table.now id.0 (plain value.now) b × (text.new.items ≡ text.old.items ++ encode_lower (octets_of b))) }
+{
+    let mut room = [0u8; FEW_OCTETS];
+    match pack_into(table, id, value, &mut room) {
+        Ok(size) => add_hex(text, &room[..size.div_ceil(8) as usize]),
+        Err(_) => {
+            let hex = frame_hex(alloc, table, id, value)?;
+            add(text, hex.as_bytes())
+        }
+    }
+}
+
 // A frame of one value.
 fn frame_line(
     alloc: Global,
@@ -120,14 +157,14 @@ fn frame_line(
     requires { IsOneOf table.now id (map plain values.now) }
     ensures { IfOk result (λ o. IsFrameLine table.now spot.now.time (place_text spot.now.place) spot.now.name.now id (map plain values.now) o) }
 {
-    let head = front(alloc, spot, "frame")?;
-    match value_at(values, 0) {
-        Some(value) => {
-            let hex = frame_hex(alloc, table, id, value)?;
-            Ok(line_given(head, hex.as_bytes())?)
-        }
-        None => unreachable!(),
-    }
+    let Some(value) = value_at(values, 0) else {
+        unreachable!()
+    };
+    let mut line = front(alloc, spot, "frame")?.into_bytes();
+    line.push(b' ')?;
+    add_frame(alloc, &mut line, table, id, value)?;
+    line.push(b'\n')?;
+    Ok(Octets::from_vec(line))
 }
 
 // The same values, as those of an object.
