@@ -4,7 +4,8 @@ use Rattle.std.specs.Prelude.{Result, Ok, Err, option_map, ◌⊎◌}
 use Rattle.std.specs.Str.{bytes_eq}
 use Rattle.std.proofs.lemmas.Slice.Eq.{bytes_eq-Decides}
 use Rattle.eds_base.specs.Reading.{◌>>=◌}
-use Rattle.eds_plan.specs.Ends.{Called, all_ends, called, end_at, end_called, end_named, end_text, ends_from, first_called, or_else}
+use Rattle.eds_types.specs.Rows.{or_else}
+use Rattle.eds_plan.specs.Ends.{Called, all_ends, called, end_at, end_called, end_named, end_text, ends_from, first_called}
 use Rattle.eds_plan.specs.declared.component.ComponentPlan.{ComponentPlan}
 use Rattle.eds_plan.specs.declared.component.EndPlan.{EndPlan}
 use Rattle.eds_plan.specs.declared.run.End.{End}

@@ -28,11 +28,11 @@ fold-append f b (x ∷ xs) ys = fold-append f (f b x) xs ys
 
 -- ---- paths, each once
 
-abbrev Among : List Steps → Steps → Type 0
+abbrev pub Among : List Steps → Steps → Type 0
 Among paths p = HasOne (λ q. q ≡ p) paths
 
 -- a path stands among some, or it doesn't
-either_way : (paths : List Steps) (p : Steps) → Among paths p ⊎ (Among paths p → ⊥)
+pub either_way : (paths : List Steps) (p : Steps) → Among paths p ⊎ (Among paths p → ⊥)
 either_way [] p = inr (λ h. h)
 either_way (q ∷ paths) p = go (same_path q p) refl (either_way paths p)
   where
@@ -45,7 +45,7 @@ abbrev others : Steps → List Steps → List Steps
 others p paths = filter (λ q. not (same_path p q)) paths
 
 -- a further path that is not among them stands last
-once_new : (paths : List Steps) (p : Steps) → (Among paths p → ⊥) → each_once (paths ++ p ∷ []) ≡ each_once paths ++ p ∷ []
+pub once_new : (paths : List Steps) (p : Steps) → (Among paths p → ⊥) → each_once (paths ++ p ∷ []) ≡ each_once paths ++ p ∷ []
 once_new [] p new = refl
 once_new (q ∷ paths) p new =
     ap (λ ps. q ∷ others q ps) (once_new paths p (λ h. new (inr h)))
@@ -56,7 +56,7 @@ once_new (q ∷ paths) p new =
     go false e = refl
 
 -- one that is among them changes nothing
-once_old : (paths : List Steps) (p : Steps) → Among paths p → each_once (paths ++ p ∷ []) ≡ each_once paths
+pub once_old : (paths : List Steps) (p : Steps) → Among paths p → each_once (paths ++ p ∷ []) ≡ each_once paths
 once_old [] p h = absurd h
 once_old (q ∷ paths) p h = elim (either_way paths p) [ inl k ↦ ap (λ ps. q ∷ others q ps) (once_old paths p k) | inr k ↦ first k h ]
   where

@@ -5,7 +5,7 @@ use Rattle.std.proofs.lemmas.Bool.{eqb-true, eq-eqb, ne_eqb, both_ways}
 use Rattle.std.proofs.lemmas.List.{take_more, length-map, length-append, map-append}
 use Rattle.eds_base.specs.declared.ids.TypeId.{TypeId}
 use Rattle.eds_bits.specs.Lists.{Has}
-use Rattle.eds_types.specs.Rows.{Table, id_of, chain, list_has, entries_of}
+use Rattle.eds_types.specs.Rows.{Table, id_of, chain, list_has, entries_of, numbers_of}
 use Rattle.eds_types.specs.Fields.{StartsInEntries}
 use Rattle.eds_types.specs.Reading.{starts_above}
 use Rattle.eds_types.specs.declared.row.Part.{Part}
@@ -13,7 +13,7 @@ use Rattle.eds_types.specs.Rules.{KeepsRules}
 use Rattle.eds_types.proofs.ChainLaws.{chain_end, under_is}
 use Rattle.eds_types.proofs.ReadingTests.{has_from, has_in, starts_from, starts_in}
 use Rattle.eds_types.proofs.RuleFacts.{table_of}
-use Rattle.eds_overlap.specs.Pairs.{shared, ArePartedAt, numbers_of, has_used, Named, IsReadThrough}
+use Rattle.eds_overlap.specs.Pairs.{shared, ArePartedAt, has_used, Named, IsReadThrough}
 
 -- two lists go on differently after n items
 record Split (one other : List TypeId) (n : ℕ) : Type 0 where

@@ -7,7 +7,7 @@ use Rattle.eds_base.specs.Spans.{IsWithin}
 use Rattle.eds_bits.specs.Lists.{Has, HasOne}
 use Rattle.eds_types.specs.declared.row.Constraint.{Constraint}
 use Rattle.eds_types.specs.declared.sets.PathSet.{PathSet}
-use Rattle.eds_types.specs.Rows.{Table, id_of, constraints_of, chain, list_has}
+use Rattle.eds_types.specs.Rows.{Table, id_of, numbers_of, constraints_of, chain, list_has}
 use Rattle.eds_types.specs.Fields.{StartsInEntries, IsAtOrUnder, constraints_along, type_on}
 use Rattle.eds_types.specs.Domains.{int_domain}
 use Rattle.eds_types.specs.Rules.{AreDistinct}
@@ -114,10 +114,6 @@ pub record Meets (t : Table) (Used : ℕ → Type 0) (x : ℕ) (ours theirs : Li
   pub ours_agree : AllByRecursion (Agrees t x theirs) ours
   pub theirs_agree : AllByRecursion (Agrees t x ours) theirs
   pub read : IsReadThrough t Used x
-
--- the numbers of ids
-abbrev pub numbers_of : List TypeId → List ℕ
-numbers_of ids = map (λ (id : TypeId). id.0) ids
 
 -- whether some of the ids is among the used ones
 abbrev pub has_used : List TypeId → List TypeId → Bool

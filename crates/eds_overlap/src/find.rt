@@ -3,12 +3,11 @@
 ghost use Rattle.std.specs.Prelude.{◌≡◌, ◌≤◌, ◌∷◌, [], ℕ, false, ℤ, ◌≤ℤ◌, ◌<◌, ◌↔◌, length, map, slice_get, Some, IsTrue, IfOk, IfSome, IfNone};
 ghost use Rattle.std.specs.List.{AllByRecursion};
 ghost use Rattle.eds_base.specs.Spans.{IsWithin};
-ghost use Rattle.eds_types.specs.Rows.{list_has};
 ghost use Rattle.eds_types.specs.Reading.{starts_above};
 ghost use Rattle.eds_types.specs.Overlap.{Overlapping};
 ghost use Rattle.eds_overlap.specs.FirstOverlap.{first_overlap};
 ghost use Rattle.eds_overlap.specs.Index.{AreListed, AreMetWith, IsReached, MayMeet};
-ghost use Rattle.eds_overlap.specs.Pairs.{AllSets, Meets, Agrees, ArePartedAt, IsReadThrough, Named, IsWithinOn, IsFirstPair, IsFirstWith, set_on, shared, numbers_of, has_used};
+ghost use Rattle.eds_overlap.specs.Pairs.{AllSets, Meets, Agrees, ArePartedAt, IsReadThrough, Named, IsWithinOn, IsFirstPair, IsFirstWith, set_on, shared, has_used};
 
 use crate::common::{Common, common_numbers};
 use crate::index::{
@@ -17,7 +16,7 @@ use crate::index::{
 use crate::paths::find_set;
 use crate::sets::solution_sets;
 use eds_base::{Items, Memory, TypeId};
-use eds_types::{PathSet, Sets, TypeTable, Used};
+use eds_types::{PathSet, Sets, TypeTable, Used, is_among};
 use std::alloc::Global;
 
 /// Two concrete containers that overlap, the nearest base that both have, and for each path that is judged the least number
@@ -106,20 +105,6 @@ fn parting(table: &TypeTable, first: TypeId, second: TypeId) -> Option<TypeId>
     }
 }
 
-// Whether a type is among some.
-fn has_id(ids: &[TypeId], id: TypeId) -> bool
-    ensures { result ≡ list_has (numbers_of ids.now) id.0 }
-{
-    let mut rest = ids;
-    while let [one, after @ ..] = rest {
-        if one.0 == id.0 {
-            return true;
-        }
-        rest = after;
-    }
-    false
-}
-
 // Whether a type is used or derives from a used one.
 fn is_read_through(table: &TypeTable, used: &[TypeId], id: TypeId) -> bool
     ensures { IsTrue result ↔ IsReadThrough table.now (Named used.now) id.0 }
@@ -134,7 +119,7 @@ fn has_used_one(used: &[TypeId], ids: &[TypeId]) -> bool
 {
     let mut rest = ids;
     while let [one, after @ ..] = rest {
-        if has_id(used, *one) {
+        if is_among(used, *one) {
             return true;
         }
         rest = after;
@@ -150,7 +135,7 @@ pub(crate) fn starts_in(table: &TypeTable, id: TypeId, path: &[(TypeId, u16)]) -
         return false;
     };
     let chain = table.chain_of(id);
-    has_id(chain.as_slice(), step.0) && (step.1 as usize) < table.entries_of(step.0).len()
+    is_among(chain.as_slice(), step.0) && (step.1 as usize) < table.entries_of(step.0).len()
 }
 
 // The least number of a path's set that the set on that path among others has too, if there is one.

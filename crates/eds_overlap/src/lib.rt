@@ -13,4 +13,5 @@ mod texts;
 pub use common::Common;
 pub use find::{Overlap, find_overlap};
 pub use note::overlap_refusal;
-pub use sets::solution_sets;
+pub use paths::is_same;
+pub use sets::{copied_path, solution_sets};

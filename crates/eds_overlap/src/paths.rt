@@ -7,8 +7,8 @@ ghost use Rattle.eds_overlap.specs.Pairs.{same_path, set_on};
 use eds_base::{Spans, TypeId};
 use eds_types::PathSet;
 
-/// Whether two paths are one.
-pub(crate) fn is_same(one: &[(TypeId, u16)], other: &[(TypeId, u16)]) -> bool
+/// Whether two paths are one: as many steps, each with the same container and the same position.
+pub fn is_same(one: &[(TypeId, u16)], other: &[(TypeId, u16)]) -> bool
     ensures { result ≡ same_path one.now other.now }
 {
     let mut ours = one;

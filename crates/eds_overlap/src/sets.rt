@@ -155,7 +155,7 @@ fn met_set(
 }
 
 /// A copy of a path.
-pub(crate) fn copied_path(alloc: Global, path: &[(TypeId, u16)]) -> Result<EntryPath, Memory>
+pub fn copied_path(alloc: Global, path: &[(TypeId, u16)]) -> Result<EntryPath, Memory>
     ensures { IfOk result (λ copy. copy ≡ path.now) }
 {
     let mut copy = Items::new(alloc);

@@ -8,10 +8,9 @@ use Rattle.eds_base.specs.declared.spans.Span.{Span}
 use Rattle.eds_base.specs.Spans.{IsWithin}
 use Rattle.eds_types.specs.declared.row.Constraint.{Constraint}
 use Rattle.eds_types.specs.Overlap.{IsConstrained}
-use Rattle.eds_types.specs.Rows.{Table, constraints_of}
+use Rattle.eds_types.specs.Rows.{Table, constraints_of, numbers_of}
 use Rattle.eds_types.proofs.AllOf.{All-both, All-front, All-back}
 use Rattle.eds_pack.specs.Building.{AllHave, Asked, Meets}
-use Rattle.eds_pack.specs.Seeking.{numbers_of}
 
 module _ (path : List (TypeId × ℕ)) where
   none_have : (cs : List Constraint) → (IsConstrained cs path → ⊥) → (n : ℤ) → AllHave cs path n

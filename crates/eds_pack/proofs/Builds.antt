@@ -16,7 +16,7 @@ use Rattle.eds_types.specs.Spelling.{ItemsSpell, Progress, started, PartPasses, 
 use Rattle.eds_pack.specs.Building.{Built, Chosen, ItemsHold, PartHolds, PartsHold}
 use Rattle.eds_pack.specs.Defaults.{DefaultsWithin, EntryDefaults, FieldsDefault, KindDefaults, PartDefaults, PartsDefault}
 use Rattle.eds_pack.specs.Putting.{FieldsSpell}
-use Rattle.eds_pack.proofs.Plains.{list_of-plains_of}
+use Rattle.eds_types.proofs.SameValues.{list_of-plains_of}
 use Rattle.eds_pack.proofs.Spelt.{spells_next}
 use Rattle.eds_types.proofs.SpellingSizes.{tail_same}
 

@@ -16,7 +16,7 @@ use Rattle.eds_types.specs.Reading.{holds}
 use Rattle.eds_types.specs.Rows.{Table, Placed, constraints_of, placed_entries}
 use Rattle.eds_types.proofs.AllOf.{All-both}
 use Rattle.eds_pack.specs.Counting.{capped, added}
-use Rattle.eds_pack.proofs.Paths.{rest_is}
+use Rattle.eds_types.proofs.Paths.{rest_is}
 
 -- ---- numbers
 

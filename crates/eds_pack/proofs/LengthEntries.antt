@@ -25,7 +25,7 @@ use Rattle.eds_types.specs.Packing.{pack_fault_at, pack_fault_here}
 use Rattle.eds_types.specs.PackedSizes.{Size, length_fits, number_size, packed_kind_size, packed_size_within, told_by}
 use Rattle.eds_types.specs.Plain.{Plain, num}
 use Rattle.eds_types.specs.Reading.{is_within}
-use Rattle.eds_types.specs.Rows.{Table, Placed, chain, id_of, entries_of, trailers_of, placed_from, placed_entries, placed_trailers, own_parts, sequence}
+use Rattle.eds_types.specs.Rows.{Table, Placed, chain, id_of, entries_of, trailers_of, placed_from, placed_entries, placed_trailers, own_parts, sequence, or_else}
 use Rattle.eds_types.specs.Rules.{KeepsRules, KindKeeps, PartKeeps, IsInt, IsScale}
 use Rattle.eds_types.proofs.AllOf.{All-both, All-front, All-back, All-flat, All-reverse}
 use Rattle.eds_types.proofs.ReadingTests.{within_from}
@@ -33,7 +33,7 @@ use Rattle.eds_types.proofs.RuleFacts.{facts_of}
 use Rattle.eds_types.proofs.TableFacts.{NoLength, IsLengthOnce}
 use Rattle.eds_pack.specs.declared.length.LengthEntry.{LengthEntry}
 use Rattle.eds_pack.specs.Counting.{capped}
-use Rattle.eds_pack.specs.Lengths.{or_else, if_length, length_among, tells_octets}
+use Rattle.eds_pack.specs.Lengths.{if_length, length_among, tells_octets}
 use Rattle.eds_pack.specs.Nesting.{IsLow, Nests, PartNests}
 use Rattle.eds_pack.proofs.Counts.{size_next}
 use Rattle.eds_pack.proofs.Ranks.{chain_low, entries_nest, trailers_nest}

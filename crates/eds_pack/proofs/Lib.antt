@@ -1,7 +1,6 @@
 pub mod Asking
 pub mod Plains
 pub mod Scalars
-pub mod Seeking
 pub mod Counts
 pub mod Looking
 pub mod Ranks
@@ -18,7 +17,6 @@ pub mod Turns
 pub mod Leasts
 pub mod Zeros
 pub mod Listing
-pub mod Paths
 pub mod Nested
 pub mod Wholes
 pub mod Filling

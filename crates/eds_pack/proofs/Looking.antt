@@ -16,67 +16,12 @@ use Rattle.eds_types.specs.Rules.{KeepsRules}
 use Rattle.eds_types.proofs.AllOf.{All-back}
 use Rattle.eds_types.proofs.DistinctParts.{Apart, Pairwise, sequence_apart}
 use Rattle.eds_types.proofs.RuleFacts.{table_of}
-use Rattle.eds_pack.specs.Seeking.{AreNext, seek, nth, entries_along, trailers_along, values_in}
-use Rattle.eds_pack.proofs.Plains.{list_of-plains_of, plain_fields}
-use Rattle.eds_pack.proofs.Paths.{rest_is}
-use Rattle.eds_pack.proofs.Seeking.{by_number}
-
--- ---- the rest of a list
-
-none_left : (n : ℕ) (f : List Plain) → drop n f ≡ [] → slice_get f n ≡ None
-none_left n [] e = refl
-none_left zero (v ∷ f) e = absurd cc
-none_left (suc n) (v ∷ f) e = none_left n f e
-
-one_left : (n : ℕ) (f : List Plain) (v : Plain) (vs : List Plain) → drop n f ≡ v ∷ vs → slice_get f n ≡ Some v
-one_left zero (w ∷ f) v vs e = let q : w ≡ v = cc in ap Some q
-one_left (suc n) (w ∷ f) v vs e = one_left n f v vs e
-one_left zero [] v vs e = absurd cc
-one_left (suc n) [] v vs e = absurd cc
-
-rest_suc : (n : ℕ) (f : List Plain) (v : Plain) (vs : List Plain) → drop n f ≡ v ∷ vs → drop (suc n) f ≡ vs
-rest_suc zero (w ∷ f) v vs e = cc
-rest_suc (suc n) (w ∷ f) v vs e = rest_suc n f v vs e
-rest_suc zero [] v vs e = absurd cc
-rest_suc (suc n) [] v vs e = absurd cc
-
-rest_left : (n : ℕ) (f : List Plain) (v : Plain) (vs : List Plain) → drop n f ≡ v ∷ vs → drop (n + 1) f ≡ vs
-rest_left n f v vs e = let k : n + 1 ≡ suc n = omega arith in rw k (rest_suc n f v vs e)
-
-none_suc : (n : ℕ) (f : List Plain) → drop n f ≡ [] → drop (suc n) f ≡ []
-none_suc zero [] e = refl
-none_suc zero (v ∷ f) e = absurd cc
-none_suc (suc n) [] e = refl
-none_suc (suc n) (v ∷ f) e = none_suc n f e
-
-still_none : (n : ℕ) (f : List Plain) → drop n f ≡ [] → drop (n + 1) f ≡ []
-still_none n f e = let k : n + 1 ≡ suc n = omega arith in rw k (none_suc n f e)
-
--- ---- what is looked up
-
-module _ (f : List Plain) (y i : ℕ) where
-  nth_past : (ps : List Placed) (n : ℕ) → drop n f ≡ [] → nth f (seek ps n y i) ≡ None
-  nth_past [] n e = refl
-  nth_past (p ∷ ps) n e = go (has_value p.part) (p.container == y && p.place == i) (nth_past ps n e) (nth_past ps (n + 1) (still_none n f e))
-    where
-      go : (b d : Bool) → nth f (seek ps n y i) ≡ None → nth f (seek ps (n + 1) y i) ≡ None → nth f (if b then (if d then Ok n else seek ps (n + 1) y i) else seek ps n y i) ≡ None
-      go true true h k = none_left n f e
-      go true false h k = k
-      go false d h k = h
-
-  pub looked_up : (ps : List Placed) (n : ℕ) → value_at (paired ps (drop n f)) y i ≡ nth f (seek ps n y i)
-  looked_up [] n = refl
-  looked_up (p ∷ ps) n = by_rest (drop n f) refl (looked_up ps n) (looked_up ps (n + 1))
-    where
-      go : (v : Plain) (vs : List Plain) → drop n f ≡ v ∷ vs → (b d : Bool) → value_at (paired ps (v ∷ vs)) y i ≡ nth f (seek ps n y i) → value_at (paired ps vs) y i ≡ nth f (seek ps (n + 1) y i)
-          → (p.container == y && p.place == i) ≡ d → value_at (if b then field_of p v ∷ paired ps vs else paired ps (v ∷ vs)) y i ≡ nth f (if b then (if d then Ok n else seek ps (n + 1) y i) else seek ps n y i)
-      go v vs e true true h k q = ap (λ z. if z then Some v else value_at (paired ps vs) y i) q ∙ sym (one_left n f v vs e)
-      go v vs e true false h k q = ap (λ z. if z then Some v else value_at (paired ps vs) y i) q ∙ k
-      go v vs e false d h k q = h
-
-      by_rest : (vs : List Plain) → drop n f ≡ vs → value_at (paired ps (drop n f)) y i ≡ nth f (seek ps n y i) → value_at (paired ps (drop (n + 1) f)) y i ≡ nth f (seek ps (n + 1) y i) → value_at (paired (p ∷ ps) vs) y i ≡ nth f (seek (p ∷ ps) n y i)
-      by_rest [] e h k = sym (nth_past (p ∷ ps) n e)
-      by_rest (v ∷ vs) e h k = go v vs e (has_value p.part) (p.container == y && p.place == i) (subst (λ ws. value_at (paired ps ws) y i ≡ nth f (seek ps n y i)) e h) (subst (λ ws. value_at (paired ps ws) y i ≡ nth f (seek ps (n + 1) y i)) (rest_left n f v vs e) k) refl
+use Rattle.eds_types.specs.Seeking.{seek, nth, entries_in_turn, trailers_in_turn}
+use Rattle.eds_types.proofs.FieldsOf.{found}
+use Rattle.eds_types.proofs.Paths.{rest_is}
+use Rattle.eds_types.proofs.Seeking.{by_number}
+use Rattle.eds_pack.specs.Seeking.{AreNext, values_in}
+use Rattle.eds_types.proofs.SameValues.{list_of-plains_of}
 
 -- ---- one run of parts
 
@@ -108,11 +53,6 @@ one_value p = go (has_value p)
     go true = omega arith
     go false = omega arith
 
--- ---- the fields of a value
-
-pub field_is : (t : Table) (own : TypeId) (values : Vec Value Global) (y i : ℕ) → value_at (fields_in t (Some (plain (value.Fields own values)))) y i ≡ value_at (paired (sequence t own.0) (map plain values.items)) y i
-field_is t own values y i = ap (λ v. value_at (fields_in t (Some v)) y i) (plain_fields own values) ∙ ap (λ vs. value_at (paired (sequence t own.0) vs) y i) (list_of-plains_of (map plain values.items))
-
 -- ---- how many values there are
 
 pub valued_both : (xs ys : List Placed) → valued (xs ++ ys) ≡ valued xs + valued ys
@@ -129,26 +69,26 @@ valued_turned f (x ∷ xs) =
     ap (λ ys. valued (flat_map f ys)) (reverse-append (x ∷ []) xs) ∙ ap valued (flat_both f (reverse xs) (x ∷ [])) ∙ valued_both (flat_map f (reverse xs)) (flat_map f (x ∷ []))
     ∙ (let h = valued_turned f xs in let a = valued_both (f x) [] in let b = valued_both (f x) (flat_map f xs) in omega arith)
 
-pub counted_values : (t : Table) (k : ℕ) (ids : List TypeId) → ids ≡ map id_of (chain t k) → valued (entries_along t ids) + valued (trailers_along t ids) ≡ valued (sequence t k)
+pub counted_values : (t : Table) (k : ℕ) (ids : List TypeId) → ids ≡ map id_of (chain t k) → valued (entries_in_turn t ids) + valued (trailers_in_turn t ids) ≡ valued (sequence t k)
 counted_values t k ids e =
     let ks = chain t k in
-    let a : valued (entries_along t ids) ≡ valued (flat_map (placed_entries t) ks) = ap (λ xs. valued (entries_along t xs)) e ∙ ap valued (by_number (placed_entries t) ks) in
-    let b : valued (trailers_along t ids) ≡ valued (flat_map (placed_trailers t) ks) = ap (λ xs. valued (trailers_along t xs)) e ∙ ap valued (by_number (placed_trailers t) ks) in
+    let a : valued (entries_in_turn t ids) ≡ valued (flat_map (placed_entries t) ks) = ap (λ xs. valued (entries_in_turn t xs)) e ∙ ap valued (by_number (placed_entries t) ks) in
+    let b : valued (trailers_in_turn t ids) ≡ valued (flat_map (placed_trailers t) ks) = ap (λ xs. valued (trailers_in_turn t xs)) e ∙ ap valued (by_number (placed_trailers t) ks) in
     let c = valued_turned (placed_trailers t) ks in
     let d = valued_both (flat_map (placed_entries t) ks) (flat_map (placed_trailers t) (reverse ks)) in
     omega arith
 
 -- the parts of the first of some containers, and those of the others
 pub counted_rest : (t : Table) (rest : List TypeId) (d : TypeId) → 0 < length rest
-    → valued (entries_along t rest) + valued (trailers_along t rest) ≡ values_in (entries_of t (get_or rest 0 d).0) + values_in (trailers_of t (get_or rest 0 d).0) + (valued (entries_along t (take (length rest - 1) (drop 1 rest))) + valued (trailers_along t (take (length rest - 1) (drop 1 rest))))
+    → valued (entries_in_turn t rest) + valued (trailers_in_turn t rest) ≡ values_in (entries_of t (get_or rest 0 d).0) + values_in (trailers_of t (get_or rest 0 d).0) + (valued (entries_in_turn t (take (length rest - 1) (drop 1 rest))) + valued (trailers_in_turn t (take (length rest - 1) (drop 1 rest))))
 counted_rest t [] d lt = absurd (omega arith)
 counted_rest t (id ∷ ids) d lt =
-    let a = valued_both (placed_entries t id.0) (entries_along t ids) in
-    let b = valued_both (placed_trailers t id.0) (trailers_along t ids) in
+    let a = valued_both (placed_entries t id.0) (entries_in_turn t ids) in
+    let b = valued_both (placed_trailers t id.0) (trailers_in_turn t ids) in
     let c = valued_is id.0 0 (entries_of t id.0) in
     let e = valued_is id.0 (length (entries_of t id.0)) (trailers_of t id.0) in
-    let f = ap (λ xs. valued (entries_along t xs)) (rest_is (id ∷ ids)) in
-    let g = ap (λ xs. valued (trailers_along t xs)) (rest_is (id ∷ ids)) in
+    let f = ap (λ xs. valued (entries_in_turn t xs)) (rest_is (id ∷ ids)) in
+    let g = ap (λ xs. valued (trailers_in_turn t xs)) (rest_is (id ∷ ids)) in
     omega arith
 
 -- ---- parts one after another
@@ -183,7 +123,7 @@ module _ (t : Table) (rules : KeepsRules t) (k : ℕ) (f : List Plain) where
   next_from done [] used count is = tt
   next_from done (p ∷ ps) used count is = (
     (λ h.
-        (looked_up f p.container p.place (sequence t k) 0
+        (found p.container p.place (sequence t k) f 0 f refl
         ∙ ap (λ qs. nth f (seek qs 0 p.container p.place)) is
         ∙ ap (nth f) (seek_past p.container p.place done (p ∷ ps) 0 (apart_before done p ps (subst (Pairwise Apart) is (sequence_apart t (table_of t rules) k))) ∙ seek_here p ps (0 + valued done) h)
         ∙ ap (slice_get f) (omega (arith, count)))),

@@ -18,7 +18,7 @@ use Rattle.eds_types.specs.Rows.{Table, Placed, id_of, placed_from}
 use Rattle.eds_pack.specs.Counting.{added, found}
 use Rattle.eds_pack.proofs.Counts.{Counted, entry_next, entry_stops}
 use Rattle.eds_pack.specs.Seeking.{AreNext, values_in}
-use Rattle.eds_pack.proofs.Plains.{list_of-plains_of}
+use Rattle.eds_types.proofs.SameValues.{list_of-plains_of}
 
 module _ (size : Plain → Size) (n : ℕ) (v : Plain) (vs : List Plain) (is : v ≡ items (plains_of vs)) where
   pub array_is : length vs ≡ n → array_size size n v ≡ items_size size 0 0 vs

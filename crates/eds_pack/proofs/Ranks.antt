@@ -14,9 +14,9 @@ use Rattle.eds_types.specs.Rows.{Table, id_of, base_of, chain, chain_within, cha
 use Rattle.eds_types.specs.Rules.{KeepsRules, IsNested, ConstraintKeeps, Follows, PartKeeps}
 use Rattle.eds_types.proofs.AllOf.{All-weaker, All-both, All-front, All-back, All-at}
 use Rattle.eds_types.proofs.ReadingTests.{has_from}
-use Rattle.eds_pack.specs.Choices.{IsNear}
+use Rattle.eds_types.specs.Choices.{IsNear}
+use Rattle.eds_types.proofs.Paths.{rest_is}
 use Rattle.eds_pack.specs.Nesting.{IsLow, PartNests}
-use Rattle.eds_pack.proofs.Paths.{rest_is}
 
 at_place : {A : Type 0} (P : A → Type 0) (xs : List A) (i : ℕ) (x : A) → AllByRecursion P xs → slice_get xs i ≡ Some x → P x
 at_place P [] i x h e = absurd cc

@@ -20,10 +20,10 @@ use Rattle.eds_types.proofs.LengthChoices.{run_chosen, told_rest}
 use Rattle.eds_types.proofs.RuleFacts.{facts_of}
 use Rattle.eds_types.proofs.TableFacts.{NoLength, IsLengthOnce}
 use Rattle.eds_pack.specs.Putting.{IsPut, HasRoom, Writes, IsSized, PartSpells, RunSpells, between, entry_parts, octets_in, own_octets, trailer_parts}
+use Rattle.eds_types.proofs.Seeking.{reverse_map}
 use Rattle.eds_pack.specs.Seeking.{values_in}
 use Rattle.eds_pack.proofs.Looking.{values_more}
 use Rattle.eds_pack.proofs.Putting.{puts_more, puts_none, same_room, found_next, more_values}
-use Rattle.eds_pack.proofs.Seeking.{reverse_map}
 use Rattle.eds_pack.proofs.Sized.{own_sized}
 
 -- ---- what stands in a room

@@ -19,9 +19,6 @@ within_by spans n m false e h = elim (cases_Bool (is_within spans n)) [
   | inr f ↦ sym f
 ]
 
-pub within_is : (spans : List Span) (n : ℤ) (b : Bool) → IsTrue b ↔ IsWithin spans n → is_within spans n ≡ b
-within_is spans n b h = sym (within_by spans n n b refl h)
-
 -- a test for texts of an encoding
 pub coded_by : (ascii : Bool) (text : List ℕ) (b : Bool) → IsTrue b ↔ IsCoded ascii text → b ≡ is_coded ascii text
 coded_by ascii text true h = sym (coded_in ascii text (h.0 refl))

@@ -12,7 +12,7 @@ use Rattle.eds_types.specs.Rows.{Table}
 use Rattle.eds_types.specs.Spelling.{ItemsSpell, KindSpells, ContainerSpells, SpellsWithin}
 use Rattle.eds_pack.specs.Nesting.{Nests}
 use Rattle.eds_pack.specs.Putting.{HasRoom, FieldsSpell, ListSpells}
-use Rattle.eds_pack.proofs.Plains.{list_of-plains_of}
+use Rattle.eds_types.proofs.SameValues.{list_of-plains_of}
 
 -- what holds of all elements holds of the one at a place
 pub all_at : {A : Type 0} (P : A → Type 0) (xs : List A) (i : ℕ) (d : A) → i < length xs → AllByRecursion P xs → P (get_or xs i d)

@@ -6,12 +6,7 @@ use Rattle.eds_types.specs.declared.row.Part.{Part}
 use Rattle.eds_types.specs.declared.row.Part.TheVariants as part
 use Rattle.eds_types.specs.PackedSizes.{Size, told_by}
 use Rattle.eds_types.specs.Plain.{Plain, num}
-use Rattle.eds_types.specs.Rows.{Placed, id_of}
-
--- the first of two
-abbrev pub or_else : {A : Type 0} → Option A → Option A → Option A
-or_else None o = o
-or_else (Some x) o = Some x
+use Rattle.eds_types.specs.Rows.{Placed, id_of, or_else}
 
 -- a part, if it is a length entry
 abbrev pub if_length : Part → Placed → Option LengthEntry

@@ -1,5 +1,4 @@
 pub mod Building
-pub mod Choices
 pub mod Counting
 pub mod Defaults
 pub mod Laws

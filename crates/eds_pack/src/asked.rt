@@ -3,9 +3,8 @@
 ghost use Rattle.std.specs.Prelude.{◌≡◌, ◌↔◌, ◌++◌, [], ◌∷◌, List, IfOk, IsTrue};
 ghost use Rattle.std.specs.List.{flat_map};
 ghost use Rattle.eds_types.specs.declared.row.Constraint.{Constraint as Asking};
-ghost use Rattle.eds_types.specs.Rows.{constraints_of};
+ghost use Rattle.eds_types.specs.Rows.{constraints_of, numbers_of};
 ghost use Rattle.eds_pack.specs.Building.{Asked, Meets};
-ghost use Rattle.eds_pack.specs.Seeking.{numbers_of};
 
 use eds_base::{Memory, Spans, TypeId};
 use eds_types::{Constraint, TypeTable};

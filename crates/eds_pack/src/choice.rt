@@ -3,21 +3,20 @@
 ghost use Rattle.std.specs.Prelude.{◌≡◌, ◌&&◌, ◌==◌, ◌≤◌, ℕ, [], not, length, option_map, OnOk};
 ghost use Rattle.std.specs.List.{list_all, flat_map};
 ghost use Rattle.eds_base.specs.declared.ids.TypeId.{TypeId as Id};
-ghost use Rattle.eds_pack.specs.Choices.{meets, fits_choice};
+ghost use Rattle.eds_types.specs.Choices.{meets, fits_choice};
 ghost use Rattle.eds_pack.specs.Counting.{found};
-ghost use Rattle.eds_pack.specs.Seeking.{fields_of, numbers_of};
+ghost use Rattle.eds_pack.specs.Seeking.{fields_of};
 ghost use Rattle.eds_types.specs.Families.{first_of};
 ghost use Rattle.eds_types.specs.Fields.{constraints_along};
 ghost use Rattle.eds_types.specs.PackedSizes.{Size, choice_size};
 ghost use Rattle.eds_types.specs.Plain.{Plain};
 ghost use Rattle.eds_types.specs.Reading.{starts_above, candidate_under};
-ghost use Rattle.eds_types.specs.Rows.{constraints_of};
+ghost use Rattle.eds_types.specs.Rows.{constraints_of, numbers_of};
 
 use crate::constraint::holds;
 use crate::fields::Fields;
-use crate::seek::is_under;
 use eds_base::{Path, Step, TypeId};
-use eds_types::{Constraint, PackReason, TypeTable};
+use eds_types::{Constraint, PackReason, TypeTable, is_under};
 
 /// Whether a path starts in an entry of a container or of its bases.
 fn starts_above(table: &TypeTable, id: TypeId, path: &[(TypeId, u16)]) -> bool

@@ -9,14 +9,13 @@ ghost use Rattle.eds_types.specs.declared.row.TypeRow.{TypeRow};
 ghost use Rattle.eds_types.specs.Fields.{constraints_along, type_on, part_at};
 ghost use Rattle.eds_types.specs.LeastSize.{least_size};
 ghost use Rattle.eds_types.specs.Plain.{Plain, plain, num};
-ghost use Rattle.eds_types.specs.Rows.{Placed, address, constraints_of, sequence};
+ghost use Rattle.eds_types.specs.Rows.{Placed, address, constraints_of, sequence, numbers_of};
 ghost use Rattle.eds_types.specs.Rules.{AreDistinct};
 ghost use Rattle.eds_types.specs.Spelling.{KindSpells, SpellsWithin};
 ghost use Rattle.eds_pack.specs.Building.{AskedOf, Built, BuiltBehind, Chosen, IsFirstLabel, IsLeastLabel, IsLeastTruth, ItemsHold, PartHolds, PartsHold, plain_items};
 ghost use Rattle.eds_pack.specs.Defaults.{DefaultsWithin, EntryDefaults, FieldsDefault, IsDefault, ItemsDefault, KindDefaults, PartDefaults, PartsDefault, zero_bits};
 ghost use Rattle.eds_pack.specs.Nesting.{IsLow, Nests};
 ghost use Rattle.eds_pack.specs.Putting.{FieldsSpell};
-ghost use Rattle.eds_pack.specs.Seeking.{numbers_of};
 
 use crate::asked::asked_along;
 use crate::conforms;

@@ -7,9 +7,8 @@ ghost use Rattle.eds_base.specs.Spans.{IsWithin};
 ghost use Rattle.eds_pack.specs.Building.{LeastOf, IsListedIn, LabelOf, HasContainer};
 ghost use Rattle.eds_pack.specs.Defaults.{IsFirst};
 
-use crate::seek::is_under;
 use eds_base::{Spans, Text, TypeId};
-use eds_types::TypeTable;
+use eds_types::{TypeTable, is_under};
 
 /// 0 where the numbers have it, and else the least of them.
 pub(crate) fn first_number(numbers: &Spans) -> Option<i128>

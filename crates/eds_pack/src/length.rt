@@ -5,9 +5,9 @@ ghost use Rattle.std.specs.List.{list_all};
 ghost use Rattle.std.specs.Ordering.{int_eq};
 ghost use Rattle.eds_bits.specs.Bits.{octets_for};
 ghost use Rattle.eds_pack.specs.Counting.{found};
+ghost use Rattle.eds_types.specs.Seeking.{entries_in_turn, trailers_in_turn};
 ghost use Rattle.eds_pack.specs.Lengths.{length_among, tells_octets};
 ghost use Rattle.eds_pack.specs.Nesting.{IsLow};
-ghost use Rattle.eds_pack.specs.Seeking.{entries_along, trailers_along};
 ghost use Rattle.eds_types.specs.Failing.{length_path};
 ghost use Rattle.eds_types.specs.Packing.{pack_fault_at};
 ghost use Rattle.eds_types.specs.declared.reason.PackReason.TheVariants.{LengthField};
@@ -56,7 +56,7 @@ fn length_among(parts: &[Part], id: TypeId, first: u16) -> Option<LengthEntry>
 }
 
 fn length_in_entries(table: &TypeTable, chain: &[TypeId]) -> Option<LengthEntry>
-    ensures { result ≡ length_among (entries_along table.now chain.now) }
+    ensures { result ≡ length_among (entries_in_turn table.now chain.now) }
 {
     for id in chain {
         match length_among(table.entries_of(*id), *id, 0) {
@@ -69,7 +69,7 @@ fn length_in_entries(table: &TypeTable, chain: &[TypeId]) -> Option<LengthEntry>
 
 fn length_in_trailers(table: &TypeTable, chain: &[TypeId]) -> Option<LengthEntry>
     requires few { length chain.now ≤ 16 }
-    ensures { result ≡ length_among (trailers_along table.now (reverse chain.now)) }
+    ensures { result ≡ length_among (trailers_in_turn table.now (reverse chain.now)) }
 {
     let mut rest = chain;
     while let [front @ .., id] = rest {

@@ -1,154 +1,21 @@
-//! PackFault the values of a container stand.
+//! How many values the parts of containers have.
 
-ghost use Rattle.std.specs.Prelude.{◌≡◌, [], ◌∷◌, ◌&&◌, ◌==◌, is_some, ◌≤◌, ◌<◌, ◌+◌, ◌^◌, ◌*◌, length, map, reverse, IfErr, option_map, slice_get};
+ghost use Rattle.std.specs.Prelude.{◌≡◌, [], ◌∷◌, ◌&&◌, ◌==◌, is_some, ◌≤◌, ◌<◌, ◌+◌, ◌^◌, length, map, option_map, slice_get};
 ghost use Rattle.std.specs.Option.{option_copied};
-ghost use Rattle.eds_types.specs.Fields.{fields_in, value_at};
 ghost use Rattle.eds_types.specs.Packing.{valued as valued_of};
 ghost use Rattle.eds_types.specs.Plain.{plain};
-ghost use Rattle.eds_types.specs.Rows.{chain, container_of, list_has, placed_from, sequence};
-ghost use Rattle.eds_pack.specs.Seeking.{along, seek, nth, entries_along, fields_of, numbers_of, trailers_along, values_in};
+ghost use Rattle.eds_types.specs.Rows.{container_of, sequence};
+ghost use Rattle.eds_types.specs.Seeking.{entries_in_turn, trailers_in_turn};
+ghost use Rattle.eds_pack.specs.Seeking.{values_in};
 
 use eds_base::TypeId;
 use eds_types::{Part, TypeTable, Value};
-
-/// Looks for an entry among parts of the container `id`, the first of which has a given place, after so many values.
-fn seek_part(
-    parts: &[Part],
-    id: TypeId,
-    first: usize,
-    wanted: (TypeId, u16),
-    before: usize,
-) -> Result<usize, usize>
-    requires few { first + length parts.now < 2 ^ 32 }
-    requires before { before < 2 ^ 32 }
-    ensures place { result ≡ seek (placed_from id.0 first parts.now) before wanted.0.0 wanted.1 }
-    ensures few { IfErr result (λ n. n ≤ before + length parts.now) }
-{
-    let mut n = before;
-    for (i, part) in parts.iter().enumerate() {
-        if part.has_value() {
-            if id.0 == wanted.0.0 && first + i == wanted.1 as usize {
-                return Ok(n);
-            }
-            n += 1;
-        }
-    }
-    Err(n)
-}
-
-/// Looks for an entry among the entries of containers.
-fn seek_entries(
-    table: &TypeTable,
-    chain: &[TypeId],
-    wanted: (TypeId, u16),
-    before: usize,
-) -> Result<usize, usize>
-    requires few { length chain.now ≤ 16 }
-    requires before { before < 2 ^ 31 }
-    ensures place { result ≡ seek (entries_along table.now chain.now) before wanted.0.0 wanted.1 }
-    ensures few { IfErr result (λ n. n ≤ before + 32767 * length chain.now) }
-{
-    let mut n = before;
-    for id in chain {
-        match seek_part(table.entries_of(*id), *id, 0, wanted, n) {
-            Ok(place) => return Ok(place),
-            Err(more) => n = more,
-        }
-    }
-    Err(n)
-}
-
-/// Looks for an entry among the trailers of containers, those of the last container first.
-fn seek_trailers(
-    table: &TypeTable,
-    chain: &[TypeId],
-    wanted: (TypeId, u16),
-    before: usize,
-) -> Result<usize, usize>
-    requires few { length chain.now ≤ 16 }
-    requires before { before < 2 ^ 31 }
-    ensures { result ≡ seek (trailers_along table.now (reverse chain.now)) before wanted.0.0 wanted.1 }
-{
-    let mut n = before;
-    let mut rest = chain;
-    while let [front @ .., id] = rest {
-        let first = table.entries_of(*id).len();
-        match seek_part(table.trailers_of(*id), *id, first, wanted, n) {
-            Ok(place) => return Ok(place),
-            Err(more) => n = more,
-        }
-        rest = front;
-    }
-    Err(n)
-}
-
-/// How many values stand before that of a part in the sequence of a container, or how many there are where the part is
-/// none of them.
-fn place_of(table: &TypeTable, own: TypeId, wanted: (TypeId, u16)) -> Result<usize, usize>
-    ensures { result ≡ seek (sequence table.now own.0) 0 wanted.0.0 wanted.1 }
-{
-    let chain = table.chain_of(own);
-    match seek_entries(table, chain.as_slice(), wanted, 0) {
-        Ok(place) => Ok(place),
-        Err(n) => seek_trailers(table, chain.as_slice(), wanted, n),
-    }
-}
 
 /// The value at a place.
 pub(crate) fn value_in(values: &[Value], place: usize) -> Option<&Value>
     ensures { option_map plain (option_copied result) ≡ slice_get (map plain values.now) place }
 {
     values.get(place)
-}
-
-fn nth(values: &[Value], place: Result<usize, usize>) -> Option<&Value>
-    ensures { option_map plain (option_copied result) ≡ nth (map plain values.now) place }
-{
-    match place {
-        Ok(place) => value_in(values, place),
-        Err(_) => None,
-    }
-}
-
-/// The value of a part among the values of the container `own`.
-pub(crate) fn value_of<'a>(
-    table: &TypeTable,
-    own: TypeId,
-    values: &'a [Value],
-    wanted: (TypeId, u16),
-) -> Option<&'a Value>
-    ensures { option_map plain (option_copied result) ≡ value_at (fields_of table.now own.0 values.now) wanted.0.0 wanted.1 }
-{
-    nth(values, place_of(table, own, wanted))
-}
-
-/// The value of a part, where a value is the fields of a container.
-fn field_of<'a>(
-    table: &TypeTable,
-    value: Option<&'a Value>,
-    wanted: (TypeId, u16),
-) -> Option<&'a Value>
-    ensures { option_map plain (option_copied result) ≡ value_at (fields_in table.now (option_map plain (option_copied value.entry))) wanted.0.0 wanted.1 }
-{
-    match value {
-        Some(Value::Fields(own, values)) => value_of(table, *own, values.as_slice(), wanted),
-        _ => None,
-    }
-}
-
-/// The value that a path leads to from a value.
-pub(crate) fn value_along<'a>(
-    table: &TypeTable,
-    value: Option<&'a Value>,
-    path: &[(TypeId, u16)],
-) -> Option<&'a Value>
-    ensures { option_map plain (option_copied result) ≡ along table.now (option_map plain (option_copied value.entry)) path.now }
-{
-    let mut at = value;
-    for wanted in path {
-        at = field_of(table, at, *wanted);
-    }
-    at
 }
 
 /// How many of the parts have a value.
@@ -179,7 +46,7 @@ pub(crate) fn behind(used: usize, part: &Part) -> usize
 /// How many of the parts of a chain of containers have a value.
 fn valued_along(table: &TypeTable, chain: &[TypeId]) -> usize
     requires few { length chain.now ≤ 16 }
-    ensures { result ≡ valued_of (entries_along table.now chain.now) + valued_of (trailers_along table.now chain.now) }
+    ensures { result ≡ valued_of (entries_in_turn table.now chain.now) + valued_of (trailers_in_turn table.now chain.now) }
 {
     let mut count = 0;
     let mut rest = chain;
@@ -198,25 +65,4 @@ pub(crate) fn has_fields(table: &TypeTable, own: TypeId, count: usize) -> bool
         Some(_) => count == valued_along(table, table.chain_of(own).as_slice()),
         None => false,
     }
-}
-
-pub(crate) fn has(ids: &[TypeId], id: TypeId) -> bool
-    ensures { result ≡ list_has (numbers_of ids.now) id.0 }
-{
-    let mut rest = ids;
-    while let [first, after @ ..] = rest {
-        if first.0 == id.0 {
-            return true;
-        }
-        rest = after;
-    }
-    false
-}
-
-/// Whether a type is another one, or derives from it.
-pub(crate) fn is_under(table: &TypeTable, id: TypeId, base: TypeId) -> bool
-    ensures { result ≡ list_has (chain table.now id.0) base.0 }
-{
-    let chain = table.chain_of(id);
-    has(chain.as_slice(), base)
 }

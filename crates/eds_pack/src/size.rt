@@ -9,20 +9,21 @@ ghost use Rattle.eds_types.specs.Fields.{has_value as has_value_of, value_at};
 ghost use Rattle.eds_types.specs.Packing.{valued};
 ghost use Rattle.eds_types.specs.PackedSizes.{own_size as own_size_of, packed_size_within, packed_kind_size, array_size, items_size, container_size, fields_size, packed_part_size, list_size, row_bits, stations_size};
 ghost use Rattle.eds_types.specs.Plain.{plain};
-ghost use Rattle.eds_types.specs.Rows.{Placed, placed_from};
+ghost use Rattle.eds_types.specs.Rows.{Placed, placed_from, numbers_of};
 ghost use Rattle.eds_pack.specs.Counting.{added, counted, found, tallied};
 ghost use Rattle.eds_pack.specs.Nesting.{IsLow, Nests, PartNests};
-ghost use Rattle.eds_pack.specs.Seeking.{AreNext, entries_along, fields_of, numbers_of, trailers_along, values_in};
+ghost use Rattle.eds_types.specs.Seeking.{entries_in_turn, trailers_in_turn};
+ghost use Rattle.eds_pack.specs.Seeking.{AreNext, fields_of, values_in};
 
 use crate::choice::check_most_derived;
 use crate::constraint::check_constraints;
 use crate::fields::Fields;
 use crate::length::check_length;
 use crate::plain::{flat_size, tells};
-use crate::seek::{behind, has_fields, is_under, value_in, value_of};
+use crate::seek::{behind, has_fields, value_in};
 use crate::tally::Tally;
 use eds_base::{Path, Step, TypeId};
-use eds_types::{Kind, PackReason, Part, TypeRow, TypeTable, Value};
+use eds_types::{Kind, PackReason, Part, TypeRow, TypeTable, Value, is_under, value_of};
 
 /// Adds the bits of a value of a type to those before it. At a fault the path, which is empty, becomes the way to it.
 #[cycle(size)]
@@ -266,11 +267,11 @@ fn add_chain(
 ) -> Result<usize, PackReason>
     requires low { AllByRecursion (λ (id : Id). IsLow fields.now.table.now (fields.now.depth + 1) id.0) chain.now }
     requires short { length chain.now ≤ 16 }
-    requires next { AreNext (fields_of fields.now.table.now fields.now.own.0 fields.now.values.now) (map plain fields.now.values.now) 0 (entries_along fields.now.table.now chain.now) }
+    requires next { AreNext (fields_of fields.now.table.now fields.now.own.0 fields.now.values.now) (map plain fields.now.values.now) 0 (entries_in_turn fields.now.table.now chain.now) }
     requires few { fields.now.depth < 32 }
     requires root { path.old ≡ [] }
     ensures adds { found result total.new path.new ≡ added total.old (stations_size fields.now.table.now (packed_size_within fields.now.depth fields.now.table.now) (fields_of fields.now.table.now fields.now.own.0 fields.now.values.now) fields.now.own.0 0 (flat_map (own_stations fields.now.table.now) (numbers_of chain.now))) }
-    ensures used { IfOk result (λ n. (n ≡ valued (entries_along fields.now.table.now chain.now)) × (n ≤ 32767 * length chain.now)) }
+    ensures used { IfOk result (λ n. (n ≡ valued (entries_in_turn fields.now.table.now chain.now)) × (n ≤ 32767 * length chain.now)) }
     ensures near { length path.new ≤ 2 * fields.now.depth + 2 }
     ensures calm { OnOk result (path.new ≡ []) }
 {
@@ -301,11 +302,11 @@ fn add_trailers(
 ) -> Result<(), PackReason>
     requires low { AllByRecursion (λ (id : Id). IsLow fields.now.table.now (fields.now.depth + 1) id.0) chain.now }
     requires short { length chain.now ≤ 16 }
-    requires next { AreNext (fields_of fields.now.table.now fields.now.own.0 fields.now.values.now) (map plain fields.now.values.now) before (trailers_along fields.now.table.now (reverse chain.now)) }
+    requires next { AreNext (fields_of fields.now.table.now fields.now.own.0 fields.now.values.now) (map plain fields.now.values.now) before (trailers_in_turn fields.now.table.now (reverse chain.now)) }
     requires before { before < 2 ^ 30 }
     requires few { fields.now.depth < 32 }
     requires root { path.old ≡ [] }
-    ensures adds { found result total.new path.new ≡ added total.old (stations_size fields.now.table.now (packed_size_within fields.now.depth fields.now.table.now) (fields_of fields.now.table.now fields.now.own.0 fields.now.values.now) fields.now.own.0 0 (map entry (trailers_along fields.now.table.now (reverse chain.now)))) }
+    ensures adds { found result total.new path.new ≡ added total.old (stations_size fields.now.table.now (packed_size_within fields.now.depth fields.now.table.now) (fields_of fields.now.table.now fields.now.own.0 fields.now.values.now) fields.now.own.0 0 (map entry (trailers_in_turn fields.now.table.now (reverse chain.now)))) }
     ensures near { length path.new ≤ 2 * fields.now.depth + 2 }
     ensures calm { OnOk result (path.new ≡ []) }
 {

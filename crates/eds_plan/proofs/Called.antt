@@ -7,7 +7,8 @@ use Rattle.std.proofs.lemmas.Slice.Eq.{bytes_eq-Decides}
 use Rattle.eds_plan.specs.declared.run.End.{End}
 use Rattle.eds_plan.specs.declared.component.ComponentPlan.{ComponentPlan}
 use Rattle.std.proofs.lemmas.List.{take_all}
-use Rattle.eds_plan.specs.Ends.{Called, or_else, end_called, first_called, all_ends, ends_from}
+use Rattle.eds_types.specs.Rows.{or_else}
+use Rattle.eds_plan.specs.Ends.{Called, end_called, first_called, all_ends, ends_from}
 
 bytes_eq-sym : (x y : List ℕ) → bytes_eq x y ≡ bytes_eq y x
 bytes_eq-sym x y = one_answer {P = x ≡ y} (bytes_eq x y) (bytes_eq y x) (bytes_eq-Decides x y) (λ h. sym ((bytes_eq-Decides y x).0 h), λ p. (bytes_eq-Decides y x).1 (sym p))

@@ -2,6 +2,7 @@
 use Rattle.std.specs.Prelude.{ℕ, ◌+◌, List, [], ◌∷◌, ◌++◌, codes, Option, Some, None, option_map, if◌then◌else◌, slice_get}
 use Rattle.eds_base.specs.Reading.{◌>>=◌, same}
 use Rattle.eds_base.specs.declared.ids.CompId.{CompId}
+use Rattle.eds_types.specs.Rows.{or_else}
 use Rattle.eds_plan.specs.declared.component.ComponentPlan.{ComponentPlan}
 use Rattle.eds_plan.specs.declared.component.EndPlan.{EndPlan}
 use Rattle.eds_plan.specs.declared.run.End.{End}
@@ -31,11 +32,6 @@ all_ends comp [] = []
 all_ends comp (c ∷ cs) = ends_from c.name comp 0 c.ends ++ all_ends (comp + 1) cs
 
 -- ---- look-up
-
--- the first of two ends that may be there
-abbrev pub or_else : Option End → Option End → Option End
-or_else None other = other
-or_else (Some e) other = Some e
 
 -- an end, where this is its text
 abbrev pub end_called : Called → List ℕ → Option End

@@ -2,7 +2,8 @@
 
 ghost use Rattle.std.specs.Prelude.{◌≡◌, ℕ, List, IfOk, OnOk, option_map, string_bytes};
 ghost use Rattle.std.specs.HashMap.{get_by_text};
-ghost use Rattle.eds_plan.specs.Ends.{all_ends, end_called, end_named, end_text as text_of_end, ends_from, first_called, found_end, or_else};
+ghost use Rattle.eds_types.specs.Rows.{or_else};
+ghost use Rattle.eds_plan.specs.Ends.{all_ends, end_called, end_named, end_text as text_of_end, ends_from, first_called, found_end};
 
 use crate::{ComponentPlan, End, EndPlan, Plan};
 use eds_base::{CompId, Memory};

@@ -45,3 +45,8 @@ pub mod SameLists
 pub mod TypeLaws
 pub mod EmptyTypes
 pub mod TextValues
+pub mod Seeking
+pub mod Paths
+pub mod PlainValues
+pub mod FieldsOf
+pub mod Candidates

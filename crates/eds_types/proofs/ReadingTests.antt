@@ -1,9 +1,9 @@
 -- The tests of reading, as facts.
 use Rattle.eds_base.specs.declared.spans.Span.{Span}
-use Rattle.std.proofs.Common.{◌≡◌, ℕ, zero, suc, ◌+◌, ◌<◌, ◌≤◌, ℤ, Bool, true, false, cond, List, [], ◌∷◌, ◌++◌, length, Option, Some, None, refl, sym, ap, ◌∙◌, arith, ◌⊎◌, inl, inr, int_le, T}
-use Rattle.std.specs.Prelude.{◌≤ℤ◌, slice_get, nat_lt, not, ◌&&◌, ◌==◌}
+use Rattle.std.proofs.Common.{◌≡◌, ℕ, zero, suc, ◌+◌, ◌<◌, ◌≤◌, ℤ, Bool, true, false, cond, List, [], ◌∷◌, ◌++◌, length, Option, Some, None, refl, sym, ap, ◌∙◌, arith, ◌⊎◌, inl, inr, int_le, T, IsTrue}
+use Rattle.std.specs.Prelude.{◌≤ℤ◌, ◌↔◌, slice_get, nat_lt, not, ◌&&◌, ◌==◌}
 use Rattle.std.specs.List.{AllByRecursion, list_all}
-use Rattle.std.proofs.lemmas.Bool.{and_parts, and_from, eqb-true, eq-eqb, ne_eqb, ltb-true, lt-ltb, cases_lt, cases_Bool, not-true, both_ways}
+use Rattle.std.proofs.lemmas.Bool.{and_parts, and_from, eqb-true, eq-eqb, ne_eqb, ltb-true, lt-ltb, cases_lt, cases_Bool, not-true, both_ways, false_from_ne_true}
 use Rattle.std.proofs.lemmas.Option.{slice_get_past}
 use lib.Signed.{le_z_yes}
 use Rattle.eds_base.specs.declared.ids.TypeId.{TypeId}
@@ -131,3 +131,8 @@ none_is t x fs e l ne h = elim (cases_lt l (length t)) [
   | inl lt ↦ both_ways (not (l == x) && is_candidate t x l fs) (none_passes (λ l. not (l == x) && is_candidate t x l fs) (length t) 0 e l (omega arith) (omega arith)) (and_from (not (l == x)) (is_candidate t x l fs) (ap not (ne_eqb l x ne)) (candidate_is t x l fs h))
   | inr le ↦ let q : concrete_in (container_in (slice_get t l)) ≡ false = ap (λ o. concrete_in (container_in o)) (slice_get_past t l le) in both_ways (is_concrete t l) q h.concrete
 ]
+
+-- whether a domain has the number
+pub within_is : (spans : List Span) (n : ℤ) (b : Bool) → (IsTrue b ↔ IsWithin spans n) → is_within spans n ≡ b
+within_is spans n true h = within_in spans n (h.0 refl)
+within_is spans n false h = false_from_ne_true (is_within spans n) (λ k. let p : false ≡ true = h.1 (within_from spans n k) in absurd cc)

@@ -9,6 +9,8 @@ pub mod LeastSize
 pub mod Families
 pub mod Overlap
 pub mod Reading
+pub mod Seeking
+pub mod Choices
 pub mod Rules
 pub mod Sizes
 pub mod Laws

@@ -39,6 +39,15 @@ abbrev pub number_of_id : Option TypeId → Option ℕ
 number_of_id None = None
 number_of_id (Some id) = Some id.0
 
+-- the numbers of some types
+abbrev pub numbers_of : List TypeId → List ℕ
+numbers_of ids = map (λ (id : TypeId). id.0) ids
+
+-- the first of two, where it is there
+abbrev pub or_else : {A : Type 0} → Option A → Option A → Option A
+or_else None o = o
+or_else (Some x) o = Some x
+
 -- the base of a row, by its name
 abbrev pub base_id_in : Option TypeRow → Option TypeId
 base_id_in None = None

@@ -3,26 +3,13 @@
 ghost use Rattle.std.specs.Prelude.{◌≡◌, ◌++◌, ◌∷◌, ◌<◌, ◌≤◌, ℕ, [], List, Some, length, map, option_map, replicate, slice_get, slice_set, OnOk, IfOk};
 ghost use Rattle.eds_base.specs.declared.ids.TypeId.{TypeId as Id};
 ghost use Rattle.eds_types.specs.Families.{IsFamilies, with_member};
-ghost use Rattle.eds_types.specs.Rows.{id_of, list_has, family};
+ghost use Rattle.eds_types.specs.Rows.{id_of, family};
 
 use crate::TypeRow;
 use crate::look::{chain_of, is_concrete};
+use crate::under::is_among;
 use eds_base::{Items, Memory, TypeId};
 use std::alloc::Global;
-
-/// Whether a type is among some.
-fn has(ids: &[TypeId], id: TypeId) -> bool
-    ensures { result ≡ list_has (map (λ (y : Id). y.0) ids.now) id.0 }
-{
-    let mut rest = ids;
-    while let [first, after @ ..] = rest {
-        if first.0 == id.0 {
-            return true;
-        }
-        rest = after;
-    }
-    false
-}
 
 /// Puts a type last in the list at a place.
 fn put_last(lists: &mut [Items<TypeId>], at: usize, id: TypeId) -> Result<(), Memory>
@@ -40,7 +27,7 @@ fn put_along(lists: &mut [Items<TypeId>], chain: &[TypeId], id: TypeId) -> Resul
     let mut rest = chain;
     while let [above, after @ ..] = rest {
         let at = above.0 as usize;
-        if at < lists.len() && !has(after, *above) {
+        if at < lists.len() && !is_among(after, *above) {
             put_last(lists, at, id)?;
         }
         rest = after;

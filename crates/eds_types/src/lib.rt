@@ -3,6 +3,7 @@
 
 mod binary;
 mod chain;
+mod condition;
 mod copy;
 mod family;
 pub mod law;
@@ -11,24 +12,29 @@ pub mod packs;
 mod reason;
 mod row;
 mod same;
+mod seek;
 mod sequence;
 mod sets;
 mod sizes;
 mod table;
 mod texts;
+mod under;
 mod value;
 mod values;
 
 pub use binary::is_binary;
 pub use chain::Chain;
+pub use condition::{holds_from, row_of};
 pub use reason::PackReason;
 pub use row::{
     Constraint, Constraints, Container, EntryPath, Kind, Listing, Part, Parts, TypeRow, TypeRows,
     Used,
 };
+pub use seek::value_of;
 pub use sequence::Sequence;
 pub use sets::{PathSet, Sets};
 pub use table::TypeTable;
 pub use texts::{number_of_label, stored, text_value};
+pub use under::{is_among, is_under};
 pub use value::Value;
 pub use values::Values;

@@ -1,8 +1,7 @@
 use Rattle.std.proofs.Common.{[], ◌∷◌, ◌++◌, get_or, take, arith, refl, subst}
 use Rattle.std.specs.List.{flat_map}
-use Rattle.eds_types.specs.Rows.{constraints_of}
+use Rattle.eds_types.specs.Rows.{constraints_of, numbers_of}
 use Rattle.eds_pack.specs.Building.{Asked}
-use Rattle.eds_pack.specs.Seeking.{numbers_of}
 use Rattle.eds_pack.proofs.Asking.{next_container, all_containers}
 use Rattle.eds_pack.proofs.asked.asked_along.Goals as goal
 

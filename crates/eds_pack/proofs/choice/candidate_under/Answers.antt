@@ -1,6 +1,6 @@
 use Rattle.std.proofs.Common.{◌∙◌}
+use Rattle.eds_types.proofs.Candidates.{candidate_is_first}
 use Rattle.eds_pack.specs.Seeking.{fields_of}
-use Rattle.eds_pack.proofs.Listing.{candidate_is_first}
 use Rattle.eds_pack.proofs.choice.candidate_under.Goals as goal
 
 pub returns : goal.returns

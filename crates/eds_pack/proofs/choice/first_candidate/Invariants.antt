@@ -1,7 +1,8 @@
 use Rattle.std.proofs.Common.{◌≡◌, length}
 use Rattle.eds_types.specs.Families.{first_of}
-use Rattle.eds_pack.specs.Choices.{fits_choice}
-use Rattle.eds_pack.specs.Seeking.{fields_of, numbers_of}
+use Rattle.eds_types.specs.Choices.{fits_choice}
+use Rattle.eds_types.specs.Rows.{numbers_of}
+use Rattle.eds_pack.specs.Seeking.{fields_of}
 use Rattle.eds_pack.proofs.choice.first_candidate.Given as goal
 
 abbrev pub invariant-loop-rest : goal.invariant-loop-rest

@@ -4,9 +4,9 @@ use Rattle.std.specs.List.{list_all, flat_map}
 use Rattle.eds_types.specs.declared.row.Constraint.{Constraint}
 use Rattle.eds_types.specs.Fields.{constraints_along}
 use Rattle.eds_types.specs.Rows.{chain, constraints_of}
-use Rattle.eds_pack.specs.Choices.{meets}
+use Rattle.eds_types.specs.Choices.{meets}
+use Rattle.eds_types.proofs.Candidates.{numbers_are, own_along}
 use Rattle.eds_pack.specs.Seeking.{fields_of}
-use Rattle.eds_pack.proofs.Listing.{numbers_are, own_along}
 use Rattle.eds_pack.proofs.choice.fits_under.Goals as goal
 
 pub returns-then-meets_own : goal.returns-then-meets_own

@@ -1,8 +1,8 @@
 use Rattle.std.proofs.Common.{◌≡◌, length}
 use Rattle.std.specs.List.{list_all, flat_map}
-use Rattle.eds_types.specs.Rows.{constraints_of}
-use Rattle.eds_pack.specs.Choices.{meets}
-use Rattle.eds_pack.specs.Seeking.{fields_of, numbers_of}
+use Rattle.eds_types.specs.Rows.{constraints_of, numbers_of}
+use Rattle.eds_types.specs.Choices.{meets}
+use Rattle.eds_pack.specs.Seeking.{fields_of}
 use Rattle.eds_pack.proofs.choice.meets_all.Given as goal
 
 abbrev pub invariant-loop-rest : goal.invariant-loop-rest

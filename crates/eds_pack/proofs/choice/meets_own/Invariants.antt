@@ -1,6 +1,6 @@
 use Rattle.std.proofs.Common.{◌≡◌, length}
 use Rattle.std.specs.List.{list_all}
-use Rattle.eds_pack.specs.Choices.{meets}
+use Rattle.eds_types.specs.Choices.{meets}
 use Rattle.eds_pack.specs.Seeking.{fields_of}
 use Rattle.eds_pack.proofs.choice.meets_own.Given as goal
 

@@ -3,7 +3,7 @@ use Rattle.std.specs.List.{AllByRecursion}
 use Rattle.eds_types.specs.Failing.{condition}
 use Rattle.eds_types.specs.PackedSizes.{Size, stations_size}
 use Rattle.eds_types.specs.Plain.{Plain}
-use Rattle.eds_pack.specs.Choices.{IsNear}
+use Rattle.eds_types.specs.Choices.{IsNear}
 use Rattle.eds_pack.specs.Seeking.{fields_of}
 use Rattle.eds_pack.proofs.constraint.check_constraints.Given as goal
 

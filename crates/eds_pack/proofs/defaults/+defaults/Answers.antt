@@ -6,18 +6,17 @@ use Rattle.eds_bits.specs.Style.{canonical}
 use Rattle.eds_types.specs.Fields.{constraints_along, type_by, part_at}
 use Rattle.eds_types.specs.Laws.{IsThere}
 use Rattle.eds_types.specs.Plain.{plain, items, plains_of}
-use Rattle.eds_types.specs.Rows.{address, constraints_of, sequence, chain}
+use Rattle.eds_types.specs.Rows.{address, constraints_of, sequence, chain, numbers_of}
 use Rattle.eds_types.specs.Spelling.{SpellsWithin}
 use Rattle.eds_pack.specs.Building.{Asked, Built, Chosen, IsFirstLabel, IsLeastLabel, ItemsHold, PartsHold, plain_items}
 use Rattle.eds_pack.specs.Defaults.{DefaultsWithin, EntryDefaults, FieldsDefault, ItemsDefault, PartsDefault}
 use Rattle.eds_pack.specs.Putting.{FieldsSpell}
-use Rattle.eds_pack.specs.Seeking.{numbers_of}
+use Rattle.eds_types.proofs.Candidates.{numbers_are}
+use Rattle.eds_types.proofs.PlainValues.{plain_fields, plain_items as items_plain}
 use Rattle.eds_pack.proofs.Builds.{built_least, built_none, built_within, fields_built, fields_none, items_built, items_past}
 use Rattle.eds_pack.proofs.ByKinds.{label_kept, items_kept, fields_kept, label_asked, truth_asked, own_asked, none_asked}
 use Rattle.eds_pack.proofs.Deeper.{least_bits}
 use Rattle.eds_pack.proofs.Entries.{if_ok, if_some, own_nests, entry_free, entry_asked}
-use Rattle.eds_pack.proofs.Listing.{numbers_are}
-use Rattle.eds_pack.proofs.Plains.{plain_items as items_plain, plain_fields}
 use Rattle.eds_pack.proofs.Turns.{part_in, part_stands, few_places, past_places, part_found, entry_nests, turn_goes, turn_stops, turns_end, entry_behind, entry_missing, list_behind, same_part, Behind}
 use Rattle.eds_pack.proofs.defaults.+defaults.Goals as goal
 

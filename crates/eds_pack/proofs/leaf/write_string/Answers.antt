@@ -4,7 +4,7 @@ use Rattle.eds_bits.specs.Style.{canonical}
 use Rattle.eds_bits.specs.Texts.{text_bits}
 use Rattle.eds_codec.specs.Writing.{Written, TextRefused}
 use Rattle.eds_types.specs.Plain.{plain}
-use Rattle.eds_pack.proofs.Plains.{plain_text}
+use Rattle.eds_types.proofs.PlainValues.{plain_text}
 use Rattle.eds_pack.proofs.Putting.{text_put, not_refused}
 use Rattle.eds_pack.proofs.leaf.write_string.Goals as goal
 

@@ -1,7 +1,7 @@
 use Rattle.std.proofs.Common.{rules, sym, refl, ◌∙◌}
 use Rattle.std.proofs.lemmas.Int.{to_z-of_z}
 use mir.Syntax.{w128}
-use Rattle.eds_pack.proofs.Plains.{plain_num}
+use Rattle.eds_types.proofs.PlainValues.{plain_num}
 use Rattle.eds_pack.proofs.Scalars.{within_by}
 use Rattle.eds_pack.proofs.plain.number_size.Goals as goal
 

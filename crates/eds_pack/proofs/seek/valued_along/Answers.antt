@@ -1,7 +1,7 @@
 use Rattle.std.proofs.Common.{◌∙◌, ap, length, arith, length-drop}
+use Rattle.eds_types.proofs.Paths.{rest_is}
 use Rattle.eds_pack.specs.Seeking.{values_in}
 use Rattle.eds_pack.proofs.Looking.{counted_rest}
-use Rattle.eds_pack.proofs.Paths.{rest_is}
 use Rattle.eds_pack.proofs.seek.valued_along.Goals as goal
 
 pub loop-rest-preserved : goal.loop-rest-preserved

@@ -8,7 +8,10 @@ use Rattle.eds_types.specs.Failing.{entry, own_stations}
 use Rattle.eds_types.specs.Fields.{paired}
 use Rattle.eds_types.specs.PackedSizes.{tells, packed_size_within, items_size, container_size, fields_size, stations_size}
 use Rattle.eds_types.specs.Rows.{chain, constraints_of, sequence}
-use Rattle.eds_pack.specs.Choices.{IsNear}
+use Rattle.eds_types.specs.Choices.{IsNear}
+use Rattle.eds_types.proofs.PlainValues.{plain_fields, plain_items}
+use Rattle.eds_types.proofs.Candidates.{numbers_are}
+use Rattle.eds_types.proofs.Seeking.{trailers_are}
 use Rattle.eds_pack.specs.Nesting.{IsLow, PartNests}
 use Rattle.eds_types.specs.Plain.{plain}
 use Rattle.eds_pack.specs.Counting.{added}
@@ -16,11 +19,10 @@ use Rattle.eds_pack.specs.Seeking.{fields_of}
 use Rattle.eds_pack.proofs.Looking.{one_value, values_few, values_left}
 use Rattle.eds_pack.proofs.Counts.{item_next, size_next}
 use Rattle.eds_pack.proofs.Nested.{array_is, array_wrong, goes_here, items_left, list_is, list_wrong, next_here, next_later, stops_here}
-use Rattle.eds_pack.proofs.Plains.{plain_items, plain_fields, length_plains, list_of-plains_of}
+use Rattle.eds_types.proofs.SameValues.{list_of-plains_of}
+use Rattle.eds_pack.proofs.Plains.{length_plains}
 use Rattle.eds_pack.proofs.Chains.{chain_next, chain_stops, entries_stop, entries_next, entries_used, entries_count, trailers_next, trailers_stop, these_next, above_next, first_next, last_next}
-use Rattle.eds_pack.proofs.Listing.{numbers_are}
 use Rattle.eds_pack.proofs.OwnSizes.{all_pass, choice_stops, end_stops, first_stops, others_stop}
-use Rattle.eds_pack.proofs.Seeking.{trailers_are}
 use Rattle.eds_pack.proofs.Spelt.{all_at, all_take}
 use Rattle.eds_pack.proofs.Ranks.{chain_is_low, entries_nest, trailers_nest, constraints_near, nearer, under_low}
 use Rattle.eds_pack.proofs.size.+size.Goals as goal

@@ -5,10 +5,11 @@ use Rattle.eds_types.specs.Failing.{entry, own_stations}
 use Rattle.eds_types.specs.Packing.{valued}
 use Rattle.eds_types.specs.PackedSizes.{packed_size_within, items_size, stations_size}
 use Rattle.eds_types.specs.Plain.{plain}
-use Rattle.eds_types.specs.Rows.{placed_from}
+use Rattle.eds_types.specs.Rows.{placed_from, numbers_of}
 use Rattle.eds_pack.specs.Counting.{added}
 use Rattle.eds_pack.specs.Nesting.{IsLow}
-use Rattle.eds_pack.specs.Seeking.{AreNext, entries_along, fields_of, numbers_of, trailers_along, values_in}
+use Rattle.eds_types.specs.Seeking.{entries_in_turn, trailers_in_turn}
+use Rattle.eds_pack.specs.Seeking.{AreNext, fields_of, values_in}
 use Rattle.eds_pack.proofs.size.+size.Given as goal
 
 abbrev pub decreases-add_value : goal.decreases-add_value
@@ -67,17 +68,17 @@ abbrev pub invariant-add_chain-loop-id : goal.invariant-add_chain-loop-id
 invariant-add_chain-loop-id l = record {
   rest : added l.total (stations_size l.fields.table.now (packed_size_within l.fields.depth l.fields.table.now) (fields_of l.fields.table.now l.fields.own.0 l.fields.values.now) l.fields.own.0 0 (flat_map (own_stations l.fields.table.now) (numbers_of (drop l.id-index l.chain))))
       ≡ added l.fn.total (stations_size l.fields.table.now (packed_size_within l.fields.depth l.fields.table.now) (fields_of l.fields.table.now l.fields.own.0 l.fields.values.now) l.fields.own.0 0 (flat_map (own_stations l.fields.table.now) (numbers_of l.chain)));
-  next : AreNext (fields_of l.fields.table.now l.fields.own.0 l.fields.values.now) (map plain l.fields.values.now) l.used (entries_along l.fields.table.now (drop l.id-index l.chain));
-  used : l.used + valued (entries_along l.fields.table.now (drop l.id-index l.chain)) ≡ valued (entries_along l.fields.table.now l.chain);
+  next : AreNext (fields_of l.fields.table.now l.fields.own.0 l.fields.values.now) (map plain l.fields.values.now) l.used (entries_in_turn l.fields.table.now (drop l.id-index l.chain));
+  used : l.used + valued (entries_in_turn l.fields.table.now (drop l.id-index l.chain)) ≡ valued (entries_in_turn l.fields.table.now l.chain);
   few : l.used ≤ 32767 * l.id-index;
   root : l.path ≡ [];
 }
 
 abbrev pub invariant-add_trailers-loop-rest : goal.invariant-add_trailers-loop-rest
 invariant-add_trailers-loop-rest l = record {
-  rest : added l.total (stations_size l.fields.table.now (packed_size_within l.fields.depth l.fields.table.now) (fields_of l.fields.table.now l.fields.own.0 l.fields.values.now) l.fields.own.0 0 (map entry (trailers_along l.fields.table.now (reverse l.rest))))
-      ≡ added l.fn.total (stations_size l.fields.table.now (packed_size_within l.fields.depth l.fields.table.now) (fields_of l.fields.table.now l.fields.own.0 l.fields.values.now) l.fields.own.0 0 (map entry (trailers_along l.fields.table.now (reverse l.chain))));
-  next : AreNext (fields_of l.fields.table.now l.fields.own.0 l.fields.values.now) (map plain l.fields.values.now) l.used (trailers_along l.fields.table.now (reverse l.rest));
+  rest : added l.total (stations_size l.fields.table.now (packed_size_within l.fields.depth l.fields.table.now) (fields_of l.fields.table.now l.fields.own.0 l.fields.values.now) l.fields.own.0 0 (map entry (trailers_in_turn l.fields.table.now (reverse l.rest))))
+      ≡ added l.fn.total (stations_size l.fields.table.now (packed_size_within l.fields.depth l.fields.table.now) (fields_of l.fields.table.now l.fields.own.0 l.fields.values.now) l.fields.own.0 0 (map entry (trailers_in_turn l.fields.table.now (reverse l.chain))));
+  next : AreNext (fields_of l.fields.table.now l.fields.own.0 l.fields.values.now) (map plain l.fields.values.now) l.used (trailers_in_turn l.fields.table.now (reverse l.rest));
   low : AllByRecursion (λ (id : TypeId). IsLow l.fields.table.now (l.fields.depth + 1) id.0) l.rest;
   less : length l.rest ≤ length l.chain;
   few : l.used + 32767 * length l.rest ≤ l.before + 32767 * length l.chain;

@@ -4,7 +4,7 @@ use mir.Syntax.{w128}
 use Rattle.eds_bits.specs.Bits.{bits_of}
 use Rattle.eds_bits.specs.Scalars.{check_of}
 use Rattle.eds_types.specs.Plain.{num}
-use Rattle.eds_pack.proofs.Plains.{plain_num}
+use Rattle.eds_types.proofs.PlainValues.{plain_num}
 use Rattle.eds_pack.proofs.Runs.{between_is, front_long}
 use Rattle.eds_pack.proofs.told.check_value.Goals as goal
 

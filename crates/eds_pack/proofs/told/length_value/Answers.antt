@@ -7,7 +7,7 @@ use Rattle.eds_types.specs.PackedSizes.{told_by}
 use Rattle.eds_types.specs.Plain.{num, plain}
 use Rattle.eds_pack.specs.Putting.{own_octets}
 use Rattle.eds_pack.proofs.LengthNumbers.{number_fits}
-use Rattle.eds_pack.proofs.Plains.{plain_num}
+use Rattle.eds_types.proofs.PlainValues.{plain_num}
 use Rattle.eds_pack.proofs.Telling.{number_found, number_missed}
 use Rattle.eds_pack.proofs.told.length_value.Goals as goal
 

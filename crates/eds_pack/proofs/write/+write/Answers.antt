@@ -12,10 +12,10 @@ use Rattle.eds_types.specs.Plain.{plain, num, fields, items, plains_of}
 use Rattle.eds_types.specs.Spelling.{ContainerSpells, ItemsSpell, KindSpells, SpellsWithin}
 use Rattle.eds_pack.specs.Nesting.{IsLow, PartNests}
 use Rattle.eds_pack.specs.Putting.{HasRoom, Writes, FieldsSpell, ListSpells, PartSpells, between, entry_parts, own_octets, trailer_parts}
+use Rattle.eds_types.proofs.PlainValues.{plain_fields, plain_items}
 use Rattle.eds_pack.specs.Seeking.{values_in}
 use Rattle.eds_pack.proofs.Looking.{one_value, values_few, values_left, values_more}
 use Rattle.eds_pack.proofs.Nested.{items_left}
-use Rattle.eds_pack.proofs.Plains.{plain_items, plain_fields}
 use Rattle.eds_pack.proofs.Putting.{ItemsHalf, items_next}
 use Rattle.eds_pack.proofs.Ranks.{chain_is_low, entries_nest, trailers_nest, has_low}
 use Rattle.eds_pack.proofs.Runs.{RunHalf, run_begin, run_end, part_room, part_written, run_room, run_written, entries_first, trailers_first, last_half, sized, whole_half}

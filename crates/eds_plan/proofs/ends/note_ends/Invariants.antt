@@ -1,6 +1,7 @@
 use Rattle.std.proofs.Common.{◌≡◌, ℕ, List, length}
 use Rattle.std.specs.HashMap.{get_by_text}
-use Rattle.eds_plan.specs.Ends.{ends_from, first_called, or_else}
+use Rattle.eds_types.specs.Rows.{or_else}
+use Rattle.eds_plan.specs.Ends.{ends_from, first_called}
 use Rattle.eds_plan.proofs.ends.note_ends.Given as goal
 
 abbrev pub invariant-loop-rest : goal.invariant-loop-rest
