@@ -9,14 +9,9 @@ use Rattle.eds_base.specs.declared.ids.TypeId.{TypeId}
 use Rattle.eds_names.specs.Positions.{place_from, place_among}
 use Rattle.eds_types.specs.declared.row.Part.{Part}
 use Rattle.eds_types.specs.declared.row.TypeRow.{TypeRow}
-use Rattle.eds_types.specs.Rows.{Table, Placed, id_of, address, base_of, base_in, container_in, container_of, container_by, entries_in, trailers_in, entries_of, trailers_of, placed_from, placed_entries, placed_trailers, chain_before, chain_within, chain, sequence}
+use Rattle.eds_types.specs.Rows.{Table, Placed, id_of, address, or_else, base_of, base_in, container_in, container_of, container_by, entries_in, trailers_in, entries_of, trailers_of, placed_from, placed_entries, placed_trailers, chain_before, chain_within, chain, sequence}
 use Rattle.eds_types.specs.Fields.{part_at}
 use Rattle.eds_constraints.specs.Paths.{called, is_called, place_called, first_called}
-
--- the first of two, where it is there
-abbrev pub or_else : Option (TypeId × ℕ) → Option (TypeId × ℕ) → Option (TypeId × ℕ)
-or_else None other = other
-or_else (Some p) other = Some p
 
 module _ (t : Table) (name : List ℕ) where
   pub called-both : (xs ys : List (TypeId × ℕ)) → place_called t name (xs ++ ys) ≡ or_else (place_called t name xs) (place_called t name ys)

@@ -9,11 +9,11 @@ use Rattle.eds_types.specs.declared.row.TypeRow.{TypeRow}
 use Rattle.eds_types.specs.declared.row.Container.{Container}
 use Rattle.eds_types.specs.declared.row.Kind.{Kind}
 use Rattle.eds_types.specs.declared.row.Kind.TheVariants as kind
-use Rattle.eds_types.specs.Rows.{Table, id_of, address, base_of, container_by, container_in, entries_in, trailers_in, entries_of, trailers_of, placed_entries, placed_trailers, chain_before, chain_within, chain}
+use Rattle.eds_types.specs.Rows.{Table, id_of, address, or_else, base_of, container_by, container_in, entries_in, trailers_in, entries_of, trailers_of, placed_entries, placed_trailers, chain_before, chain_within, chain}
 use Rattle.eds_constraints.specs.Paths.{called, place_called, first_called}
 use Rattle.eds_constraints.specs.Named.{names_of_entries, names_of_trailers, has_few_parts, have_few_parts}
 use Rattle.eds_constraints.specs.ConstrainedRows.{AreRead, IsReadKind}
-use Rattle.eds_constraints.proofs.Called.{or_else, own_entries, own_trailers, position_below, entries_along, trailers_along, entries-none, entries-root, entries-up, trailers-none, trailers-up, both-sequences}
+use Rattle.eds_constraints.proofs.Called.{own_entries, own_trailers, position_below, entries_along, trailers_along, entries-none, entries-root, entries-up, trailers-none, trailers-up, both-sequences}
 
 -- ---- few parts
 

@@ -20,14 +20,12 @@ fn is_on_kind(test: &Test) -> bool
 fn constraint_by(test: &Test, aim: Aim, set: Option<Spans>) -> Option<Constraint>
     ensures { result ≡ constraint_with test.now aim set }
 {
-    match set {
-        None => None,
-        Some(set) => Some(Constraint {
-            path: aim.path,
-            set,
-            on_kind: is_on_kind(test),
-        }),
-    }
+    let set = set?;
+    Some(Constraint {
+        path: aim.path,
+        set,
+        on_kind: is_on_kind(test),
+    })
 }
 
 // A constraint as a row holds it, None exactly where it breaks a rule by itself.

@@ -25,15 +25,11 @@ fn first_name(text: &str) -> (&str, Option<&str>)
 fn first_step(rows: &NamedRows, base: TypeId, name: &str) -> Option<((TypeId, u16), TypeId)>
     ensures { result ≡ first_step_of rows.now.rows.now base.0 name.now }
 {
-    match rows.first_called(base, name) {
-        None => None,
-        Some(at) => {
-            if is_listed(rows.rows, at) {
-                entry_at(rows.rows, at)
-            } else {
-                None
-            }
-        }
+    let at = rows.first_called(base, name)?;
+    if is_listed(rows.rows, at) {
+        entry_at(rows.rows, at)
+    } else {
+        None
     }
 }
 
@@ -44,10 +40,7 @@ fn further_step(rows: &NamedRows, id: TypeId, name: &str) -> Option<((TypeId, u1
     if container_of(rows.rows, id).is_none() {
         return None;
     }
-    match rows.first_called(id, name) {
-        None => None,
-        Some(at) => entry_at(rows.rows, at),
-    }
+    entry_at(rows.rows, rows.first_called(id, name)?)
 }
 
 // From an entry on, by the names of a text.
@@ -133,24 +126,17 @@ fn suits(test: &Test, kind: &Kind) -> bool
 fn suits_type(rows: &[TypeRow], test: &Test, id: TypeId) -> bool
     ensures { result ≡ suits_row test.now (slice_get rows.now id.0) }
 {
-    match row_of(rows, id) {
-        None => false,
-        Some(row) => suits(test, &row.kind),
-    }
+    row_of(rows, id).is_some_and(|row| suits(test, &row.kind))
 }
 
 fn suited(rows: &[TypeRow], test: &Test, aim: Option<Aim>) -> Option<Aim>
     ensures { result ≡ suited_aim rows.now test.now aim }
 {
-    match aim {
-        None => None,
-        Some(aim) => {
-            if suits_type(rows, test, aim.target) {
-                Some(aim)
-            } else {
-                None
-            }
-        }
+    let aim = aim?;
+    if suits_type(rows, test, aim.target) {
+        Some(aim)
+    } else {
+        None
     }
 }
 

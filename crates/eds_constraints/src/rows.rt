@@ -25,10 +25,7 @@ pub(crate) fn row_of(rows: &[TypeRow], id: TypeId) -> Option<&TypeRow>
 pub(crate) fn base_of(rows: &[TypeRow], id: TypeId) -> Option<TypeId>
     ensures { result ≡ base_id_in (slice_get rows.now id.0) }
 {
-    match row_of(rows, id) {
-        Some(row) => row.base,
-        None => None,
-    }
+    row_of(rows, id)?.base
 }
 
 fn container_by(kind: &Kind) -> Option<&Container>
@@ -44,10 +41,7 @@ fn container_by(kind: &Kind) -> Option<&Container>
 pub(crate) fn container_of(rows: &[TypeRow], id: TypeId) -> Option<&Container>
     ensures { option_copied result ≡ container_in_rows rows.now id.0 }
 {
-    match row_of(rows, id) {
-        Some(row) => container_by(&row.kind),
-        None => None,
-    }
+    container_by(&row_of(rows, id)?.kind)
 }
 
 /// The entries of a container; any other type has none.
@@ -87,10 +81,7 @@ fn part_at(rows: &[TypeRow], at: (TypeId, u16)) -> Option<&Part>
 pub(crate) fn is_concrete(rows: &[TypeRow], id: TypeId) -> bool
     ensures { result ≡ is_concrete_in rows.now id.0 }
 {
-    match container_of(rows, id) {
-        Some(container) => !container.hidden,
-        None => false,
-    }
+    container_of(rows, id).is_some_and(|container| !container.hidden)
 }
 
 // ---- entries
@@ -108,13 +99,8 @@ fn entry_type(part: &Part) -> Option<TypeId>
 pub(crate) fn entry_at(rows: &[TypeRow], at: (TypeId, u16)) -> Option<((TypeId, u16), TypeId)>
     ensures { result ≡ entry_at_place rows.now at }
 {
-    match part_at(rows, at) {
-        None => None,
-        Some(part) => match entry_type(part) {
-            None => None,
-            Some(id) => Some((at, id)),
-        },
-    }
+    let id = entry_type(part_at(rows, at)?)?;
+    Some((at, id))
 }
 
 /// Whether a place is one of a container's entries, and not of its trailers.
@@ -224,13 +210,9 @@ fn number_listed(listing: &[(Text, i128)], labels: &NameList, label: &str) -> Op
     requires { labels.now ≡ map label_in listing.now }
     ensures { result ≡ listed listing.now label.now }
 {
-    match labels.position(label) {
-        None => None,
-        Some(at) => match listing.get(at) {
-            None => None,
-            Some(entry) => Some(entry.1),
-        },
-    }
+    let at = labels.position(label)?;
+    let entry = listing.get(at)?;
+    Some(entry.1)
 }
 
 /// Rows, with the names of the entries and of the trailers of each, and its labels.
@@ -267,26 +249,18 @@ impl<'a> NamedRows<'a> {
     pub(crate) fn number_of_label(&self, id: TypeId, label: &str) -> Option<i128>
         ensures { result ≡ number_labelled self.now.rows.now id.0 label.now }
     {
-        match row_of(self.rows, id) {
-            None => None,
-            Some(row) => match self.labels.get(id.0 as usize) {
-                None => None,
-                Some(labels) => number_listed(listing_of(&row.kind), labels, label),
-            },
-        }
+        let row = row_of(self.rows, id)?;
+        let labels = self.labels.get(id.0 as usize)?;
+        number_listed(listing_of(&row.kind), labels, label)
     }
 
     // Where the first of a container's own entries with a name stands.
     fn own_entry(&self, id: TypeId, name: &str) -> Option<(TypeId, u16)>
         ensures { result ≡ place_called self.now.rows.now name.now (map address (placed_entries self.now.rows.now id.0)) }
     {
-        match self.entries.get(id.0 as usize) {
-            None => None,
-            Some(names) => match names.position(name) {
-                None => None,
-                Some(place) => Some((id, place as u16)),
-            },
-        }
+        let names = self.entries.get(id.0 as usize)?;
+        let place = names.position(name)?;
+        Some((id, place as u16))
     }
 
     // The same among its trailers.
@@ -294,13 +268,9 @@ impl<'a> NamedRows<'a> {
         ensures { result ≡ place_called self.now.rows.now name.now (map address (placed_trailers self.now.rows.now id.0)) }
     {
         let first = entries_of(self.rows, id).len();
-        match self.trailers.get(id.0 as usize) {
-            None => None,
-            Some(names) => match names.position(name) {
-                None => None,
-                Some(place) => Some((id, (first + place) as u16)),
-            },
-        }
+        let names = self.trailers.get(id.0 as usize)?;
+        let place = names.position(name)?;
+        Some((id, (first + place) as u16))
     }
 
     /// Where the first part with a name stands in the sequence of a type.

@@ -13,7 +13,8 @@ use Rattle.eds_read_types.specs.declared.part_sort.PartSort.{PartSort}
 use Rattle.eds_read_types.specs.declared.part_sort.PartSort.TheVariants as sort
 use Rattle.eds_read_types.specs.Entries.{sort_at, is_list_sort, is_list}
 use Rattle.eds_read_types.specs.PartRows.{part_by, part_at}
-use Rattle.eds_read_types.specs.ListFields.{or_else, place_if, place_named, place_from, AreEnough}
+use Rattle.eds_types.specs.Rows.{or_else}
+use Rattle.eds_read_types.specs.ListFields.{place_if, place_named, place_from, AreEnough}
 
 pub or_else-none : (o : Option ℕ) → or_else o None ≡ o
 or_else-none None = refl

@@ -11,7 +11,7 @@ use Rattle.eds_types.specs.Sizes.{part_size}
 use Rattle.eds_types.specs.Rules.{is_length, TailKeeps}
 use Rattle.eds_types.proofs.AllOf.{All-flat, All-reverse}
 use Rattle.eds_read_types.specs.Parts.{parts_in}
-use Rattle.eds_read_types.specs.LengthField.{is_number, has_derived, is_last, tells_length, lacks_size, is_tail}
+use Rattle.eds_read_types.specs.LengthField.{is_base, has_derived, is_last, tells_length, lacks_size, is_tail}
 use Rattle.eds_read_types.proofs.SequenceFacts.{has-parts}
 
 either_or : (a b : Bool) → (a || b) ≡ true → (a ≡ true) ⊎ (b ≡ true)
@@ -48,8 +48,8 @@ last_placed y n (q ∷ ps) (suc k) p e l place s =
 
 derives_at : (rows : List TypeRow) (k y : ℕ) → base_in (slice_get rows k) ≡ Some y → has_derived rows y ≡ true
 derives_at [] k y e = absurd cc
-derives_at (r ∷ rows) zero y e = ap (λ o. is_number y o || has_derived rows y) e ∙ ap (λ b. b || has_derived rows y) (eq-eqb y y refl)
-derives_at (r ∷ rows) (suc k) y e = go (is_number y (number_of_id r.base)) (derives_at rows k y e)
+derives_at (r ∷ rows) zero y e = ap (λ o. is_base y o || has_derived rows y) e ∙ ap (λ b. b || has_derived rows y) (eq-eqb y y refl)
+derives_at (r ∷ rows) (suc k) y e = go (is_base y (number_of_id r.base)) (derives_at rows k y e)
   where
     go : (b : Bool) → has_derived rows y ≡ true → (b || has_derived rows y) ≡ true
     go true h = refl

@@ -1,7 +1,7 @@
 -- The scale of a length entry: a container has c0 + c1 * r octets where its length entry has the raw number r
 -- (CCSDS 876.0-B, length entries and polynomial calibrators).
 use Rattle.std.specs.Prelude.{ℕ, ℤ, pos, negsuc, int_le, List, [], ◌∷◌, codes, Bool, false, not, ◌&&◌, ◌||◌, if◌then◌else◌, Option, unwrap_or}
-use Rattle.std.specs.List.{flat_map}
+use Rattle.std.specs.List.{flat_map, list_any}
 use Rattle.std.specs.Ordering.{int_eq}
 use Rattle.eds_base.specs.Reading.{◌>>=◌}
 use Rattle.eds_base.specs.Numbers.{whole_number}
@@ -38,8 +38,7 @@ coefficient_of trees n (at ∷ ats) = if int_eq (exponent_at trees at) n then co
 
 -- an exponent is that of some term
 abbrev pub has_exponent : List (List Node) → ℤ → List Place → Bool
-has_exponent trees n [] = false
-has_exponent trees n (at ∷ ats) = int_eq (exponent_at trees at) n || has_exponent trees n ats
+has_exponent trees n terms = list_any (λ at. int_eq (exponent_at trees at) n) terms
 
 -- an exponent stands twice
 abbrev pub repeats_exponent : List (List Node) → List Place → Bool

@@ -1,5 +1,6 @@
 -- What an element of a tree holds: its children of a name, and the numbers of its attributes.
-use Rattle.std.specs.Prelude.{ℕ, ℤ, List, [], ◌∷◌, filter, if◌then◌else◌, Option, Some, None}
+use Rattle.std.specs.Prelude.{ℕ, ℤ, List, filter, Option}
+use Rattle.std.specs.List.{find}
 use Rattle.eds_base.specs.Reading.{◌>>=◌}
 use Rattle.eds_tree.specs.declared.tree.Node.{Node}
 use Rattle.eds_tree.specs.Trees.{children_at, attribute_at, is_named}
@@ -13,14 +14,9 @@ named_among t name elements = filter (is_named t name) elements
 abbrev pub held : List Node → ℕ → List ℕ → List ℕ
 held t n name = named_among t name (children_at t n)
 
--- the first of some elements that has a name
-abbrev pub first_named : List Node → List ℕ → List ℕ → Option ℕ
-first_named t name [] = None
-first_named t name (n ∷ ns) = if is_named t name n then Some n else first_named t name ns
-
 -- the first child of an element that has a name
 abbrev pub child_named : List Node → ℕ → List ℕ → Option ℕ
-child_named t n name = first_named t name (children_at t n)
+child_named t n name = find (is_named t name) (children_at t n)
 
 -- the whole number that an attribute of an element spells
 abbrev pub number_at : List Node → ℕ → List ℕ → Option ℤ

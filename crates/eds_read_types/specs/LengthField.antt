@@ -47,14 +47,14 @@ is_int t id = is_int_in (slice_get t id)
 
 -- ---- open binaries
 
--- a number is there, and it is this one
-abbrev pub is_number : ℕ → Option ℕ → Bool
-is_number id None = false
-is_number id (Some other) = other == id
+-- a type has a base, and it is this one
+abbrev pub is_base : ℕ → Option ℕ → Bool
+is_base id None = false
+is_base id (Some other) = other == id
 
 -- some type derives from this one
 abbrev pub has_derived : Table → ℕ → Bool
-has_derived t id = list_any (λ (row : TypeRow). is_number id (number_of_id row.base)) t
+has_derived t id = list_any (λ (row : TypeRow). is_base id (number_of_id row.base)) t
 
 -- nothing follows the part among the entries of its container
 abbrev pub is_last : Table → Placed → Bool

@@ -1,6 +1,7 @@
 -- The number of a list's items is told by an entry of its container or of a base that stands before it, whose type is an integer
 -- type or a sub-range without negative numbers. Nothing is kept.
-use Rattle.std.specs.Prelude.{ℕ, pos, int_lt, List, [], ◌∷◌, Bool, false, not, ◌&&◌, ◌||◌, ◌==◌, nat_lt, if◌then◌else◌, Option, Some, None, slice_get}
+use Rattle.std.specs.Prelude.{ℕ, pos, int_lt, List, [], ◌∷◌, Bool, false, not, ◌&&◌, ◌==◌, nat_lt, if◌then◌else◌, Option, Some, None, slice_get}
+use Rattle.std.specs.List.{list_any}
 use Rattle.eds_base.specs.declared.ids.Place.{Place}
 use Rattle.eds_base.specs.declared.spans.Span.{Span}
 use Rattle.eds_base.specs.declared.refusal.Refusal.{Refusal}
@@ -18,8 +19,7 @@ use Rattle.eds_read_types.specs.Parts.{PartJudgement, at_parts, parts_in}
 
 -- a number among these is negative
 abbrev pub has_negative : List Span → Bool
-has_negative [] = false
-has_negative (s ∷ spans) = int_lt s.low (pos 0) || has_negative spans
+has_negative spans = list_any (λ s. int_lt s.low (pos 0)) spans
 
 -- a type counts: it is an integer type or a sub-range, and has no negative numbers
 abbrev pub counts_by : Kind → Bool

@@ -5,14 +5,10 @@ use Rattle.eds_base.specs.Reading.{◌>>=◌, same}
 use Rattle.eds_base.specs.declared.ids.Place.{Place}
 use Rattle.eds_base.specs.declared.ids.TypeId.{TypeId}
 use Rattle.eds_tree.specs.declared.tree.Node.{Node}
+use Rattle.eds_types.specs.Rows.{or_else}
 use Rattle.eds_read_types.specs.declared.seat.Seat.{Seat}
 use Rattle.eds_read_types.specs.Places.{attribute, own_name}
 use Rattle.eds_read_types.specs.Entries.{has_name, is_list}
-
--- the first, where there is one
-abbrev pub or_else : Option ℕ → Option ℕ → Option ℕ
-or_else None other = other
-or_else (Some n) other = Some n
 
 -- the position of a part of this name, if it is asked for
 abbrev pub place_if : (own : List ℕ) → ℕ → List ℕ → Option ℕ

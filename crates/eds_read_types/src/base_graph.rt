@@ -68,10 +68,7 @@ pub(crate) fn bases_of(alloc: Global, sheet: &NamedTrees) -> Result<Vec<Option<T
 pub(crate) fn base_at(bases: &[Option<TypeId>], id: usize) -> Option<TypeId>
     ensures { result ≡ base_in bases.now id }
 {
-    match bases.get(id) {
-        None => None,
-        Some(base) => *base,
-    }
+    *bases.get(id)?
 }
 
 /// Whether a type is its own base over one step or more.

@@ -23,13 +23,7 @@ pub(crate) struct Scale {
 fn whole_or_zero(text: Option<&str>) -> i128
     ensures { result ≡ whole_or_zero_of (option_map (λ t. t.now) text.entry) }
 {
-    match text {
-        None => 0,
-        Some(text) => match whole_number(text) {
-            None => 0,
-            Some(number) => number,
-        },
-    }
+    text.and_then(|text| whole_number(text)).unwrap_or(0)
 }
 
 /// The number that an attribute of an element is.
@@ -89,14 +83,9 @@ fn coefficient_of(trees: &[Tree], exponent: i128, terms: &[Place]) -> i128
 fn has_exponent(trees: &[Tree], exponent: i128, terms: &[Place]) -> bool
     ensures { result ≡ has_exponent_in trees.now exponent terms.now }
 {
-    let mut rest = terms;
-    while let [term, after @ ..] = rest {
-        if exponent_at(trees, *term) == exponent {
-            return true;
-        }
-        rest = after;
-    }
-    false
+    terms
+        .iter()
+        .any(|term| exponent_at(trees, *term) == exponent)
 }
 
 /// Whether an exponent stands twice.

@@ -69,10 +69,7 @@ fn range_at(trees: &[Tree], at: Place) -> Range
 fn text_at<'a>(trees: &'a [Tree], name: &str, at: Place) -> &'a str
     ensures { result.now ≡ text_by_place trees.now name.now at }
 {
-    match attribute(trees, name, at) {
-        None => "",
-        Some(text) => text,
-    }
+    attribute(trees, name, at).unwrap_or("")
 }
 
 /// What a constraint compares its entry with.

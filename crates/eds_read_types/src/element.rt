@@ -19,10 +19,7 @@ pub(crate) fn tree_at(trees: &[Tree], file: u16) -> Option<&Tree>
 fn element<'a>(trees: &'a [Tree], at: Place) -> Option<&'a Node>
     ensures { option_copied result ≡ element_of trees.now at }
 {
-    match trees.get(at.file as usize) {
-        None => None,
-        Some(tree) => tree.get(at.node as usize),
-    }
+    trees.get(at.file as usize)?.get(at.node as usize)
 }
 
 /// The name of the element at a place, empty where there is none.
@@ -93,20 +90,14 @@ pub(crate) fn is_array(trees: &[Tree], at: Place) -> bool
 pub(crate) fn attribute<'a>(trees: &'a [Tree], name: &str, at: Place) -> Option<&'a str>
     ensures { option_map (λ t. t.now) result ≡ attribute_of trees.now name.now at }
 {
-    match element(trees, at) {
-        None => None,
-        Some(node) => node.attribute(name),
-    }
+    element(trees, at)?.attribute(name)
 }
 
 /// The name that it gives itself, empty where it gives none.
 pub(crate) fn own_name(trees: &[Tree], at: Place) -> &str
     ensures { result.now ≡ own_name_of trees.now at }
 {
-    match attribute(trees, "name", at) {
-        None => "",
-        Some(name) => name,
-    }
+    attribute(trees, "name", at).unwrap_or("")
 }
 
 /// Puts those of its children last that have a name.
@@ -134,22 +125,15 @@ pub(crate) fn push_held(
 pub(crate) fn child_named(tree: &Tree, node: u32, name: &str) -> Option<u32>
     ensures { result ≡ child_named tree.now node name.now }
 {
-    let mut rest = tree.children_at(node);
-    while let [child, after @ ..] = rest {
-        if tree.name_at(*child) == name {
-            return Some(*child);
-        }
-        rest = after;
-    }
-    None
+    tree.children_at(node)
+        .iter()
+        .copied()
+        .find(|child| tree.name_at(*child) == name)
 }
 
 /// The whole number that an attribute of an element spells.
 pub(crate) fn number_at(tree: &Tree, node: u32, name: &str) -> Option<i128>
     ensures { result ≡ number_at tree.now node name.now }
 {
-    match tree.attribute_at(node, name) {
-        Some(text) => whole_number(text),
-        None => None,
-    }
+    whole_number(tree.attribute_at(node, name)?)
 }

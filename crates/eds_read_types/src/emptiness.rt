@@ -19,12 +19,9 @@ const DEEPEST: u32 = 32;
 pub(crate) fn item_of(rows: &TypeRows, id: usize) -> Option<TypeId>
     ensures { option_map (λ (i : type_id). i.0) result ≡ item_of_row rows.now id }
 {
-    match rows.get(id) {
-        None => None,
-        Some(row) => match &row.kind {
-            Kind::Arr(item, _) => Some(*item),
-            _ => None,
-        },
+    match &rows.get(id)?.kind {
+        Kind::Arr(item, _) => Some(*item),
+        _ => None,
     }
 }
 

@@ -26,10 +26,7 @@ use std::alloc::Global;
 fn lacks_numbers_by(form: Option<IntForm>, range: Range) -> bool
     ensures { result ≡ lacks_numbers_by form range }
 {
-    match form {
-        None => false,
-        Some(form) => is_empty_domain(form, range),
-    }
+    form.is_some_and(|form| is_empty_domain(form, range))
 }
 
 /// Whether the range of an integer type admits no number of its form.
@@ -70,14 +67,10 @@ impl PlaceRule for EmptyRange {
 pub(crate) fn lacks_form_at(trees: &[Tree], at: Option<Place>) -> bool
     ensures { result ≡ lacks_form_in trees.now at }
 {
-    let at = match at {
-        None => return false,
-        Some(at) => at,
+    let Some(at) = at else {
+        return false;
     };
-    match tree_at(trees, at.file) {
-        None => false,
-        Some(tree) => lacks_form(tree, at.node),
-    }
+    tree_at(trees, at.file).is_some_and(|tree| lacks_form(tree, at.node))
 }
 
 /// Whether a type has no numbers.

@@ -38,10 +38,7 @@ fn empty_where(empty: bool, at: Place) -> Option<Refusal>
 fn is_judged(marks: &[bool], id: Option<TypeId>) -> bool
     ensures { result ≡ passes_type (is_unmarked marks.now) (option_map (λ (i : type_id). i.0) id) }
 {
-    match id {
-        None => false,
-        Some(id) => !mark_at(marks, id.0 as usize),
-    }
+    id.is_some_and(|id| !mark_at(marks, id.0 as usize))
 }
 
 /// At the part of a position in a container, unless its type is marked.
@@ -54,13 +51,11 @@ fn least_part(
 ) -> Option<Refusal>
     ensures { result ≡ least (judged_part (empty_part_at (is_unmarked marks.now)) all.now.rows.now container index at) }
 {
-    match part_of(all.rows, container, index) {
-        None => None,
-        Some(part) => empty_where(
-            is_judged(marks, part.type_id()) && all.is_empty_part(part),
-            at,
-        ),
-    }
+    let part = part_of(all.rows, container, index)?;
+    empty_where(
+        is_judged(marks, part.type_id()) && all.is_empty_part(part),
+        at,
+    )
 }
 
 /// At the parts of a container, of which the elements are given.
@@ -103,10 +98,8 @@ fn least_of_all_parts(
 fn least_item(all: &Emptiness, marks: &[bool], id: usize, at: Place) -> Option<Refusal>
     ensures { result ≡ least (empty_item_by (is_unmarked marks.now) all.now.rows.now at (item_of_row all.now.rows.now id)) }
 {
-    match item_of(all.rows, id) {
-        None => None,
-        Some(item) => empty_where(is_judged(marks, Some(item)) && all.may_be_empty(item), at),
-    }
+    let item = item_of(all.rows, id)?;
+    empty_where(is_judged(marks, Some(item)) && all.may_be_empty(item), at)
 }
 
 /// At all arrays.

@@ -21,10 +21,7 @@ pub(crate) fn sort_at(trees: &[Tree], at: Place) -> Option<PartSort>
 fn is_part(trees: &[Tree], at: Place) -> bool
     ensures { result ≡ is_part_in trees.now at }
 {
-    match sort_at(trees, at) {
-        None => false,
-        Some(_) => true,
-    }
+    sort_at(trees, at).is_some()
 }
 
 /// Puts the parts last that a list of entries holds.
@@ -148,10 +145,7 @@ pub(crate) fn has_list(trees: &[Tree], parts: &[Place]) -> bool
 fn is_given(name: Option<&str>) -> bool
     ensures { result ≡ is_some name.entry }
 {
-    match name {
-        None => false,
-        Some(_) => true,
-    }
+    name.is_some()
 }
 
 /// Whether a part has a name: padding has none, and a fixed value may do without.

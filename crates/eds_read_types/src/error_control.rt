@@ -41,10 +41,7 @@ pub(crate) fn check_at(trees: &[Tree], at: Place) -> CheckKind
 {
     match attribute(trees, "errorControlType", at) {
         None => CheckKind::Checksum,
-        Some(word) => match check_named(word) {
-            None => CheckKind::Checksum,
-            Some(check) => check,
-        },
+        Some(word) => check_named(word).unwrap_or(CheckKind::Checksum),
     }
 }
 
@@ -79,10 +76,7 @@ fn is_unsigned(encoding: Encoding) -> bool
 fn fits_check(check: CheckKind, form: Option<IntForm>) -> bool
     ensures { result ≡ fits_check_of check form }
 {
-    match form {
-        None => false,
-        Some(form) => is_unsigned(form.encoding) && form.bits == check_bits(check),
-    }
+    form.is_some_and(|form| is_unsigned(form.encoding) && form.bits == check_bits(check))
 }
 
 /// Whether an element is an integer type of such a form without a range.
@@ -99,10 +93,7 @@ fn holds_check_at(trees: &[Tree], check: CheckKind, found: Option<Place>) -> boo
 {
     match found {
         None => false,
-        Some(at) => match tree_at(trees, at.file) {
-            None => false,
-            Some(tree) => holds_check(check, tree, at.node),
-        },
+        Some(at) => tree_at(trees, at.file).is_some_and(|tree| holds_check(check, tree, at.node)),
     }
 }
 

@@ -114,13 +114,10 @@ impl FaceRule for UnresolvedInFace {
 fn is_abstract_at(trees: &[Tree], at: Option<Place>) -> bool
     ensures { result ≡ is_abstract_in trees.now at }
 {
-    match at {
-        None => false,
-        Some(at) => match attribute(trees, "abstract", at) {
-            None => false,
-            Some(text) => flag_value(text) == Some(true),
-        },
-    }
+    let Some(at) = at else {
+        return false;
+    };
+    attribute(trees, "abstract", at).is_some_and(|text| flag_value(text) == Some(true))
 }
 
 fn is_for_end(sheet: &FaceSheet, found: Item) -> bool
@@ -208,15 +205,11 @@ impl FaceRule for WrongKindInFace {
 fn judge_open(rows: &TypeRows, reference: &FaceReference, id: Option<TypeId>) -> Option<Refusal>
     ensures { result ≡ least (open_by reference.now rows.now id) }
 {
-    match id {
-        None => None,
-        Some(id) => {
-            if is_open(rows, id) {
-                Some(broken(Rule::LengthField, reference.place))
-            } else {
-                None
-            }
-        }
+    let id = id?;
+    if is_open(rows, id) {
+        Some(broken(Rule::LengthField, reference.place))
+    } else {
+        None
     }
 }
 

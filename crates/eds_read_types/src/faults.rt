@@ -80,14 +80,7 @@ fn least_fault(
 fn has_empty(all: &Emptiness, parts: &[Part]) -> bool
     ensures { result ≡ list_any (is_empty_part_of all.now.rows.now) parts.now }
 {
-    let mut rest = parts;
-    while let [part, after @ ..] = rest {
-        if all.is_empty_part(part) {
-            return true;
-        }
-        rest = after;
-    }
-    false
+    parts.iter().any(|part| all.is_empty_part(part))
 }
 
 /// The same of the parts of a type.
@@ -179,10 +172,7 @@ fn has_marked(marks: &[bool], parts: &[Part]) -> bool
 fn is_marked(marks: &[bool], id: Option<TypeId>) -> bool
     ensures { result ≡ list_any (mark marks.now) (option_to_list (option_map (λ (i : type_id). i.0) id)) }
 {
-    match id {
-        None => false,
-        Some(id) => mark_at(marks, id.0 as usize),
-    }
+    id.is_some_and(|id| mark_at(marks, id.0 as usize))
 }
 
 /// Whether a type names a marked one, by a part or by its items.

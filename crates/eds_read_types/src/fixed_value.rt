@@ -24,10 +24,7 @@ fn has_value(alloc: Global, kinds: &ValueKinds, at: Place) -> Result<bool, Memor
 {
     let id = entry_id(alloc, kinds.graph.sheet, at)?;
     let value = fixed_value(alloc, kinds, id.0 as usize, at)?;
-    match value {
-        None => Ok(false),
-        Some(_) => Ok(true),
-    }
+    Ok(value.is_some())
 }
 
 /// The refusal of a part.

@@ -1,14 +1,14 @@
 //! The references inside interfaces and components, and the types that they use.
 
 ghost use Rattle.std.specs.Prelude.{◌≡◌, ◌++◌, IfOk, OnOk};
-ghost use Rattle.eds_read_types.specs.PartRows.{id_or_first};
 ghost use Rattle.eds_read_types.specs.InnerReferences.{inner_references as inner_references_of, used_at, inner_types};
 
 use crate::component_reference::push_component_references;
 use crate::face_reference::{FaceReference, Sought, push_face_references};
 use crate::named_trees::NamedTrees;
+use crate::part::id_or_first;
 use crate::reference::id_found;
-use eds_base::{Memory, TypeId};
+use eds_base::Memory;
 use eds_types::Used;
 use std::alloc::Global;
 
@@ -23,15 +23,6 @@ pub(crate) fn inner_references(
     push_face_references(alloc, &mut references, sheet)?;
     push_component_references(alloc, &mut references, sheet)?;
     Ok(references)
-}
-
-fn type_or_first(id: Option<TypeId>) -> TypeId
-    ensures { result ≡ id_or_first id }
-{
-    match id {
-        None => TypeId(0),
-        Some(id) => id,
-    }
 }
 
 fn push_used_at(
@@ -51,7 +42,7 @@ fn push_used_at(
                 return Ok(());
             }
             let id = id_found(alloc, sheet, reference.place, Some(reference.text.as_str()))?;
-            used.push(type_or_first(id))
+            used.push(id_or_first(id))
         }
     }
 }

@@ -101,9 +101,8 @@ fn values_in(alloc: Global, tree: &Tree, node: u32, spans: &Spans) -> Result<u32
 fn values_at(alloc: Global, trees: &[Tree], at: Option<Place>, spans: &Spans) -> Result<u32, Memory>
     ensures { IfOk result (λ n. n ≡ few_of (values_by_place trees.now at spans.now)) }
 {
-    let at = match at {
-        None => return Ok(set_size(spans)),
-        Some(at) => at,
+    let Some(at) = at else {
+        return Ok(set_size(spans));
     };
     match tree_at(trees, at.file) {
         None => Ok(set_size(spans)),
@@ -267,10 +266,7 @@ pub(crate) fn value_counts(
 fn known_at(known: &[Option<Option<u32>>], id: usize) -> Option<Option<u32>>
     ensures { IfSome result (λ n. slice_get known.now id ≡ Some (Some n)) }
 {
-    match known.get(id) {
-        None => None,
-        Some(values) => *values,
-    }
+    *known.get(id)?
 }
 
 /// How many values the type of a number has.

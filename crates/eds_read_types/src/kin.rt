@@ -15,10 +15,7 @@ use std::alloc::Global;
 pub(crate) fn mark_at(marks: &[bool], id: usize) -> bool
     ensures { result ≡ mark marks.now id }
 {
-    match marks.get(id) {
-        None => false,
-        Some(marked) => *marked,
-    }
+    marks.get(id).copied().unwrap_or(false)
 }
 
 /// Marks a number, if there is room for its mark.

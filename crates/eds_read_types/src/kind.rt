@@ -24,10 +24,8 @@ use std::alloc::Global;
 fn binary_kind(tree: &Tree, node: u32) -> Kind
     ensures { result ≡ binary_kind_of tree.now node }
 {
-    match binary_bits_of(tree, node) {
-        None => Kind::Bin(8, is_open(tree, node)),
-        Some(bits) => Kind::Bin(bits, is_open(tree, node)),
-    }
+    let bits = binary_bits_of(tree, node).unwrap_or(8);
+    Kind::Bin(bits, is_open(tree, node))
 }
 
 /// An enumerated or boolean type, a string, a binary, or a type of such numbers.

@@ -9,7 +9,7 @@ ghost use Rattle.eds_types.specs.Sizes.{size_within, kind_size, part_size};
 ghost use Rattle.eds_types.specs.Rules.{is_length as is_length_part};
 ghost use Rattle.eds_read_types.specs.Places.{is_element as is_named};
 ghost use Rattle.eds_read_types.specs.References.{broken as broken_at};
-ghost use Rattle.eds_read_types.specs.LengthField.{is_int as is_int_row, is_number as is_number_of, has_derived as has_derived_row, is_last as is_last_of, tells_length as tells_length_row, lacks_size as lacks_size_row, is_tail as is_tail_of, is_astray as is_astray_of, lengths_at as lengths_of, has_length as has_length_row, has_length_above as has_length_in_chain};
+ghost use Rattle.eds_read_types.specs.LengthField.{is_int as is_int_row, is_base as is_base_of, has_derived as has_derived_row, is_last as is_last_of, tells_length as tells_length_row, lacks_size as lacks_size_row, is_tail as is_tail_of, is_astray as is_astray_of, lengths_at as lengths_of, has_length as has_length_row, has_length_above as has_length_in_chain};
 
 use crate::breaks::{PlaceRule, broken};
 use crate::calibrator::has_scale;
@@ -37,13 +37,8 @@ const DEEPEST: u32 = 32;
 fn is_int(rows: &TypeRows, id: TypeId) -> bool
     ensures { result ≡ is_int_row rows.now id.0 }
 {
-    match rows.get(id.0 as usize) {
-        None => false,
-        Some(row) => match &row.kind {
-            Kind::Int(_, _) => true,
-            _ => false,
-        },
-    }
+    rows.get(id.0 as usize)
+        .is_some_and(|row| matches!(row.kind, Kind::Int(_, _)))
 }
 
 fn is_length(part: &Part) -> bool
@@ -63,39 +58,22 @@ fn is_length(part: &Part) -> bool
 fn holds_length(parts: &[Part]) -> bool
     ensures { result ≡ list_any is_length_part parts.now }
 {
-    let mut rest = parts;
-    while let [part, after @ ..] = rest {
-        if is_length(part) {
-            return true;
-        }
-        rest = after;
-    }
-    false
+    parts.iter().any(|part| is_length(part))
 }
 
 // ---- open binaries
 
-fn is_number(id: usize, other: Option<TypeId>) -> bool
-    ensures { result ≡ is_number_of id (number_of_id other) }
+fn is_base(id: usize, other: Option<TypeId>) -> bool
+    ensures { result ≡ is_base_of id (number_of_id other) }
 {
-    match other {
-        None => false,
-        Some(other) => other.0 as usize == id,
-    }
+    other.is_some_and(|other| other.0 as usize == id)
 }
 
 /// Whether some type derives from this one.
 fn has_derived(rows: &TypeRows, id: usize) -> bool
     ensures { result ≡ has_derived_row rows.now id }
 {
-    let mut rest = rows.as_slice();
-    while let [row, after @ ..] = rest {
-        if is_number(id, row.base) {
-            return true;
-        }
-        rest = after;
-    }
-    false
+    rows.as_slice().iter().any(|row| is_base(id, row.base))
 }
 
 /// Whether a length entry stands among the entries of a container.
@@ -170,14 +148,9 @@ fn is_sized(rows: &TypeRows, part: &Part) -> bool
 fn lacks_size(rows: &TypeRows, id: usize) -> bool
     ensures { result ≡ lacks_size_row rows.now id }
 {
-    let mut rest = trailers_of(rows, id);
-    while let [part, after @ ..] = rest {
-        if !is_sized(rows, part) {
-            return true;
-        }
-        rest = after;
-    }
-    false
+    trailers_of(rows, id)
+        .iter()
+        .any(|part| !is_sized(rows, part))
 }
 
 /// Whether one of a chain has none, of at most so many types.
@@ -316,10 +289,7 @@ fn is_measured(rows: &TypeRows, most: u32, id: usize) -> bool
 fn has_length_above(rows: &TypeRows, base: Option<TypeId>) -> bool
     ensures { result ≡ has_length_in_chain rows.now (number_of_id base) }
 {
-    match base {
-        None => false,
-        Some(base) => is_measured(rows, LONGEST, base.0 as usize),
-    }
+    base.is_some_and(|base| is_measured(rows, LONGEST, base.0 as usize))
 }
 
 /// The first refusal of some length entries.

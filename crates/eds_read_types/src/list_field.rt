@@ -2,7 +2,8 @@
 
 ghost use Rattle.std.specs.Prelude.{◌≡◌, ℕ, List, option_map, IfOk, OnOk};
 ghost use Rattle.std.specs.HashMap.{get_by_text};
-ghost use Rattle.eds_read_types.specs.ListFields.{or_else, place_if, place_named, place_from, seat_named, field_seat as field_seat_of, type_number as type_number_of, short as short_of, field_container as field_container_of, field_place as field_place_of};
+ghost use Rattle.eds_types.specs.Rows.{or_else};
+ghost use Rattle.eds_read_types.specs.ListFields.{place_if, place_named, place_from, seat_named, field_seat as field_seat_of, type_number as type_number_of, short as short_of, field_container as field_container_of, field_place as field_place_of};
 
 use crate::element::{attribute, own_name};
 use crate::entry::has_name;
@@ -91,20 +92,15 @@ impl<'a> Fields<'a> {
     fn named(&self, name: &str) -> Option<Seat>
         ensures { result ≡ seat_named self.now.trees.now self.now.seats.now name.now }
     {
-        match self.places.get(name) {
-            None => None,
-            Some(place) => self.seats.get(*place).copied(),
-        }
+        let place = self.places.get(name)?;
+        self.seats.get(*place).copied()
     }
 
     /// Where the part stands that a list names as its field.
     pub(crate) fn seat_of(&self, at: Place) -> Option<Seat>
         ensures { result ≡ field_seat_of self.now.trees.now self.now.seats.now at }
     {
-        match attribute(self.trees, "listLengthField", at) {
-            None => None,
-            Some(name) => self.named(name),
-        }
+        self.named(attribute(self.trees, "listLengthField", at)?)
     }
 }
 

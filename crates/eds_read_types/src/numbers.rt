@@ -32,38 +32,29 @@ const WIDE: IntForm = IntForm {
 pub(crate) fn form_or_wide(form: Option<IntForm>) -> IntForm
     ensures { result ≡ form_or_wide_of form }
 {
-    match form {
-        Some(form) => form,
-        None => WIDE,
-    }
+    form.unwrap_or(WIDE)
 }
 
 /// The form of a truth value, or 8 bits of which zero is false.
 pub(crate) fn truth_or_octet(form: Option<BoolForm>) -> BoolForm
     ensures { result ≡ truth_or_octet_of form }
 {
-    match form {
-        Some(form) => form,
-        None => BoolForm {
-            bits: 8,
-            zero_is_false: true,
-        },
-    }
+    form.unwrap_or(BoolForm {
+        bits: 8,
+        zero_is_false: true,
+    })
 }
 
 /// The form of a string, or one octet where there is none.
 pub(crate) fn text_or_octet(form: Option<TextForm>) -> TextForm
     ensures { result ≡ text_or_octet_of form }
 {
-    match form {
-        Some(form) => form,
-        None => TextForm {
-            length: 1,
-            fixed: true,
-            ascii: false,
-            stop: 0,
-        },
-    }
+    form.unwrap_or(TextForm {
+        length: 1,
+        fixed: true,
+        ascii: false,
+        stop: 0,
+    })
 }
 
 /// The numbers of a form that a range admits.
@@ -118,9 +109,8 @@ pub(crate) fn own_numbers_at(
 pub(crate) fn range_at(trees: &[Tree], at: Option<Place>) -> Range
     ensures { result ≡ range_in_tree trees.now at }
 {
-    let at = match at {
-        None => return NO_RANGE,
-        Some(at) => at,
+    let Some(at) = at else {
+        return NO_RANGE;
     };
     match tree_at(trees, at.file) {
         None => NO_RANGE,

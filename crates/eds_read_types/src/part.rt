@@ -29,10 +29,7 @@ fn entry_type(alloc: Global, sheet: &NamedTrees, at: Place) -> Result<Option<Typ
 pub(crate) fn id_or_first(id: Option<TypeId>) -> TypeId
     ensures { result ≡ id_or_first_of id }
 {
-    match id {
-        None => TypeId(0),
-        Some(id) => id,
-    }
+    id.unwrap_or(TypeId(0))
 }
 
 /// The number of the type that a part names, the first type's where it names none.
@@ -63,20 +60,14 @@ fn padding_size(text: &str) -> Option<u32>
 fn padding_size_by(text: Option<&str>) -> Option<u32>
     ensures { result ≡ padding_size_in (option_map (λ t. t.now) text.entry) }
 {
-    match text {
-        None => None,
-        Some(text) => padding_size(text),
-    }
+    padding_size(text?)
 }
 
 /// The bits of padding.
 fn padding_bits(trees: &[Tree], at: Place) -> u32
     ensures { result ≡ padding_bits_of trees.now at }
 {
-    match padding_size_by(attribute(trees, "sizeInBits", at)) {
-        None => 8,
-        Some(bits) => bits,
-    }
+    padding_size_by(attribute(trees, "sizeInBits", at)).unwrap_or(8)
 }
 
 /// In place of what is no part.

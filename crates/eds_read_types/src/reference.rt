@@ -67,9 +67,8 @@ pub(crate) fn id_found(
 ) -> Result<Option<TypeId>, Memory>
     ensures { IfOk result (λ id. id ≡ id_found_by sheet.now.space.now at (option_map (λ r. r.now) reference.entry)) }
 {
-    let text = match reference {
-        None => return Ok(None),
-        Some(text) => text,
+    let Some(text) = reference else {
+        return Ok(None);
     };
     match sheet.space.look_up(alloc, at, text)? {
         None => Ok(None),

@@ -15,14 +15,7 @@ use std::alloc::Global;
 fn has_negative(spans: &[Span]) -> bool
     ensures { result ≡ has_negative_in spans.now }
 {
-    let mut rest = spans;
-    while let [span, after @ ..] = rest {
-        if span.low < 0 {
-            return true;
-        }
-        rest = after;
-    }
-    false
+    spans.iter().any(|span| span.low < 0)
 }
 
 /// Whether a kind is an integer type or a sub-range without negative numbers.
@@ -44,10 +37,8 @@ fn counts_by(kind: &Kind) -> bool
 fn counts(rows: &TypeRows, id: TypeId) -> bool
     ensures { result ≡ counts_in (slice_get rows.now id.0) }
 {
-    match rows.get(id.0 as usize) {
-        None => false,
-        Some(row) => counts_by(&row.kind),
-    }
+    rows.get(id.0 as usize)
+        .is_some_and(|row| counts_by(&row.kind))
 }
 
 /// Whether a part is an entry of such a type.

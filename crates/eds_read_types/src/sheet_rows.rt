@@ -50,30 +50,21 @@ impl<'a> SheetRows<'a> {
     pub(crate) fn course_of(&self, id: usize) -> Course
         ensures { result ≡ course_of self.now.rows.now id }
     {
-        match self.nesting.get(id) {
-            None => Course::Ends(1),
-            Some(course) => *course,
-        }
+        self.nesting.get(id).copied().unwrap_or(Course::Ends(1))
     }
 
     /// How many containers the family of a type has.
     pub(crate) fn family_size(&self, id: usize) -> usize
         ensures { result ≡ family_size self.now.rows.now id }
     {
-        match self.sizes.get(id) {
-            None => 0,
-            Some(size) => *size,
-        }
+        self.sizes.get(id).copied().unwrap_or(0)
     }
 
     /// Whether the family of a type has bases that go in a circle, or reaches one that has.
     pub(crate) fn meets_base_cycle(&self, id: usize) -> bool
         ensures { result ≡ meets_base_cycle self.now.rows.now id }
     {
-        match self.endless.get(id) {
-            None => false,
-            Some(met) => *met,
-        }
+        self.endless.get(id).copied().unwrap_or(false)
     }
 }
 
@@ -149,10 +140,7 @@ pub(crate) trait PartRule {
 pub(crate) fn base_of(rows: &TypeRows, id: usize) -> Option<TypeId>
     ensures { number_of_id result ≡ base_in rows.now id }
 {
-    match rows.get(id) {
-        None => None,
-        Some(row) => row.base,
-    }
+    rows.get(id)?.base
 }
 
 /// The entries of a type, none where it is no container.

@@ -37,10 +37,7 @@ struct RowReader<'a> {
 fn is_true(text: Option<&str>) -> bool
     ensures { result ≡ spells_flag true (option_map (λ t. t.now) text.entry) }
 {
-    match text {
-        None => false,
-        Some(text) => flag_value(text) == Some(true),
-    }
+    text.is_some_and(|text| flag_value(text) == Some(true))
 }
 
 /// Whether the container at a place is abstract.

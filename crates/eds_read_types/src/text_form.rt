@@ -24,10 +24,7 @@ pub(crate) fn natural(number: i128) -> Option<u128>
 fn is_false(text: Option<&str>) -> bool
     ensures { result ≡ spells_flag false (option_map (λ t. t.now) text.entry) }
 {
-    match text {
-        None => false,
-        Some(text) => flag_value(text) == Some(false),
-    }
+    text.is_some_and(|text| flag_value(text) == Some(false))
 }
 
 // ---- strings
@@ -60,20 +57,14 @@ fn is_fixed(tree: &Tree, node: u32) -> bool
 fn encoding_text<'a>(tree: &'a Tree, encoding: Option<u32>, name: &str) -> Option<&'a str>
     ensures { option_map (λ t. t.now) result ≡ encoding_text_of tree.now encoding name.now }
 {
-    match encoding {
-        None => None,
-        Some(encoding) => tree.attribute_at(encoding, name),
-    }
+    tree.attribute_at(encoding?, name)
 }
 
 /// Whether the octets are ASCII, as a word says.
 fn is_ascii(word: Option<&str>) -> bool
     ensures { result ≡ is_ascii (option_map (λ w. w.now) word.entry) }
 {
-    match word {
-        None => false,
-        Some(word) => word == "ASCII",
-    }
+    word.is_some_and(|word| word == "ASCII")
 }
 
 /// The termination octet: 0 where none is given and the string is fixed.

@@ -80,13 +80,7 @@ pub(crate) struct ValueKinds<'a> {
 fn known_at(known: &[Option<ValueKind>], id: usize) -> Option<&ValueKind>
     ensures { IfSome result (λ k. slice_get known.now id ≡ Some (Some k.now)) }
 {
-    match known.get(id) {
-        None => None,
-        Some(kind) => match kind {
-            None => None,
-            Some(kind) => Some(kind),
-        },
-    }
+    known.get(id)?.as_ref()
 }
 
 /// The value of a kind that a text stands for, if there is a kind.

@@ -1,6 +1,7 @@
 use Rattle.std.proofs.Common.{◌≡◌, ℕ, List, drop}
 use Rattle.std.specs.HashMap.{get_by_text}
-use Rattle.eds_read_types.specs.ListFields.{or_else, place_from}
+use Rattle.eds_types.specs.Rows.{or_else}
+use Rattle.eds_read_types.specs.ListFields.{place_from}
 use Rattle.eds_read_types.proofs.list_field.places_of.Given as goal
 
 abbrev pub invariant-loop-place : goal.invariant-loop-place
