@@ -14,10 +14,8 @@ fn argument_ids(alloc: Global, arguments: &[(Text, TypeId)]) -> Result<Vec<TypeI
     ensures { IfOk result (λ ids. ids.items ≡ argument_ids_of arguments.now) }
 {
     let mut ids = Vec::new(alloc);
-    let mut rest = arguments;
-    while let [(_, id), after @ ..] = rest {
+    for (_, id) in arguments {
         ids.push(*id)?;
-        rest = after;
     }
     Ok(ids)
 }

@@ -20,12 +20,10 @@ fn is_known(table: &TypeTable, id: TypeId) -> bool
 fn fields_known(table: &TypeTable, fields: &[(Text, TypeId)]) -> bool
     ensures { result ≡ fields_known_in table.now fields.now }
 {
-    let mut rest = fields;
-    while let [(_, id), after @ ..] = rest {
+    for (_, id) in fields {
         if !is_known(table, *id) {
             return false;
         }
-        rest = after;
     }
     true
 }
@@ -33,12 +31,10 @@ fn fields_known(table: &TypeTable, fields: &[(Text, TypeId)]) -> bool
 fn activities_known(table: &TypeTable, activities: &[Activity]) -> bool
     ensures { result ≡ activities_known_in table.now activities.now }
 {
-    let mut rest = activities;
-    while let [activity, after @ ..] = rest {
+    for activity in activities {
         if !fields_known(table, activity.arguments.as_slice()) {
             return false;
         }
-        rest = after;
     }
     true
 }
@@ -46,12 +42,10 @@ fn activities_known(table: &TypeTable, activities: &[Activity]) -> bool
 fn arguments_known(table: &TypeTable, arguments: &[Argument]) -> bool
     ensures { result ≡ arguments_known_in table.now arguments.now }
 {
-    let mut rest = arguments;
-    while let [argument, after @ ..] = rest {
+    for argument in arguments {
         if !is_known(table, argument.id) {
             return false;
         }
-        rest = after;
     }
     true
 }
@@ -68,12 +62,10 @@ fn member_known(table: &TypeTable, member: &Member) -> bool
 fn members_known(table: &TypeTable, members: &[Member]) -> bool
     ensures { result ≡ members_known_in table.now members.now }
 {
-    let mut rest = members;
-    while let [member, after @ ..] = rest {
+    for member in members {
         if !member_known(table, member) {
             return false;
         }
-        rest = after;
     }
     true
 }
@@ -81,12 +73,10 @@ fn members_known(table: &TypeTable, members: &[Member]) -> bool
 fn ends_known(table: &TypeTable, ends: &[EndPlan]) -> bool
     ensures { result ≡ ends_known_in table.now ends.now }
 {
-    let mut rest = ends;
-    while let [end, after @ ..] = rest {
+    for end in ends {
         if !members_known(table, end.instance.members.as_slice()) {
             return false;
         }
-        rest = after;
     }
     true
 }
@@ -94,12 +84,10 @@ fn ends_known(table: &TypeTable, ends: &[EndPlan]) -> bool
 fn variables_fit(table: &TypeTable, variables: &[VarPlan]) -> bool
     ensures { result ≡ variables_fit_in table.now variables.now }
 {
-    let mut rest = variables;
-    while let [variable, after @ ..] = rest {
+    for variable in variables {
         if !value_fits(table, variable.id, &variable.initial) {
             return false;
         }
-        rest = after;
     }
     true
 }
@@ -133,12 +121,10 @@ fn map_fits(component: &ComponentPlan, map: &MapPlan) -> bool
 fn maps_fit(component: &ComponentPlan, maps: &[MapPlan]) -> bool
     ensures { result ≡ maps_fit_in component.now maps.now }
 {
-    let mut rest = maps;
-    while let [map, after @ ..] = rest {
+    for map in maps {
         if !map_fits(component, map) {
             return false;
         }
-        rest = after;
     }
     true
 }

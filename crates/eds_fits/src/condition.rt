@@ -87,8 +87,7 @@ pub(crate) fn leaves_one(scope: &Scope, items: &[MathItem]) -> bool
     ensures { result ≡ leaves_one_in scope.now.table.now scope.now.component.now.variables scope.now.arguments.now 0 items.now }
 {
     let mut left = 0usize;
-    let mut rest = items;
-    while let [item, after @ ..] = rest {
+    for item in items {
         match item {
             MathItem::Operand(operand) => {
                 if !is_number(scope, operand) {
@@ -103,7 +102,6 @@ pub(crate) fn leaves_one(scope: &Scope, items: &[MathItem]) -> bool
                 left -= 1;
             }
         }
-        rest = after;
     }
     left == 1
 }

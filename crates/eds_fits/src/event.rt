@@ -23,10 +23,8 @@ fn carried_ids(alloc: Global, way: Way, arguments: &[Argument]) -> Result<Vec<Ty
     ensures { IfOk result (λ ids. ids.items ≡ carried_ids_of way arguments.now) }
 {
     let mut ids = Vec::new(alloc);
-    let mut rest = arguments;
-    while let [argument, after @ ..] = rest {
+    for argument in arguments {
         push_carried(&mut ids, way, argument)?;
-        rest = after;
     }
     Ok(ids)
 }

@@ -1,24 +1,20 @@
 //! Types that fit each other, and values that fit types.
 
-ghost use Rattle.std.specs.Prelude.{◌≡◌, Some, map};
+ghost use Rattle.std.specs.Prelude.{◌≡◌, Some};
 ghost use Rattle.std.specs.Option.{option_copied};
-ghost use Rattle.eds_base.specs.declared.ids.TypeId.{TypeId as type_id};
 ghost use Rattle.eds_types.specs.Plain.{plain};
-ghost use Rattle.eds_types.specs.Rows.{chain, list_has};
 ghost use Rattle.eds_fits.specs.Deciding.{kind_of as kind_in_table, is_numeric as is_numeric_kind, are_alike as alike, fit_together as fit_in, value_fits as value_fits_in, entry_of, entry_at as entry_in, led as led_by};
 
 use eds_base::TypeId;
 use eds_pack::conforms;
 use eds_types::packs::packed_sizes;
-use eds_types::{Kind, Part, TypeTable, Value};
+use eds_types::{Kind, Part, TypeTable, Value, is_under};
 
 fn kind_of(table: &TypeTable, id: TypeId) -> Option<&Kind>
     ensures { option_copied result ≡ kind_in_table table.now id.0 }
 {
-    match table.rows().get(id.0 as usize) {
-        None => None,
-        Some(row) => Some(&row.kind),
-    }
+    let row = table.rows().get(id.0 as usize)?;
+    Some(&row.kind)
 }
 
 /// Whether a type is of numbers.
@@ -29,27 +25,6 @@ pub(crate) fn is_numeric(table: &TypeTable, id: TypeId) -> bool
         Some(Kind::Int(_, _)) => true,
         _ => false,
     }
-}
-
-fn has(ids: &[TypeId], id: TypeId) -> bool
-    ensures { result ≡ list_has (map (λ (x : type_id). x.0) ids.now) id.0 }
-{
-    let mut rest = ids;
-    while let [first, after @ ..] = rest {
-        if first.0 == id.0 {
-            return true;
-        }
-        rest = after;
-    }
-    false
-}
-
-// Whether a type is another one, or derives from it.
-fn is_under(table: &TypeTable, id: TypeId, base: TypeId) -> bool
-    ensures { result ≡ list_has (chain table.now id.0) base.0 }
-{
-    let chain = table.chain_of(id);
-    has(chain.as_slice(), base)
 }
 
 fn are_alike(table: &TypeTable, a: TypeId, one: &Kind, b: TypeId, other: &Kind) -> bool
@@ -130,10 +105,8 @@ fn entry_at(table: &TypeTable, id: TypeId, place: (TypeId, u16)) -> Option<TypeI
     if !is_under(table, id, place.0) {
         return None;
     }
-    match table.part_at(place.0, place.1) {
-        None => None,
-        Some(part) => type_of_entry(part),
-    }
+    let part = table.part_at(place.0, place.1)?;
+    type_of_entry(part)
 }
 
 /// The type to which a path leads.
@@ -141,13 +114,8 @@ pub(crate) fn led(table: &TypeTable, id: TypeId, path: &[(TypeId, u16)]) -> Opti
     ensures { result ≡ led_by table.now id path.now }
 {
     let mut at = id;
-    let mut rest = path;
-    while let [place, after @ ..] = rest {
-        match entry_at(table, at, *place) {
-            None => return None,
-            Some(inner) => at = inner,
-        }
-        rest = after;
+    for place in path {
+        at = entry_at(table, at, *place)?;
     }
     Some(at)
 }

@@ -62,12 +62,10 @@ fn state_fits(whole: &Whole, state: &State) -> bool
 fn states_fit(whole: &Whole, states: &[State]) -> bool
     ensures { result ≡ states_fit_in whole.now.table.now whole.now.component.now states.now }
 {
-    let mut rest = states;
-    while let [state, after @ ..] = rest {
+    for state in states {
         if !state_fits(whole, state) {
             return false;
         }
-        rest = after;
     }
     true
 }
@@ -106,12 +104,10 @@ fn transitions_fit(
 ) -> Result<bool, Memory>
     ensures { IfOk result (λ b. b ≡ transitions_fit_in whole.now.table.now whole.now.component.now states transitions.now) }
 {
-    let mut rest = transitions;
-    while let [transition, after @ ..] = rest {
+    for transition in transitions {
         if !transition_fits(alloc, whole, states, transition)? {
             return Ok(false);
         }
-        rest = after;
     }
     Ok(true)
 }
@@ -133,12 +129,10 @@ pub(crate) fn machines_fit(
 ) -> Result<bool, Memory>
     ensures { IfOk result (λ b. b ≡ machines_fit_in whole.now.table.now whole.now.component.now machines.now) }
 {
-    let mut rest = machines;
-    while let [machine, after @ ..] = rest {
+    for machine in machines {
         if !machine_fits(alloc, whole, machine)? {
             return Ok(false);
         }
-        rest = after;
     }
     Ok(true)
 }

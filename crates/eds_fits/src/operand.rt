@@ -22,19 +22,13 @@ pub(crate) struct Scope<'a> {
 pub(crate) fn is_number_type(table: &TypeTable, id: Option<TypeId>) -> bool
     ensures { result ≡ is_number_type_in table.now id }
 {
-    match id {
-        None => false,
-        Some(id) => is_numeric(table, id),
-    }
+    id.is_some_and(|id| is_numeric(table, id))
 }
 
 fn type_fits(table: &TypeTable, from: Option<TypeId>, id: TypeId) -> bool
     ensures { result ≡ type_fits_in table.now from id.0 }
 {
-    match from {
-        None => false,
-        Some(from) => fit_together(table, from, id),
-    }
+    from.is_some_and(|from| fit_together(table, from, id))
 }
 
 fn is_number_value(value: &Value) -> bool
@@ -50,20 +44,16 @@ fn is_number_value(value: &Value) -> bool
 pub(crate) fn variable_type(scope: &Scope, at: u16, path: &[(TypeId, u16)]) -> Option<TypeId>
     ensures { result ≡ variable_type_in scope.now.table.now scope.now.component.now.variables scope.now.arguments.now at path.now }
 {
-    match scope.component.variables.get(at as usize) {
-        None => None,
-        Some(variable) => led(scope.table, variable.id, path),
-    }
+    let variable = scope.component.variables.get(at as usize)?;
+    led(scope.table, variable.id, path)
 }
 
 // The type of an argument, or of an entry of it.
 fn argument_type(scope: &Scope, at: u16, path: &[(TypeId, u16)]) -> Option<TypeId>
     ensures { result ≡ argument_type_in scope.now.table.now scope.now.component.now.variables scope.now.arguments.now at path.now }
 {
-    match scope.arguments.get(at as usize) {
-        None => None,
-        Some(id) => led(scope.table, *id, path),
-    }
+    let id = scope.arguments.get(at as usize)?;
+    led(scope.table, *id, path)
 }
 
 /// The type of an operand that is no value.
@@ -166,13 +156,11 @@ pub(crate) fn fields_fit(scope: &Scope, fields: &[(Text, TypeId)], operands: &[O
     ensures { result ≡ is_all (fields_taken scope.now.table.now scope.now.component.now.variables scope.now.arguments.now fields.now operands.now) }
 {
     let mut left = operands;
-    let mut rest = fields;
-    while let [(_, id), after @ ..] = rest {
+    for (_, id) in fields {
         match first_taken(scope, *id, left) {
             None => return false,
             Some(behind) => left = behind,
         }
-        rest = after;
     }
     left.is_empty()
 }
@@ -187,13 +175,11 @@ pub(crate) fn arguments_fit(
     ensures { result ≡ is_all (arguments_taken scope.now.table.now scope.now.component.now.variables scope.now.arguments.now way arguments.now operands.now) }
 {
     let mut left = operands;
-    let mut rest = arguments;
-    while let [argument, after @ ..] = rest {
+    for argument in arguments {
         match argument_taken(scope, way, argument, left) {
             None => return false,
             Some(behind) => left = behind,
         }
-        rest = after;
     }
     left.is_empty()
 }

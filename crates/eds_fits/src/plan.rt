@@ -55,12 +55,10 @@ pub fn components_fit(
     if components.len() > 64 {
         return Ok(false);
     }
-    let mut rest = components;
-    while let [component, after @ ..] = rest {
+    for component in components {
         if !component_fits(alloc, table, component)? {
             return Ok(false);
         }
-        rest = after;
     }
     Ok(true)
 }

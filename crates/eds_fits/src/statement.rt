@@ -27,13 +27,9 @@ pub(crate) struct Body<'a, 'b> {
 pub(crate) fn member_of(ends: &[EndPlan], face: u16, number: u16) -> Option<(bool, &Member)>
     ensures { option_map (λ m. (m.0, m.1.now)) result ≡ member_of_in ends.now face number }
 {
-    match ends.get(face as usize) {
-        None => None,
-        Some(end) => match end.instance.members.get(number as usize) {
-            None => None,
-            Some(member) => Some((end.required, member)),
-        },
-    }
+    let end = ends.get(face as usize)?;
+    let member = end.instance.members.get(number as usize)?;
+    Some((end.required, member))
 }
 
 fn leaving(required: bool) -> Way
@@ -46,10 +42,7 @@ fn leaving(required: bool) -> Way
 pub(crate) fn is_numbered(count: usize, name: Option<u32>) -> bool
     ensures { result ≡ is_numbered_in count name }
 {
-    match name {
-        None => true,
-        Some(name) => (name as usize) < count,
-    }
+    name.is_none_or(|name| (name as usize) < count)
 }
 
 fn command_sent(scope: &Scope, way: Way, member: &Member, operands: &[Operand]) -> bool
@@ -73,10 +66,7 @@ fn value_sent(scope: &Scope, id: TypeId, operand: &Option<Operand>) -> bool
 fn is_nothing(operand: &Option<Operand>) -> bool
     ensures { result ≡ nothing_sent operand.now }
 {
-    match operand {
-        None => true,
-        Some(_) => false,
-    }
+    operand.is_none()
 }
 
 fn sent_by(scope: &Scope, op: Op, way: Way, id: TypeId, operand: &Option<Operand>) -> bool
@@ -155,10 +145,7 @@ pub(crate) fn called_fits(scope: &Scope, called: Option<&Activity>, operands: &[
 pub(crate) fn rank_of(ranks: &[usize], number: usize) -> usize
     ensures { result ≡ rank_of_in ranks.now number }
 {
-    match ranks.get(number) {
-        None => 0,
-        Some(rank) => *rank,
-    }
+    ranks.get(number).copied().unwrap_or(0)
 }
 
 fn call_fits(body: &Body, action: &Action) -> bool

@@ -12,7 +12,7 @@ use Rattle.eds_names.specs.Positions.{place_from, place_among}
 use Rattle.eds_types.specs.declared.row.Part.{Part}
 use Rattle.eds_types.specs.declared.row.Part.TheVariants as part
 use Rattle.eds_types.specs.declared.row.TypeRow.{TypeRow}
-use Rattle.eds_types.specs.Rows.{Table, id_of, address, container_in, entries_in, trailers_in, entries_of, trailers_of, placed_from, placed_entries, placed_trailers, entry_places, trailer_places, chain, sequence, numbers}
+use Rattle.eds_types.specs.Rows.{Table, id_of, address, container_in, entries_in, trailers_in, entries_of, trailers_of, placed_from, placed_entries, placed_trailers, entry_places, trailer_places, chain, sequence, numbers, or_else}
 use Rattle.eds_types.specs.Fields.{part_at}
 use Rattle.eds_types.proofs.Places.{sequence_is}
 use Rattle.eds_read_act.specs.declared.entry_names.NamedParts.{NamedParts}
@@ -21,11 +21,6 @@ use Rattle.eds_read_act.specs.Naming.{has_name, entry_at, entry_among, entry_nam
 use Rattle.eds_read_act.specs.FirstPlaces.{first_place, first_named}
 use Rattle.eds_read_act.specs.EntryNames.{name_of, with_name, named_from, index_from, place_in, index_of, index_of_all}
 use Rattle.eds_read_act.proofs.Numbering.{place-shift, one-further}
-
--- the first of two, where it is there
-abbrev pub or_else : {A : Type 0} → Option A → Option A → Option A
-or_else None other = other
-or_else (Some p) other = Some p
 
 -- ---- the ends of lists
 

@@ -1,11 +1,9 @@
--- Items by their names, in other lists; the first of some elements; numbers of types.
+-- Items by their names, in other lists; the first of some elements.
 use Rattle.std.proofs.Common.{◌≡◌, ℕ, suc, ◌+◌, ◌-◌, Bool, true, false, List, [], ◌∷◌, map, Option, Some, None, refl, sym, ap, ◌∙◌, arith, is_some}
 use Rattle.std.specs.Prelude.{slice_get, option_map, if◌then◌else◌}
 use Rattle.std.specs.List.{list_any}
 use Rattle.std.proofs.lemmas.Option.{slice_get-map}
 use Rattle.eds_base.specs.Reading.{◌>>=◌, same}
-use Rattle.eds_base.specs.declared.ids.TypeId.{TypeId}
-use Rattle.eds_types.specs.Rows.{id_of}
 use Rattle.eds_names.specs.Positions.{place_from, place_among}
 use Rattle.eds_read_act.specs.BadReference.{is_field}
 use Rattle.eds_read_act.specs.Inside.{first_where}
@@ -99,12 +97,3 @@ field-there (f ∷ fs) q = go (same f.0 q) refl (field-there fs q)
     go : (b : Bool) → same f.0 q ≡ b → list_any (is_field q) fs ≡ is_some (field_type fs q) → list_any (is_field q) (f ∷ fs) ≡ is_some (field_type (f ∷ fs) q)
     go true e others = rw e refl
     go false e others = rw e others
-
--- ---- numbers of types
-
-numbers-back : (xs : List ℕ) → map (λ (x : TypeId). x.0) (map id_of xs) ≡ xs
-numbers-back [] = refl
-numbers-back (x ∷ xs) = ap (λ ys. x ∷ ys) (numbers-back xs)
-
-pub numbers_are : (ids : List TypeId) (xs : List ℕ) → ids ≡ map id_of xs → map (λ (x : TypeId). x.0) ids ≡ xs
-numbers_are ids xs e = ap (map (λ (x : TypeId). x.0)) e ∙ numbers-back xs

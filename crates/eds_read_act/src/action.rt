@@ -25,10 +25,9 @@ fn given_operand(
     requires { TellsGiven scope.now.tree.now given.now }
     ensures { IfOk result (λ a. a ≡ given_in (scope_of scope.now) given.now.holder field.now) }
 {
-    let operand = match given.first(scope.tree, field.0.as_str()) {
-        None => None,
-        Some(giver) => operand_of(scope.tree, giver),
-    };
+    let operand = given
+        .first(scope.tree, field.0.as_str())
+        .and_then(|giver| operand_of(scope.tree, giver));
     operand_if(alloc, scope, Wanted::Type(field.1), operand)
 }
 
@@ -43,11 +42,9 @@ pub(crate) fn given_operands(
 {
     let given = Given::of(alloc, scope.tree, node)?;
     let mut operands = Items::new(alloc);
-    let mut rest = fields;
-    while let [field, after @ ..] = rest {
+    for field in fields {
         let operand = given_operand(alloc, scope, &given, field)?;
         operands.push(operand)?;
-        rest = after;
     }
     Ok(operands)
 }

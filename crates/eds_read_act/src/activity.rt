@@ -61,10 +61,9 @@ pub(crate) fn least_mismatch_in(
 fn is_circular(courses: &[Course], number: usize) -> bool
     ensures { result ≡ circular_at courses.now number }
 {
-    match courses.get(number) {
-        None => false,
-        Some(course) => course.is_on_circle(),
-    }
+    courses
+        .get(number)
+        .is_some_and(|course| course.is_on_circle())
 }
 
 fn cycle_where(

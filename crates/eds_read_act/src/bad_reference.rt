@@ -45,31 +45,25 @@ pub(crate) fn iterator_of(alloc: Global, scope: &Scope, node: u32) -> Option<Fou
 fn is_read_only(variables: &[VariableHead], at: u16) -> bool
     ensures { result ≡ read_only_in (slice_get variables.now at) }
 {
-    match variables.get(at as usize) {
-        None => false,
-        Some(variable) => variable.read_only,
-    }
+    variables
+        .get(at as usize)
+        .is_some_and(|variable| variable.read_only)
 }
 
 fn is_unwritable(variables: &[VariableHead], found: Option<Found>) -> bool
     ensures { result ≡ unwritable_in variables.now found }
 {
-    match found {
-        None => true,
-        Some(found) => is_read_only(variables, found.at),
-    }
+    found.is_none_or(|found| is_read_only(variables, found.at))
 }
 
 fn lacks_one(tree: &Tree, given: &Given, fields: &[(Text, TypeId)]) -> bool
     requires { TellsGiven tree.now given.now }
     ensures { result ≡ list_any (is_ungiven tree.now given.now.holder) fields.now }
 {
-    let mut rest = fields;
-    while let [field, after @ ..] = rest {
+    for field in fields {
         if given.first(tree, field.0.as_str()).is_none() {
             return true;
         }
-        rest = after;
     }
     false
 }
@@ -102,10 +96,7 @@ fn is_first_given(tree: &Tree, given: &Given, link: Link, name: &str) -> bool
     requires { TellsGiven tree.now given.now }
     ensures { result ≡ is_the (given_in tree.now link.parent name.now) link.node }
 {
-    match first_beside(tree, given, link, name) {
-        None => false,
-        Some(first) => first == link.node,
-    }
+    first_beside(tree, given, link, name).is_some_and(|first| first == link.node)
 }
 
 fn is_stray(tree: &Tree, given: &Given, link: Link, taken: Option<&Fields>) -> bool
@@ -128,10 +119,7 @@ fn is_stray(tree: &Tree, given: &Given, link: Link, taken: Option<&Fields>) -> b
 fn is_unsendable(operation: &str, held: Option<Held>) -> bool
     ensures { result ≡ unsendable_in operation.now held }
 {
-    match held {
-        None => true,
-        Some(held) => held.required && held.read_only && operation == "set",
-    }
+    held.is_none_or(|held| held.required && held.read_only && operation == "set")
 }
 
 fn calls(tree: &Tree, link: Link) -> bool

@@ -20,10 +20,10 @@ fn called_at(scope: &Scope, node: u32) -> Option<usize>
     ensures { number_if result ≡ called_as (sort_at_in scope.now.tree.now node) (scope_of scope.now) node }
 {
     match sort_at(scope.tree, node) {
-        ActivitySort::Call => match activity_of(scope, node) {
-            None => None,
-            Some((number, _)) => Some(number),
-        },
+        ActivitySort::Call => {
+            let (number, _) = activity_of(scope, node)?;
+            Some(number)
+        }
         _ => None,
     }
 }
@@ -31,12 +31,10 @@ fn called_at(scope: &Scope, node: u32) -> Option<usize>
 fn push_called(calls: &mut Vec<usize>, scope: &Scope, links: &[Link]) -> Result<(), Memory>
     ensures { OnOk result (calls.new.items ≡ calls.old.items ++ flat_map (called_in (scope_of scope.now)) links.now) }
 {
-    let mut rest = links;
-    while let [link, after @ ..] = rest {
+    for link in links {
         if let Some(number) = called_at(scope, link.node) {
             calls.push(number)?;
         }
-        rest = after;
     }
     Ok(())
 }
@@ -56,11 +54,9 @@ pub(crate) fn call_graph(alloc: Global, scope: &Scope, nodes: &[u32]) -> Result<
     ensures { IfOk result (λ g. g ≡ graph_in (scope_of scope.now) nodes.now) }
 {
     let mut graph = Graph::new(alloc);
-    let mut rest = nodes;
-    while let [node, after @ ..] = rest {
+    for node in nodes {
         let calls = calls_of(alloc, scope, *node)?;
         graph.push(calls)?;
-        rest = after;
     }
     Ok(graph)
 }

@@ -45,13 +45,11 @@ pub(crate) fn carried(alloc: Global, way: Way, arguments: &[Argument]) -> Result
     ensures { IfOk result (λ fs. fs ≡ carried_fields way arguments.now) }
 {
     let mut fields = Items::new(alloc);
-    let mut rest = arguments;
-    while let [argument, after @ ..] = rest {
+    for argument in arguments {
         if goes(way, argument.mode) {
             let name = Text::of(alloc, argument.name.as_str())?;
             fields.push((name, argument.id))?;
         }
-        rest = after;
     }
     Ok(fields)
 }
@@ -209,18 +207,12 @@ fn ends_carry_alike(one: &EndPlan, other: &EndPlan) -> bool
 fn alike_number(ends: &[EndPlan], number: Option<usize>, end: &EndPlan) -> Option<usize>
     ensures { result ≡ alike_number_of ends.now end.now number }
 {
-    match number {
-        None => None,
-        Some(number) => match ends.get(number) {
-            None => None,
-            Some(earlier) => {
-                if ends_carry_alike(earlier, end) {
-                    Some(number)
-                } else {
-                    None
-                }
-            }
-        },
+    let number = number?;
+    let earlier = ends.get(number)?;
+    if ends_carry_alike(earlier, end) {
+        Some(number)
+    } else {
+        None
     }
 }
 

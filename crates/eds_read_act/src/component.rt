@@ -127,58 +127,42 @@ impl<'a> Component<'a> {
     pub(crate) fn end(&self, name: &str) -> Option<(usize, &'a EndPlan)>
         ensures { option_map (λ p. (p.0, p.1.now)) result ≡ item_named (λ (e : end_type). e.name) self.now.ends.now name.now }
     {
-        match self.end_names.position(name) {
-            None => None,
-            Some(at) => match self.ends.get(at) {
-                None => None,
-                Some(end) => Some((at, end)),
-            },
-        }
+        let at = self.end_names.position(name)?;
+        let end = self.ends.get(at)?;
+        Some((at, end))
     }
 
     /// The variable of a name, with its number.
     pub(crate) fn variable(&self, name: &str) -> Option<(usize, &'a VariableHead)>
         ensures { option_map (λ p. (p.0, p.1.now)) result ≡ item_named (λ (v : variable_type). v.name) self.now.variables.now name.now }
     {
-        match self.variable_names.position(name) {
-            None => None,
-            Some(at) => match self.variables.get(at) {
-                None => None,
-                Some(variable) => Some((at, variable)),
-            },
-        }
+        let at = self.variable_names.position(name)?;
+        let variable = self.variables.get(at)?;
+        Some((at, variable))
     }
 
     /// The activity of a name, with its number.
     pub(crate) fn activity(&self, name: &str) -> Option<(usize, &'a Head)>
         ensures { option_map (λ p. (p.0, p.1.now)) result ≡ item_named (λ (h : head_type). h.name) self.now.activities.now name.now }
     {
-        match self.activity_names.position(name) {
-            None => None,
-            Some(at) => match self.activities.get(at) {
-                None => None,
-                Some(activity) => Some((at, activity)),
-            },
-        }
+        let at = self.activity_names.position(name)?;
+        let activity = self.activities.get(at)?;
+        Some((at, activity))
     }
 
     /// The arguments that a member of an end carries where the end sends.
     pub(crate) fn sent(&self, end: usize, member: usize) -> Option<&Fields>
         ensures { option_copied result ≡ fields_at leaving self.now.ends.now end member }
     {
-        match self.sent.get(end) {
-            None => None,
-            Some(fields) => fields_of(fields, member),
-        }
+        let fields = self.sent.get(end)?;
+        fields_of(fields, member)
     }
 
     /// The arguments that a member of an end carries where the end receives.
     pub(crate) fn received(&self, end: usize, member: usize) -> Option<&Fields>
         ensures { option_copied result ≡ fields_at arriving self.now.ends.now end member }
     {
-        match self.received.get(end) {
-            None => None,
-            Some(fields) => fields_of(fields, member),
-        }
+        let fields = self.received.get(end)?;
+        fields_of(fields, member)
     }
 }

@@ -122,12 +122,10 @@ pub(crate) fn condition_at(
 fn first_condition(tree: &Tree, node: u32) -> Option<u32>
     ensures { result ≡ first_where (condition_is_at tree.now) (children_at tree.now node) }
 {
-    let mut rest = tree.children_at(node);
-    while let [child, after @ ..] = rest {
+    for child in tree.children_at(node) {
         if is_condition(tree, *child) {
             return Some(*child);
         }
-        rest = after;
     }
     None
 }

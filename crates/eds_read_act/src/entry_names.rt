@@ -74,14 +74,12 @@ fn named_parts(alloc: Global, first: u16, parts: &[Part]) -> Result<NamedParts, 
     let mut names = Vec::new(alloc);
     let mut places = Items::new(alloc);
     let mut place = first;
-    let mut rest = parts;
-    while let [part, after @ ..] = rest {
+    for part in parts {
         if let Some(name) = name_of(part) {
             names.push(Text::of(alloc, name)?)?;
             places.push(place)?;
         }
         place += 1;
-        rest = after;
     }
     let names = NameList::of(alloc, names)?;
     Ok(NamedParts { names, places })
@@ -116,10 +114,8 @@ impl NamedParts {
     fn place(&self, name: &str) -> Option<u16>
         ensures { result ≡ place_in self.now name.now }
     {
-        match self.names.position(name) {
-            None => None,
-            Some(at) => self.places.get(at).copied(),
-        }
+        let at = self.names.position(name)?;
+        self.places.get(at).copied()
     }
 }
 
@@ -147,26 +143,18 @@ impl<'a> NamedTable<'a> {
     fn own_entry(&self, id: TypeId, name: &str) -> Option<(TypeId, u16)>
         ensures { result ≡ first_place self.now name.now (entry_places self.now id) }
     {
-        match self.own.get(id.0 as usize) {
-            None => None,
-            Some(own) => match own.entries.place(name) {
-                None => None,
-                Some(place) => Some((id, place)),
-            },
-        }
+        let own = self.own.get(id.0 as usize)?;
+        let place = own.entries.place(name)?;
+        Some((id, place))
     }
 
     // The same among its own trailers.
     fn own_trailer(&self, id: TypeId, name: &str) -> Option<(TypeId, u16)>
         ensures { result ≡ first_place self.now name.now (trailer_places self.now id) }
     {
-        match self.own.get(id.0 as usize) {
-            None => None,
-            Some(own) => match own.trailers.place(name) {
-                None => None,
-                Some(place) => Some((id, place)),
-            },
-        }
+        let own = self.own.get(id.0 as usize)?;
+        let place = own.trailers.place(name)?;
+        Some((id, place))
     }
 
     /// The place of the first part with a name in the sequence of a type.

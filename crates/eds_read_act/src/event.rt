@@ -33,12 +33,10 @@ fn is_event(tree: &Tree, node: u32) -> bool
 pub(crate) fn event_of(tree: &Tree, transition: u32) -> Option<u32>
     ensures { result ≡ event_in tree.now transition }
 {
-    let mut rest = tree.children_at(transition);
-    while let [child, after @ ..] = rest {
+    for child in tree.children_at(transition) {
         if is_event(tree, *child) {
             return Some(*child);
         }
-        rest = after;
     }
     None
 }
@@ -108,10 +106,7 @@ pub(crate) fn value_carried(
 fn is_unreceivable(operation: &str, held: Option<Held>) -> bool
     ensures { result ≡ is_none (value_in_if operation.now held) }
 {
-    match held {
-        None => true,
-        Some(held) => sets_read_only(operation, held),
-    }
+    held.is_none_or(|held| sets_read_only(operation, held))
 }
 
 /// Whether an event names what is not there, or a read-only parameter that is to be set.
@@ -136,10 +131,7 @@ pub(crate) fn is_missing(scope: &Scope, event: u32) -> bool
 fn is_provided(end: Option<(usize, &EndPlan)>) -> bool
     ensures { result ≡ end_is_provided (option_map (λ p. (p.0, p.1.now)) end.entry) }
 {
-    match end {
-        None => false,
-        Some((_, end)) => !end.required,
-    }
+    end.is_some_and(|(_, end)| !end.required)
 }
 
 fn lacks_operation(scope: &Scope, event: u32) -> bool
@@ -165,15 +157,11 @@ pub(crate) fn lacks_operation_if(scope: &Scope, event: Option<u32>) -> bool
 fn nanoseconds(number: Option<i128>) -> Option<u64>
     ensures { result ≡ nanoseconds_of number }
 {
-    match number {
-        None => None,
-        Some(number) => {
-            if number >= 1 && number <= LONGEST {
-                Some(number as u64)
-            } else {
-                None
-            }
-        }
+    let number = number?;
+    if number >= 1 && number <= LONGEST {
+        Some(number as u64)
+    } else {
+        None
     }
 }
 
@@ -259,8 +247,5 @@ pub(crate) fn trigger_if(scope: &Scope, event: Option<u32>) -> Trigger
 pub(crate) fn transaction_if(scope: &Scope, event: Option<u32>) -> Option<u32>
     ensures { result ≡ transaction_in_if (scope_of scope.now) event }
 {
-    match event {
-        None => None,
-        Some(event) => transaction_at(scope, event),
-    }
+    transaction_at(scope, event?)
 }

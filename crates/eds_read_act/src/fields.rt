@@ -60,22 +60,16 @@ impl Fields {
     pub(crate) fn field(&self, name: &str) -> Option<(usize, &(Text, TypeId))>
         ensures { option_map (λ p. (p.0, p.1.now)) result ≡ item_named (λ f. f.0) self.now name.now }
     {
-        match self.names.position(name) {
-            None => None,
-            Some(at) => match self.list.get(at) {
-                None => None,
-                Some(field) => Some((at, field)),
-            },
-        }
+        let at = self.names.position(name)?;
+        let field = self.list.get(at)?;
+        Some((at, field))
     }
 
     /// The type of the first of a name.
     pub(crate) fn type_of(&self, name: &str) -> Option<TypeId>
         ensures { result ≡ field_type self.now name.now }
     {
-        match self.field(name) {
-            None => None,
-            Some((_, field)) => Some(field.1),
-        }
+        let (_, field) = self.field(name)?;
+        Some(field.1)
     }
 }

@@ -77,9 +77,7 @@ impl Given {
         requires { TellsGiven tree.now self.now }
         ensures { result ≡ given_for tree.now self.now.holder name.now }
     {
-        match self.names.position(name) {
-            None => None,
-            Some(at) => node_at(self.nodes.as_slice(), at),
-        }
+        let at = self.names.position(name)?;
+        node_at(self.nodes.as_slice(), at)
     }
 }

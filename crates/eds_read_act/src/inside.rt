@@ -12,22 +12,17 @@ use std::alloc::Global;
 pub(crate) fn text_at<'a>(tree: &'a Tree, node: u32, name: &str) -> &'a str
     ensures { result.now ≡ text_of tree.now node name.now }
 {
-    match tree.attribute_at(node, name) {
-        Some(text) => text,
-        None => "",
-    }
+    tree.attribute_at(node, name).unwrap_or("")
 }
 
 /// The first child of a name.
 pub(crate) fn child_named(tree: &Tree, node: u32, name: &str) -> Option<u32>
     ensures { result ≡ child_of tree.now node name.now }
 {
-    let mut rest = tree.children_at(node);
-    while let [child, after @ ..] = rest {
+    for child in tree.children_at(node) {
         if tree.name_at(*child) == name {
             return Some(*child);
         }
-        rest = after;
     }
     None
 }
@@ -42,12 +37,10 @@ fn is_operand(tree: &Tree, node: u32) -> bool
 pub(crate) fn operand_of(tree: &Tree, node: u32) -> Option<u32>
     ensures { result ≡ operand_in tree.now node }
 {
-    let mut rest = tree.children_at(node);
-    while let [child, after @ ..] = rest {
+    for child in tree.children_at(node) {
         if is_operand(tree, *child) {
             return Some(*child);
         }
-        rest = after;
     }
     None
 }
@@ -75,12 +68,10 @@ fn gives(tree: &Tree, node: u32, name: &str) -> bool
 pub(crate) fn given_for(tree: &Tree, node: u32, name: &str) -> Option<u32>
     ensures { result ≡ given_in tree.now node name.now }
 {
-    let mut rest = tree.children_at(node);
-    while let [child, after @ ..] = rest {
+    for child in tree.children_at(node) {
         if gives(tree, *child, name) {
             return Some(*child);
         }
-        rest = after;
     }
     None
 }

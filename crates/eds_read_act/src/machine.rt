@@ -138,24 +138,17 @@ fn is_bad_transition(scope: &Scope, states: &States, transition: u32) -> bool
 fn event_break(file: u16, scope: &Scope, event: Option<u32>) -> Option<Refusal>
     ensures { result ≡ least (event_breaks file (scope_of scope.now) event) }
 {
-    match event {
-        None => None,
-        Some(event) => {
-            let missing = broken_if(Rule::BadReference, file, event, is_missing(scope, event));
-            let timer = broken_if(Rule::BadTimer, file, event, is_bad_timer(scope.tree, event));
-            Refusal::first(missing, timer)
-        }
-    }
+    let event = event?;
+    let missing = broken_if(Rule::BadReference, file, event, is_missing(scope, event));
+    let timer = broken_if(Rule::BadTimer, file, event, is_bad_timer(scope.tree, event));
+    Refusal::first(missing, timer)
 }
 
 /// What is kept, lent.
 pub(crate) fn lent(carried: &Option<Fields>) -> Option<&Fields>
     ensures { option_copied result ≡ carried.now }
 {
-    match carried {
-        None => None,
-        Some(fields) => Some(fields),
-    }
+    carried.as_ref()
 }
 
 // The least break in some elements of a transition, which see these arguments.

@@ -31,23 +31,17 @@ fn entry_type(part: &Part) -> Option<TypeId>
 fn entry_at(table: &TypeTable, at: (TypeId, u16)) -> Option<((TypeId, u16), TypeId)>
     ensures { result ≡ entry_at_place table.now at }
 {
-    match table.part_at(at.0, at.1) {
-        None => None,
-        Some(part) => match entry_type(part) {
-            None => None,
-            Some(id) => Some((at, id)),
-        },
-    }
+    let part = table.part_at(at.0, at.1)?;
+    let id = entry_type(part)?;
+    Some((at, id))
 }
 
 // The entry of a name in a container, where the first part of that name is one.
 fn entry_named(table: &NamedTable, id: TypeId, name: &str) -> Option<((TypeId, u16), TypeId)>
     ensures { result ≡ entry_of table.now id name.now }
 {
-    match table.first_named(id, name) {
-        None => None,
-        Some(at) => entry_at(table.types(), at),
-    }
+    let at = table.first_named(id, name)?;
+    entry_at(table.types(), at)
 }
 
 /// A number as it stands in a plan.
@@ -103,20 +97,16 @@ fn whole(alloc: Global, at: usize, id: TypeId) -> Found
 pub(crate) fn variable_named(alloc: Global, component: &Component, name: &str) -> Option<Found>
     ensures { result ≡ field_of (fields_of component.now.variables.now) name.now }
 {
-    match component.variable(name) {
-        None => None,
-        Some((at, variable)) => Some(whole(alloc, at, variable.id)),
-    }
+    let (at, variable) = component.variable(name)?;
+    Some(whole(alloc, at, variable.id))
 }
 
 /// The field of a name.
 pub(crate) fn field_named(alloc: Global, fields: &Fields, name: &str) -> Option<Found>
     ensures { result ≡ field_of fields.now name.now }
 {
-    match fields.field(name) {
-        None => None,
-        Some((at, field)) => Some(whole(alloc, at, field.1)),
-    }
+    let (at, field) = fields.field(name)?;
+    Some(whole(alloc, at, field.1))
 }
 
 fn found_behind(

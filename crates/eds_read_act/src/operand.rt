@@ -1,10 +1,8 @@
 //! What operands stand for, and what they fit.
 
-ghost use Rattle.std.specs.Prelude.{◌≡◌, IfOk, map, option_map, is_some};
+ghost use Rattle.std.specs.Prelude.{◌≡◌, IfOk, option_map, is_some};
 ghost use Rattle.std.specs.Option.{option_copied};
 ghost use Rattle.eds_types.specs.Plain.{plain};
-ghost use Rattle.eds_types.specs.Rows.{chain, list_has};
-ghost use Rattle.eds_base.specs.declared.ids.TypeId.{TypeId as type_id};
 ghost use Rattle.eds_read_act.specs.Scopes.{scope_of};
 ghost use Rattle.eds_read_act.specs.Operands.{kind_of as kind_in_table, is_number as is_number_kind, are_alike as alike, fit_together as fit_in, literal as literal_of, found_at as found_in, type_of as type_in, type_fits as type_fits_in, found_fits as found_fits_in, operand_fits as fits_in, literal_operand as literal_as, variable_operand as variable_as, argument_operand as argument_as, operand_at as operand_in, operand_if as operand_in_if};
 
@@ -14,7 +12,7 @@ use crate::naming::{Found, field_in, variable_in};
 use crate::scope::Scope;
 use eds_base::{Memory, TypeId, whole_number};
 use eds_plan::Operand;
-use eds_types::{Kind, TypeTable, Value, stored, text_value};
+use eds_types::{Kind, TypeTable, Value, is_under, stored, text_value};
 use std::alloc::Global;
 
 /// What is wanted of an operand: a value of a type, or any number.
@@ -27,10 +25,8 @@ pub(crate) enum Wanted {
 fn kind_of(table: &TypeTable, id: TypeId) -> Option<&Kind>
     ensures { option_copied result ≡ kind_in_table table.now id }
 {
-    match table.rows().get(id.0 as usize) {
-        None => None,
-        Some(row) => Some(&row.kind),
-    }
+    let row = table.rows().get(id.0 as usize)?;
+    Some(&row.kind)
 }
 
 /// Whether a type is of numbers.
@@ -41,27 +37,6 @@ pub(crate) fn is_number(table: &TypeTable, id: TypeId) -> bool
         Some(Kind::Int(_, _)) => true,
         _ => false,
     }
-}
-
-fn has(ids: &[TypeId], id: TypeId) -> bool
-    ensures { result ≡ list_has (map (λ (x : type_id). x.0) ids.now) id.0 }
-{
-    let mut rest = ids;
-    while let [first, after @ ..] = rest {
-        if first.0 == id.0 {
-            return true;
-        }
-        rest = after;
-    }
-    false
-}
-
-// Whether a type is another one, or derives from it.
-fn is_under(table: &TypeTable, id: TypeId, base: TypeId) -> bool
-    ensures { result ≡ list_has (chain table.now id.0) base.0 }
-{
-    let chain = table.chain_of(id);
-    has(chain.as_slice(), base)
 }
 
 fn are_alike(table: &TypeTable, a: TypeId, one: &Kind, b: TypeId, other: &Kind) -> bool
@@ -136,10 +111,8 @@ pub(crate) fn literal(
 fn is_literal(alloc: Global, table: &TypeTable, wanted: Wanted, text: &str) -> Result<bool, Memory>
     ensures { IfOk result (λ b. b ≡ is_some (literal_of table.now wanted text.now)) }
 {
-    match literal(alloc, table, wanted, text)? {
-        Some(_) => Ok(true),
-        None => Ok(false),
-    }
+    let value = literal(alloc, table, wanted, text)?;
+    Ok(value.is_some())
 }
 
 /// What a reference finds that is an operand.
@@ -170,10 +143,8 @@ pub(crate) fn found_at(alloc: Global, scope: &Scope, node: u32) -> Result<Option
 pub(crate) fn type_of(alloc: Global, scope: &Scope, node: u32) -> Result<Option<TypeId>, Memory>
     ensures { IfOk result (λ id. id ≡ type_in (scope_of scope.now) node) }
 {
-    match found_at(alloc, scope, node)? {
-        None => Ok(None),
-        Some(found) => Ok(Some(found.id)),
-    }
+    let found = found_at(alloc, scope, node)?;
+    Ok(found.map(|found| found.id))
 }
 
 fn type_fits(table: &TypeTable, wanted: Wanted, from: TypeId) -> bool
@@ -188,10 +159,7 @@ fn type_fits(table: &TypeTable, wanted: Wanted, from: TypeId) -> bool
 fn found_fits(table: &TypeTable, wanted: Wanted, found: Option<Found>) -> bool
     ensures { result ≡ found_fits_in table.now wanted found }
 {
-    match found {
-        None => false,
-        Some(found) => type_fits(table, wanted, found.id),
-    }
+    found.is_some_and(|found| type_fits(table, wanted, found.id))
 }
 
 /// Whether an operand fits what is wanted.

@@ -159,39 +159,31 @@ pub(crate) fn has_command(scope: &Scope, node: u32) -> bool
 fn parameter_at(at: usize, end: &EndPlan, name: &str) -> Option<Held>
     ensures { result ≡ parameter_at_end name.now (at, end.now) }
 {
-    match parameter_among(end.instance.members.as_slice(), name) {
-        None => None,
-        Some((member, (id, read_only))) => Some(Held {
-            end: short(at),
-            member: short(member),
-            required: end.required,
-            id,
-            read_only,
-        }),
-    }
+    let (member, (id, read_only)) = parameter_among(end.instance.members.as_slice(), name)?;
+    Some(Held {
+        end: short(at),
+        member: short(member),
+        required: end.required,
+        id,
+        read_only,
+    })
 }
 
 /// The parameter that an element names.
 pub(crate) fn parameter_of(scope: &Scope, node: u32) -> Option<Held>
     ensures { result ≡ parameter_in (scope_of scope.now) node }
 {
-    match end_of(scope, node) {
-        None => None,
-        Some((at, end)) => parameter_at(at, end, text_at(scope.tree, node, "parameter")),
-    }
+    let (at, end) = end_of(scope, node)?;
+    parameter_at(at, end, text_at(scope.tree, node, "parameter"))
 }
 
 /// The activity that an element names, with its arguments.
 pub(crate) fn activity_of<'a>(scope: &Scope<'a>, node: u32) -> Option<(usize, &'a Fields)>
     ensures { option_map (λ p. (p.0, p.1.now)) result ≡ activity_in (scope_of scope.now) node }
 {
-    match scope
-        .component
-        .activity(text_at(scope.tree, node, "activity"))
-    {
-        None => None,
-        Some((at, head)) => Some((at, &head.arguments)),
-    }
+    let name = text_at(scope.tree, node, "activity");
+    let (at, head) = scope.component.activity(name)?;
+    Some((at, &head.arguments))
 }
 
 // ---- what takes arguments
@@ -199,29 +191,23 @@ pub(crate) fn activity_of<'a>(scope: &Scope<'a>, node: u32) -> Option<(usize, &'
 fn taken_by_call<'a>(scope: &Scope<'a>, node: u32) -> Option<&'a Fields>
     ensures { option_copied result ≡ option_map (λ a. a.1) (activity_in (scope_of scope.now) node) }
 {
-    match activity_of(scope, node) {
-        None => None,
-        Some((_, fields)) => Some(fields),
-    }
+    let (_, fields) = activity_of(scope, node)?;
+    Some(fields)
 }
 
 // The arguments that the command of a name carries at an end, where the end sends.
 fn sent_fields<'a>(scope: &Scope<'a>, at: usize, end: &EndPlan, name: &str) -> Option<&'a Fields>
     ensures { slice_get scope.now.component.now.ends.now at ≡ Some end.now → option_copied result ≡ option_map (λ c. c.fields) (command_at_end leaving_at name.now (at, end.now)) }
 {
-    match command_among(end.instance.members.as_slice(), name) {
-        None => None,
-        Some((member, _)) => scope.component.sent(at, member),
-    }
+    let (member, _) = command_among(end.instance.members.as_slice(), name)?;
+    scope.component.sent(at, member)
 }
 
 fn taken_by_command<'a>(scope: &Scope<'a>, node: u32) -> Option<&'a Fields>
     ensures { option_copied result ≡ option_map (λ c. c.fields) (command_in leaving_at (scope_of scope.now) node) }
 {
-    match end_of(scope, node) {
-        None => None,
-        Some((at, end)) => sent_fields(scope, at, end, text_at(scope.tree, node, "command")),
-    }
+    let (at, end) = end_of(scope, node)?;
+    sent_fields(scope, at, end, text_at(scope.tree, node, "command"))
 }
 
 /// The arguments to which an element gives values, if it names something that takes some.
@@ -244,18 +230,14 @@ fn received_fields<'a>(
 ) -> Option<&'a Fields>
     ensures { slice_get scope.now.component.now.ends.now at ≡ Some end.now → option_copied result ≡ option_map (λ c. c.fields) (command_at_end arriving_at name.now (at, end.now)) }
 {
-    match command_among(end.instance.members.as_slice(), name) {
-        None => None,
-        Some((member, _)) => scope.component.received(at, member),
-    }
+    let (member, _) = command_among(end.instance.members.as_slice(), name)?;
+    scope.component.received(at, member)
 }
 
 /// The arguments that the command which an element waits for carries.
 pub(crate) fn received_by<'a>(scope: &Scope<'a>, node: u32) -> Option<&'a Fields>
     ensures { option_copied result ≡ option_map (λ c. c.fields) (command_in arriving_at (scope_of scope.now) node) }
 {
-    match end_of(scope, node) {
-        None => None,
-        Some((at, end)) => received_fields(scope, at, end, text_at(scope.tree, node, "command")),
-    }
+    let (at, end) = end_of(scope, node)?;
+    received_fields(scope, at, end, text_at(scope.tree, node, "command"))
 }

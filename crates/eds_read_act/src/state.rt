@@ -79,9 +79,7 @@ impl States {
         requires { TellsStates tree.now self.now }
         ensures { result ≡ state_named tree.now self.now.machine node attribute.now }
     {
-        match self.number(tree, node, attribute) {
-            None => None,
-            Some(at) => self.nodes.as_slice().get(at).copied(),
-        }
+        let at = self.number(tree, node, attribute)?;
+        self.nodes.as_slice().get(at).copied()
     }
 }

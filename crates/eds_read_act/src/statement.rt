@@ -133,10 +133,8 @@ fn variable_at(found: Option<Found>) -> u16
 fn bound_in(alloc: Global, scope: &Scope, name: &str, node: u32) -> Result<Operand, Memory>
     ensures { IfOk result (λ a. a ≡ bound_of (scope_of scope.now) name.now node) }
 {
-    let operand = match child_named(scope.tree, node, name) {
-        None => None,
-        Some(bound) => operand_of(scope.tree, bound),
-    };
+    let bound = child_named(scope.tree, node, name);
+    let operand = bound.and_then(|bound| operand_of(scope.tree, bound));
     operand_if(alloc, scope, Wanted::Number, operand)
 }
 
@@ -167,20 +165,16 @@ fn long(n: usize) -> u32
 fn transaction_named(names: &NameList, name: &str) -> Option<u32>
     ensures { result ≡ number_named names.now name.now }
 {
-    match names.position(name) {
-        None => None,
-        Some(at) => Some(long(at)),
-    }
+    let at = names.position(name)?;
+    Some(long(at))
 }
 
 /// The transaction that an element names.
 pub(crate) fn transaction_at(scope: &Scope, node: u32) -> Option<u32>
     ensures { result ≡ transaction_by (scope_of scope.now) (attribute_at scope.now.tree.now node (codes "transaction")) }
 {
-    match scope.tree.attribute_at(node, "transaction") {
-        None => None,
-        Some(name) => transaction_named(&scope.component.transactions, name),
-    }
+    let name = scope.tree.attribute_at(node, "transaction")?;
+    transaction_named(&scope.component.transactions, name)
 }
 
 fn command_sent(

@@ -265,10 +265,7 @@ fn leaves(alloc: Global, scope: &Scope, items: &[u32]) -> Result<Option<usize>, 
 fn is_one(left: Option<usize>) -> bool
     ensures { result ≡ is_one left }
 {
-    match left {
-        None => false,
-        Some(left) => left == 1,
-    }
+    left.is_some_and(|left| left == 1)
 }
 
 fn is_calculation(alloc: Global, scope: &Scope, node: u32) -> Result<bool, Memory>
@@ -291,19 +288,13 @@ fn is_comparison(alloc: Global, scope: &Scope, node: u32) -> Result<bool, Memory
 pub(crate) fn number_in(tree: &Tree, node: Option<u32>) -> Option<i128>
     ensures { result ≡ number_of tree.now node }
 {
-    match node {
-        None => None,
-        Some(node) => whole_number(text_at(tree, node, "value")),
-    }
+    whole_number(text_at(tree, node?, "value"))
 }
 
 fn is_step(number: Option<i128>) -> bool
     ensures { result ≡ step_is number }
 {
-    match number {
-        None => false,
-        Some(number) => number != 0,
-    }
+    number.is_some_and(|number| number != 0)
 }
 
 // Whether what stands in an element fits, where all that it names is there.
@@ -357,12 +348,10 @@ fn is_unsound_operand(alloc: Global, scope: &Scope, node: u32, child: u32) -> Re
 fn has_bad_operand(alloc: Global, scope: &Scope, node: u32) -> Result<bool, Memory>
     ensures { IfOk result (λ b. b ≡ bad_operand_in (scope_of scope.now) node (children_at scope.now.tree.now node)) }
 {
-    let mut rest = scope.tree.children_at(node);
-    while let [child, after @ ..] = rest {
+    for child in scope.tree.children_at(node) {
         if is_unsound_operand(alloc, scope, node, *child)? {
             return Ok(true);
         }
-        rest = after;
     }
     Ok(false)
 }

@@ -1,9 +1,6 @@
-use Rattle.std.proofs.Common.{◌≡◌, length}
+use Rattle.std.proofs.Common.{◌≡◌, drop}
 use Rattle.eds_fits.specs.Deciding.{members_known}
 use Rattle.eds_fits.proofs.component.members_known.Given as goal
 
-abbrev pub invariant-loop-rest : goal.invariant-loop-rest
-invariant-loop-rest l = members_known l.table l.rest ≡ members_known l.table l.members
-
-abbrev pub decreases-loop-rest : goal.decreases-loop-rest
-decreases-loop-rest l = length l.rest
+abbrev pub invariant-loop-member : goal.invariant-loop-member
+invariant-loop-member l = members_known l.table (drop l.member-index l.members) ≡ members_known l.table l.members

@@ -1,9 +1,6 @@
-use Rattle.std.proofs.Common.{◌≡◌, length}
+use Rattle.std.proofs.Common.{◌≡◌, drop}
 use Rattle.eds_fits.specs.Deciding.{variables_fit}
 use Rattle.eds_fits.proofs.component.variables_fit.Given as goal
 
-abbrev pub invariant-loop-rest : goal.invariant-loop-rest
-invariant-loop-rest l = variables_fit l.table l.rest ≡ variables_fit l.table l.variables
-
-abbrev pub decreases-loop-rest : goal.decreases-loop-rest
-decreases-loop-rest l = length l.rest
+abbrev pub invariant-loop-variable : goal.invariant-loop-variable
+invariant-loop-variable l = variables_fit l.table (drop l.variable-index l.variables) ≡ variables_fit l.table l.variables

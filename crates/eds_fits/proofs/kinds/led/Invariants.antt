@@ -1,9 +1,6 @@
-use Rattle.std.proofs.Common.{◌≡◌, length}
+use Rattle.std.proofs.Common.{◌≡◌, drop}
 use Rattle.eds_fits.specs.Deciding.{led}
 use Rattle.eds_fits.proofs.kinds.led.Given as goal
 
-abbrev pub invariant-loop-rest : goal.invariant-loop-rest
-invariant-loop-rest l = led l.table l.at l.rest ≡ led l.table l.fn.id l.path
-
-abbrev pub decreases-loop-rest : goal.decreases-loop-rest
-decreases-loop-rest l = length l.rest
+abbrev pub invariant-loop-place : goal.invariant-loop-place
+invariant-loop-place l = led l.table l.at (drop l.place-index l.path) ≡ led l.table l.fn.id l.path

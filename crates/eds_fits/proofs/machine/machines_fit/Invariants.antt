@@ -1,9 +1,6 @@
-use Rattle.std.proofs.Common.{◌≡◌, length}
+use Rattle.std.proofs.Common.{◌≡◌, drop}
 use Rattle.eds_fits.specs.Deciding.{machines_fit}
 use Rattle.eds_fits.proofs.machine.machines_fit.Given as goal
 
-abbrev pub invariant-loop-rest : goal.invariant-loop-rest
-invariant-loop-rest l = machines_fit l.whole.table.now l.whole.component.now l.rest ≡ machines_fit l.whole.table.now l.whole.component.now l.machines
-
-abbrev pub decreases-loop-rest : goal.decreases-loop-rest
-decreases-loop-rest l = length l.rest
+abbrev pub invariant-loop-machine : goal.invariant-loop-machine
+invariant-loop-machine l = machines_fit l.whole.table.now l.whole.component.now (drop l.machine-index l.machines) ≡ machines_fit l.whole.table.now l.whole.component.now l.machines

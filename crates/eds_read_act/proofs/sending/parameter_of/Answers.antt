@@ -5,7 +5,7 @@ use Rattle.eds_read_act.specs.Inside.{text_at}
 use Rattle.eds_read_act.specs.Sending.{parameter_at_end}
 use Rattle.eds_read_act.proofs.sending.parameter_of.Goals as goal
 
-pub returns-in-Some : goal.returns-in-Some
-returns-in-Some c =
-    c.parameter_at.ensures ∙ ap (λ name. parameter_at_end name (c.in-Some.at, c.in-Some.end.now)) c.text_at.ensures
-    ∙ ap (λ (o : Option (ℕ × EndPlan)). o >>= parameter_at_end (text_at c.args.scope.now.tree.now c.args.node (codes "parameter"))) c.in-Some.ensures
+pub returns : goal.returns
+returns c =
+    c.parameter_at.ensures ∙ ap (λ name. parameter_at_end name (c.in_ok-at.at, c.in_ok-at.end.now)) c.text_at.ensures
+    ∙ ap (λ (o : Option (ℕ × EndPlan)). o >>= parameter_at_end (text_at c.args.scope.now.tree.now c.args.node (codes "parameter"))) c.in_ok-at.ensures

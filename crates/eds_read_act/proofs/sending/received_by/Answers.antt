@@ -9,9 +9,9 @@ use Rattle.eds_read_act.specs.Sending.{command_at_end}
 use Rattle.eds_read_act.proofs.Carried.{item-there}
 use Rattle.eds_read_act.proofs.sending.received_by.Goals as goal
 
-pub returns-in-Some : goal.returns-in-Some
-returns-in-Some c =
+pub returns : goal.returns
+returns c =
     let s = scope_of c.args.scope.now in
-    c.received_fields.ensures (item-there (λ (x : EndPlan). x.name) s.ends (text_at s.tree c.args.node (codes "interface")) c.in-Some.at c.in-Some.end.now c.in-Some.ensures)
-    ∙ ap (λ name. option_map (λ (x : Taker). x.fields) (command_at_end arriving name (c.in-Some.at, c.in-Some.end.now))) c.text_at.ensures
-    ∙ ap (λ (o : Option (ℕ × EndPlan)). option_map (λ (x : Taker). x.fields) (o >>= command_at_end arriving (text_at s.tree c.args.node (codes "command")))) c.in-Some.ensures
+    c.received_fields.ensures (item-there (λ (x : EndPlan). x.name) s.ends (text_at s.tree c.args.node (codes "interface")) c.in_ok-at.at c.in_ok-at.end.now c.in_ok-at.ensures)
+    ∙ ap (λ name. option_map (λ (x : Taker). x.fields) (command_at_end arriving name (c.in_ok-at.at, c.in_ok-at.end.now))) c.text_at.ensures
+    ∙ ap (λ (o : Option (ℕ × EndPlan)). option_map (λ (x : Taker). x.fields) (o >>= command_at_end arriving (text_at s.tree c.args.node (codes "command")))) c.in_ok-at.ensures

@@ -6,7 +6,7 @@ use Rattle.eds_read_act.specs.Scopes.{Field}
 use Rattle.eds_read_act.proofs.Carried.{mapped-fields}
 use Rattle.eds_read_act.proofs.component.Component.received.Goals as goal
 
-pub returns-in-Some : goal.returns-in-Some
-returns-in-Some c =
-    c.fields_of.ensures ∙ ap (λ (o : Option (List (List Field))). o >>= λ fs. slice_get fs c.args.member) c.in-Some.ensures
+pub returns : goal.returns
+returns c =
+    c.fields_of.ensures ∙ ap (λ (o : Option (List (List Field))). o >>= λ fs. slice_get fs c.args.member) c.in_ok-fields.ensures
     ∙ mapped-fields arriving c.args.self.now.ends.now c.args.end c.args.member c.args.self.now.received c.args.self.now.received_at
