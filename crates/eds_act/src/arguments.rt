@@ -69,10 +69,8 @@ pub(crate) fn argument_types(alloc: Global, activity: &Activity) -> Result<Vec<T
     ensures { IfOk result (λ ids. types_of ids.items ≡ argument_types activity.now) }
 {
     let mut types = Vec::new(alloc);
-    let mut rest = activity.arguments.as_slice();
-    while let [(_, id), after @ ..] = rest {
+    for (_, id) in activity.arguments.as_slice() {
         types.push(*id)?;
-        rest = after;
     }
     Ok(types)
 }
@@ -100,10 +98,8 @@ fn carried_of(alloc: Global, way: Way, arguments: &[Argument]) -> Result<Vec<Typ
     ensures { IfOk result (λ ids. types_of ids.items ≡ carried_of way arguments.now) }
 {
     let mut types = Vec::new(alloc);
-    let mut rest = arguments;
-    while let [argument, after @ ..] = rest {
+    for argument in arguments {
         push_carried(&mut types, way, argument)?;
-        rest = after;
     }
     Ok(types)
 }

@@ -19,10 +19,8 @@ use eds_types::{TypeTable, Value};
 fn variable_type(comp: &ComponentPlan, at: u16) -> Option<TypeId>
     ensures { option_map (λ (id : TypeId). id.0) result ≡ slice_get (variable_types comp.now) at }
 {
-    match comp.variables.get(at as usize) {
-        Some(variable) => Some(variable.id),
-        None => None,
-    }
+    let variable = comp.variables.get(at as usize)?;
+    Some(variable.id)
 }
 
 /// Puts a value at a place, if it is there.

@@ -58,10 +58,7 @@ fn first_due(a: Option<(u64, u16)>, b: Option<(u64, u16)>) -> Option<(u64, u16)>
 fn with_number(i: u16, at: Option<u64>) -> Option<(u64, u16)>
     ensures { result ≡ with_number_of i at }
 {
-    match at {
-        None => None,
-        Some(t) => Some((t, i)),
-    }
+    Some((at?, i))
 }
 
 // The least moment to come of these machines, and the first that has it.

@@ -25,11 +25,9 @@ fn first_values(alloc: Global, variables: &[VarPlan]) -> Result<Values, Memory>
     ensures { IfOk result (λ vs. map plain vs ≡ map (λ (x : VarPlan). plain x.initial) variables.now) }
 {
     let mut values = Items::new(alloc);
-    let mut rest = variables;
-    while let [variable, after @ ..] = rest {
+    for variable in variables {
         let value = variable.initial.copy(alloc)?;
         values.push(value)?;
-        rest = after;
     }
     Ok(values)
 }
@@ -39,14 +37,12 @@ fn beginnings(alloc: Global, machines: &[Machine]) -> Result<Items<MachineState>
     ensures { IfOk result (λ ms. ms ≡ map begins machines.now) }
 {
     let mut states = Items::new(alloc);
-    let mut rest = machines;
-    while let [machine, after @ ..] = rest {
+    for machine in machines {
         states.push(MachineState {
             at: machine.entry,
             entered: 0,
             passed: 0,
         })?;
-        rest = after;
     }
     Ok(states)
 }

@@ -22,10 +22,9 @@ fn passes(
 ) -> bool
     ensures { result ≡ passes_of table.now (map plain arguments.now) (map plain variables.now) guard.now }
 {
-    match guard {
-        None => true,
-        Some(guard) => holds(guard, table, arguments, variables),
-    }
+    guard
+        .as_ref()
+        .is_none_or(|guard| holds(guard, table, arguments, variables))
 }
 
 fn is_open(
@@ -54,15 +53,11 @@ fn open_at<'a>(
 ) -> Option<&'a Transition>
     ensures { option_copied result ≡ open_place machine.now.transitions (open_of table.now component.now (map plain arguments.now) (map plain variables.now) waiting.now) place }
 {
-    match machine.transitions.get(usize::from(place)) {
-        None => None,
-        Some(transition) => {
-            if is_open(table, component, arguments, variables, waiting, transition) {
-                Some(transition)
-            } else {
-                None
-            }
-        }
+    let transition = machine.transitions.get(usize::from(place))?;
+    if is_open(table, component, arguments, variables, waiting, transition) {
+        Some(transition)
+    } else {
+        None
     }
 }
 
@@ -116,20 +111,16 @@ pub(crate) fn taken<'a>(
 pub(crate) fn at_entry(machine: &Machine, at: u16) -> Option<&Action>
     ensures { option_copied result ≡ entry_of machine.now at }
 {
-    match machine.states.get(usize::from(at)) {
-        None => None,
-        Some(state) => state.at_entry.as_ref(),
-    }
+    let state = machine.states.get(usize::from(at))?;
+    state.at_entry.as_ref()
 }
 
 /// What is done where a state is left.
 pub(crate) fn at_exit(machine: &Machine, at: u16) -> Option<&Action>
     ensures { option_copied result ≡ exit_of machine.now at }
 {
-    match machine.states.get(usize::from(at)) {
-        None => None,
-        Some(state) => state.at_exit.as_ref(),
-    }
+    let state = machine.states.get(usize::from(at))?;
+    state.at_exit.as_ref()
 }
 
 /// The trigger that a primitive is.

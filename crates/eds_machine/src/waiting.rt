@@ -12,10 +12,10 @@ use std::alloc::Global;
 pub(crate) fn is_required(component: &ComponentPlan, face: u16) -> bool
     ensures { result ≡ required_at component.now face }
 {
-    match component.ends.get(usize::from(face)) {
-        None => false,
-        Some(end) => end.required,
-    }
+    component
+        .ends
+        .get(usize::from(face))
+        .is_some_and(|end| end.required)
 }
 
 fn answers_at(
@@ -27,16 +27,7 @@ fn answers_at(
 ) -> bool
     ensures { result ≡ answered_at component.now waiting.now face member name }
 {
-    match name {
-        None => true,
-        Some(name) => {
-            if is_required(component, face) {
-                waits(waiting, face, member, name)
-            } else {
-                true
-            }
-        }
-    }
+    name.is_none_or(|name| !is_required(component, face) || waits(waiting, face, member, name))
 }
 
 /// Whether an event of a transition answers its transaction, if it names one.
@@ -84,10 +75,8 @@ fn without(
     ensures { IfOk result (λ qs. qs ≡ all_without waiting.now face member name) }
 {
     let mut left = Items::new(alloc);
-    let mut rest = waiting;
-    while let [one, after @ ..] = rest {
+    for one in waiting {
         keep(&mut left, *one, face, member, name)?;
-        rest = after;
     }
     Ok(left)
 }
