@@ -42,14 +42,14 @@ is_tie (Ok (arrives verb end name rest)) = false
 is_tie (Err w) = false
 
 -- a number, or 0 where there is none
-abbrev pub or_none : Option ℕ → ℕ
-or_none None = 0
-or_none (Some n) = n
+abbrev pub or_zero : Option ℕ → ℕ
+or_zero None = 0
+or_zero (Some n) = n
 
 -- how much time goes on by a line
 abbrev pub ticks_of : Result Saying LineWhy → ℕ
 ticks_of (Ok (ties lower upper)) = 0
-ticks_of (Ok (ticks number)) = or_none (number_of number)
+ticks_of (Ok (ticks number)) = or_zero (number_of number)
 ticks_of (Ok (arrives verb end name rest)) = 0
 ticks_of (Err w) = 0
 
