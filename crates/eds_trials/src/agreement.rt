@@ -1,6 +1,7 @@
 //! Reader and packer against the plain program.
 
-ghost use Rattle.std.specs.Prelude.{◌<◌, length};
+ghost use Rattle.std.specs.Prelude.{◌<◌, ◌≤◌, length, IfOk};
+ghost use Rattle.eds_bits.specs.Reader.{view_bits};
 ghost use Rattle.eds_types.specs.Overlap.{IsClear};
 
 use crate::census::lists_of;
@@ -9,7 +10,7 @@ use eds_base::{Fail, Fault, Memory, TypeId};
 use eds_bits::BitView;
 use eds_pack::{conforms, pack, pack_into, packed_bits};
 use eds_types::{PackReason, TypeTable, Value};
-use eds_unpack::unpack;
+use eds_unpack::{Program, Scratch, unpack};
 use std::alloc::Global;
 
 /// What reader and packer do with a type.
@@ -19,8 +20,11 @@ pub(crate) struct Packing {
     pub(crate) reads: u32,
     /// How many values pack into so many bits at most.
     pub(crate) packed: u32,
-    /// How many of the lists don't begin with a spelling of their value, how many values pack into bits that are not their
-    /// canonical spelling, and of how many scalar values and numbers it is wrong whether they pack.
+    /// How many numbers the constraints and lists of the type's table ask for.
+    pub(crate) slots: u32,
+    /// How many of the lists don't begin with a spelling of their value, or are recognised as something else than what is
+    /// read, how many values pack into bits that are not their canonical spelling, and of how many scalar values and numbers
+    /// it is wrong whether they pack.
     pub(crate) faults: u32,
 }
 
@@ -146,49 +150,94 @@ fn numbers_amiss(table: &TypeTable, id: TypeId, values: &[Value]) -> u32
     amiss
 }
 
-// What the octets begin with behind some bits; want of memory where there aren't so many bits.
-fn unpack_behind(
-    alloc: Global,
-    table: &TypeTable,
-    id: TypeId,
-    octets: &[u8],
-    bits: u64,
-) -> Result<(Value, u32), Fail<Fault>>
-    requires known { id.0 < length table.now }
-    requires clear { IsClear table.now id.0 }
+// The bits of the octets behind the first ones; want of memory where there aren't so many.
+fn behind<'a>(octets: &'a [u8], bits: u64) -> Result<BitView<'a>, Memory>
+    ensures { IfOk result (λ view. length (view_bits view) ≤ 524288) }
 {
     if octets.len() > 65_536 {
-        return Err(Fail::Memory);
+        return Err(Memory);
     }
     if bits > 8 * octets.len() as u64 {
-        return Err(Fail::Memory);
+        return Err(Memory);
     }
-    unpack(alloc, table, id, BitView::new(octets).after(bits))
+    Ok(BitView::new(octets).after(bits))
 }
 
-// Whether the last bits of the octets, so many of them, are read as a value, and whether it is one that they begin with.
+// ---- recognising
+
+fn is_same_fault(one: &Fault, other: &Fault) -> bool {
+    for step in 0..64 {
+        if one.path.get(step) != other.path.get(step) {
+            return false;
+        }
+    }
+    one.reason == other.reason
+}
+
+// The most derived container of a value of the type, or the type.
+fn type_of(id: TypeId, value: &Value) -> TypeId {
+    match value {
+        Value::Fields(container, _) => *container,
+        _ => id,
+    }
+}
+
+// Whether the program tells of bits what was read of them, and the scratch has just its slots.
+fn recognises(
+    program: &Program<'_>,
+    scratch: &mut Scratch,
+    id: TypeId,
+    view: BitView,
+    outcome: &Result<(Value, u32), Fail<Fault>>,
+) -> bool
+    requires clear { IsClear program.now.table program.now.id }
+    requires most { length (view_bits view) ≤ 524288 }
+{
+    if scratch.slots() != program.slots() {
+        return false;
+    }
+    match program.recognise(scratch, view) {
+        Ok((found, bits)) => match outcome {
+            Ok((value, taken)) => found == type_of(id, value) && bits == *taken,
+            Err(_) => false,
+        },
+        Err(fault) => match outcome {
+            Err(Fail::Named(other)) => is_same_fault(&fault, other),
+            _ => false,
+        },
+    }
+}
+
+// Whether the last bits of the octets, so many of them, are read as a value, and whether it is one that they begin with,
+// and they are recognised as it.
 fn read(
     alloc: Global,
     table: &TypeTable,
     id: TypeId,
+    program: &Program<'_>,
+    scratch: &mut Scratch,
     octets: [u8; 8],
     size: u64,
 ) -> Result<(bool, bool), Memory>
     requires known { id.0 < length table.now }
     requires clear { IsClear table.now id.0 }
+    requires ready { IsClear program.now.table program.now.id }
 {
     let others = 64u64.saturating_sub(size);
-    match unpack_behind(alloc, table, id, &octets, others) {
+    let view = behind(&octets, others)?;
+    let outcome = unpack(alloc, table, id, view);
+    let agrees = recognises(program, scratch, id, view, &outcome);
+    match outcome {
         Ok((value, taken)) => {
             let bits = bits_of(alloc, &octets)?;
             let from = others as usize;
             let slow = Slow::of_rows(alloc, table.rows(), Spelling::Any);
             match bits.get(from..from.saturating_add(taken as usize)) {
-                Some(front) => Ok((true, slow.spells(id, &value, front)?)),
+                Some(front) => Ok((true, slow.spells(id, &value, front)? && agrees)),
                 None => Ok((true, false)),
             }
         }
-        Err(Fail::Named(_)) => Ok((false, true)),
+        Err(Fail::Named(_)) => Ok((false, agrees)),
         Err(Fail::Memory) => Err(Memory),
     }
 }
@@ -206,9 +255,12 @@ pub(crate) fn agreement(
 {
     let slow = Slow::of_rows(alloc, table.rows(), Spelling::Any);
     let values = slow.values(id)?;
+    let program = Program::build(alloc, table, id)?;
+    let mut scratch = Scratch::for_program(alloc, &program)?;
     let mut agreed = Packing {
         reads: 0,
         packed: 0,
+        slots: program.slots(),
         faults: numbers_amiss(table, id, values.as_slice()),
     };
     for value in values.iter() {
@@ -216,7 +268,16 @@ pub(crate) fn agreement(
     }
     for size in 0..most.wrapping_add(1) {
         for number in 0..lists_of(size) {
-            let (is_read, agrees) = read(alloc, table, id, number.to_be_bytes(), size as u64)?;
+            let octets = number.to_be_bytes();
+            let (is_read, agrees) = read(
+                alloc,
+                table,
+                id,
+                &program,
+                &mut scratch,
+                octets,
+                size as u64,
+            )?;
             agreed.reads = agreed.reads.wrapping_add(u32::from(is_read));
             agreed.faults = agreed.faults.wrapping_add(u32::from(!agrees));
         }

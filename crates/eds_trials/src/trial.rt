@@ -11,13 +11,14 @@ use std::fmt;
 
 /// A trial, as a line says it by five words: the file of a sheet, or `small` for the rows of `small`; a type's qualified
 /// name; how many bits at most are tried; how many values have spellings of so few bits; and how many lists of bits spell
-/// one.
+/// one. A sixth word may say how many numbers the constraints and lists of the sheet ask for.
 #[derive(Clone, Copy)]
 struct Trial<'a> {
     name: &'a str,
     bits: usize,
     values: u32,
     spellings: u32,
+    slots: Option<u32>,
 }
 
 /// What a trial comes to.
@@ -59,12 +60,13 @@ impl fmt::Display for Outcome {
                 let Packing {
                     reads,
                     packed,
+                    slots,
                     faults,
                 } = agreed;
                 let Found { values, fronts, .. } = found;
                 write!(
                     f,
-                    "{reads} of {fronts} are read, {packed} of {values} are packed, {faults} faults"
+                    "{reads} of {fronts} are read, {packed} of {values} are packed, {slots} slots, {faults} faults"
                 )
             }
         }
@@ -77,8 +79,12 @@ fn number(word: &str) -> Option<u32> {
 
 fn trial_of<'a>(alloc: Global, line: &'a str) -> Result<Option<Trial<'a>>, Memory> {
     let words: Vec<&str> = line.split(' ').collect(alloc)?;
-    let [_, name, bits, values, spellings] = words.as_slice() else {
+    let [_, name, bits, values, spellings, more @ ..] = words.as_slice() else {
         return Ok(None);
+    };
+    let slots = match more {
+        [slots] => number(slots),
+        _ => None,
     };
     match (number(bits), number(values), number(spellings)) {
         (Some(bits), Some(values), Some(spellings)) => Ok(Some(Trial {
@@ -86,6 +92,7 @@ fn trial_of<'a>(alloc: Global, line: &'a str) -> Result<Option<Trial<'a>>, Memor
             bits: bits as usize,
             values,
             spellings,
+            slots,
         })),
         _ => Ok(None),
     }
@@ -129,6 +136,7 @@ impl<'a> Trial<'a> {
             Ok(missed)
         } else if agreed.reads == found.fronts
             && agreed.packed == found.values
+            && agreed.slots == self.slots.unwrap_or(agreed.slots)
             && agreed.faults == 0
         {
             Ok(Outcome::Passes)

@@ -1,10 +1,11 @@
 -- What the reading function gives is the one value that the bits begin with, or the one fault.
 use Rattle.std.proofs.Common.{◌≡◌, ℕ, ◌-◌, ◌<◌, ◌≤◌, List, [], ◌∷◌, ◌++◌, length, take, Result, Ok, Err, refl, sym, ap, subst, ◌∙◌, arith}
-use Rattle.std.specs.Prelude.{IfOk}
+use Rattle.std.specs.Prelude.{IfOk, IfErr}
 use Rattle.std.proofs.lemmas.List.{length-append}
 use Rattle.eds_base.specs.declared.fail.Fail.{Fail}
 use Rattle.eds_base.specs.declared.fail.Fail.TheVariants.{Named, Memory}
 use Rattle.eds_base.specs.declared.fault.Fault.{Fault}
+use Rattle.eds_base.specs.declared.ids.TypeId.{TypeId}
 use Rattle.eds_bits.specs.Bits.{Bits}
 use Rattle.eds_overlap.specs.Laws.{IsReadable, read_type, IsRead, ReadingIsExact}
 use Rattle.eds_types.specs.declared.value.Value.{Value}
@@ -16,8 +17,9 @@ use Rattle.eds_types.specs.Rows.{Table}
 use Rattle.eds_types.specs.Rules.{KeepsRules}
 use Rattle.eds_types.specs.Spelling.{Spells}
 use Rattle.eds_types.proofs.ExactReading.{done, failed, err_is, ok_err, same_ok}
-use Rattle.eds_unpack.specs.Answers.{IsMemory, IsValue, StopsAt, IsFault, IfNamed, IfFault}
+use Rattle.eds_unpack.specs.Answers.{IsMemory, IsValue, StopsAt, IsFault, IfNamed, IfFault, IsRecognised, IsOnlyFault}
 use Rattle.eds_unpack.specs.Readers.{Stops, Gives, sized}
+use Rattle.eds_unpack.specs.Walks.{type_of}
 
 pub readable : (t : Table) (id : ℕ) → KeepsRules t → IsClear t id → id < length t → IsReadable t id
 readable t id rules clear there = record { rules = rules; there = there; clear = clear }
@@ -109,3 +111,36 @@ module _ (law : ReadingIsExact) (t : Table) (id : ℕ) (is : IsReadable t id) (b
   pub only_fault : (r : Result (Value × ℕ) (Fail Fault)) → IsAnswer r → (g : Fault) → FailsAt t id b g → IsFault g r
   only_fault (Ok x) h g f = let z = is_sized (plain x.0) x.1 h in absurd (ok_err (read_type t id b) (plain x.0, z.rest) g z.read (fault_is g f))
   only_fault (Err stop) h g f = stops_at stop g h (fault_is g f)
+
+  -- ---- a container and its size
+
+  abbrev pub IsFound : Result (TypeId × ℕ) Fault → Type 0
+  IsFound result = IfOk result (λ x. (v : Plain) × (sized b (read_type t id b) ≡ Ok (v, x.1)) × (type_of id v ≡ (x.0).0))
+
+  abbrev pub IsStopped : Result (TypeId × ℕ) Fault → Type 0
+  IsStopped result = IfErr result (λ g. read_type t id b ≡ Err g)
+
+  pub found_fits : (r : Result (TypeId × ℕ) Fault) → IsFound r → IfOk r (λ x. x.1 ≤ length b)
+  found_fits (Ok x) h = (spelled h.0 x.1 (is_sized h.0 x.1 h.1)).0
+  found_fits (Err g) h = tt
+
+  pub found_spelled : (r : Result (TypeId × ℕ) Fault) → IsFound r → IfOk r (λ x. (v : Plain) × Spells t id v (take x.1 b) × (type_of id v ≡ (x.0).0))
+  found_spelled (Ok x) h = (h.0, (spelled h.0 x.1 (is_sized h.0 x.1 h.1)).1, h.2)
+  found_spelled (Err g) h = tt
+
+  pub only_found : (r : Result (TypeId × ℕ) Fault) → IsFound r → IsStopped r → (v : Plain) (c rest : Bits) → b ≡ c ++ rest → Spells t id v c → IsRecognised (type_of id v) (length c) r
+  only_found (Ok x) h stops v c rest e s =
+      let z = is_sized h.0 x.1 h.1 in
+      let p = same_ok (read_type t id b) (h.0, z.rest) (v, rest) z.read (value_is v c rest e s) in
+      let q : z.rest ≡ rest = ap (λ y. y.1) p in
+      let size = z.size in
+      (sym h.2 ∙ ap (λ y. type_of id y.0) p, omega (arith, ap length q, ap length e, length-append c rest))
+  only_found (Err g) h stops v c rest e s = absurd (ok_err (read_type t id b) (v, rest) g (value_is v c rest e s) stops)
+
+  pub stopped_fault : (r : Result (TypeId × ℕ) Fault) → IsStopped r → IfErr r (FailsAt t id b)
+  stopped_fault (Ok x) h = tt
+  stopped_fault (Err g) h = read_is (Err g) h
+
+  pub only_stopped : (r : Result (TypeId × ℕ) Fault) → IsFound r → IsStopped r → (g : Fault) → FailsAt t id b g → IsOnlyFault g r
+  only_stopped (Ok x) h stops g f = let z = is_sized h.0 x.1 h.1 in absurd (ok_err (read_type t id b) (h.0, z.rest) g z.read (fault_is g f))
+  only_stopped (Err fault) h stops g f = err_is (Plain × Bits) fault g (sym stops ∙ fault_is g f)

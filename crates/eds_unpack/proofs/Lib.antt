@@ -1,13 +1,12 @@
-pub mod Values
 pub mod Sames
 pub mod ToldOctets
 pub mod Numbers
 pub mod Labels
 pub mod TextsRead
-pub mod Seeking
-pub mod FieldsOf
-pub mod Paths
 pub mod Listing
+pub mod Skims
+pub mod SameOctets
+pub mod FixedTexts
 pub mod OnReads
 pub mod Ranks
 pub mod Reaches
@@ -21,3 +20,10 @@ pub mod PiecesLaw
 pub mod Rooms
 pub mod Taking
 pub mod CutLaw
+pub mod AskedPaths
+pub mod Walking
+pub mod WalkParts
+pub mod Indexing
+pub mod NotedSlots
+pub mod WalkLists
+pub mod WalkEnds

@@ -1,23 +1,20 @@
 -- Looking for a length entry, and for a candidate.
-use Rattle.std.proofs.Common.{◌≡◌, ℕ, ◌-◌, ◌<◌, Bool, true, false, cond, List, [], ◌∷◌, ◌++◌, length, get_or, take, drop, map, reverse, Option, Some, None, Err, refl, sym, ap, ◌∙◌, arith}
-use Rattle.std.specs.Prelude.{◌&&◌}
-use Rattle.std.specs.List.{flat_map, list_all}
-use Rattle.std.proofs.lemmas.Grind.{flat_map-append}
-use Rattle.std.proofs.lemmas.List.Folds.{list_all-append}
+use Rattle.std.proofs.Common.{◌≡◌, ℕ, ◌-◌, ◌<◌, true, false, cond, List, [], ◌∷◌, ◌++◌, length, get_or, take, drop, map, reverse, Option, Some, None, Err, refl, sym, ap, ◌∙◌, arith}
+use Rattle.std.specs.List.{flat_map}
 use Rattle.eds_base.specs.declared.ids.TypeId.{TypeId}
 use Rattle.eds_base.specs.declared.fault.Step.{Step}
 use Rattle.eds_base.specs.declared.fault.Reason.TheVariants.{Constraint as Fails}
 use Rattle.eds_types.specs.declared.row.Constraint.{Constraint}
 use Rattle.eds_types.specs.Failing.{fault_at, path_steps}
-use Rattle.eds_types.specs.Fields.{Field, constraints_along}
+use Rattle.eds_types.specs.Fields.{Field}
 use Rattle.eds_types.specs.Families.{first_of}
 use Rattle.eds_types.specs.Reading.{holds, check_all, candidate_under}
-use Rattle.eds_types.proofs.FamilyChoice.{first_in_family}
-use Rattle.eds_types.specs.Rows.{Table, Placed, id_of, base_of, constraints_of, chain_before, chain_within, chain, family, sequence, placed_entries, placed_trailers}
-use Rattle.eds_unpack.specs.Choices.{numbers_of, meets, fits_choice}
-use Rattle.eds_unpack.specs.Seeking.{or_else, if_length, length_among, entries_along, trailers_along}
-use Rattle.eds_unpack.proofs.Paths.{rest_is}
-use Rattle.eds_unpack.proofs.Seeking.{entries_are, trailers_are}
+use Rattle.eds_types.proofs.Candidates.{candidate_is_first}
+use Rattle.eds_types.specs.Rows.{Table, Placed, id_of, chain, family, sequence, placed_entries, placed_trailers, or_else}
+use Rattle.eds_types.specs.Seeking.{entries_in_turn, trailers_in_turn}
+use Rattle.eds_types.proofs.Paths.{rest_is}
+use Rattle.eds_types.proofs.Seeking.{entries_are, trailers_are}
+use Rattle.eds_unpack.specs.Seeking.{if_length, length_among}
 
 or_assoc : (a b c : Option Step) → or_else (or_else a b) c ≡ or_else a (or_else b c)
 or_assoc None b c = refl
@@ -33,42 +30,13 @@ among_found ps qs s total h k = ap (λ o. or_else o (length_among qs)) h ∙ sym
 pub among_passed : (ps qs : List Placed) (total : Option Step) → None ≡ length_among ps → length_among (ps ++ qs) ≡ total → length_among qs ≡ total
 among_passed ps qs total h k = ap (λ o. or_else o (length_among qs)) h ∙ sym (among_append ps qs) ∙ k
 
-pub among_entries : (t : Table) (k : ℕ) (s : Step) (ids : List TypeId) → ids ≡ map id_of (chain t k) → Some s ≡ length_among (entries_along t ids) → Some s ≡ length_among (sequence t k)
+pub among_entries : (t : Table) (k : ℕ) (s : Step) (ids : List TypeId) → ids ≡ map id_of (chain t k) → Some s ≡ length_among (entries_in_turn t ids) → Some s ≡ length_among (sequence t k)
 among_entries t k s ids e h = among_found (flat_map (placed_entries t) (chain t k)) (flat_map (placed_trailers t) (reverse (chain t k))) s _ (h ∙ ap length_among (entries_are t k ids e)) refl
 
-pub among_trailers : (t : Table) (k : ℕ) (r : Option Step) (ids again : List TypeId) → ids ≡ map id_of (chain t k) → again ≡ map id_of (chain t k) → None ≡ length_among (entries_along t ids) → r ≡ length_among (trailers_along t (reverse again)) → r ≡ length_among (sequence t k)
+pub among_trailers : (t : Table) (k : ℕ) (r : Option Step) (ids again : List TypeId) → ids ≡ map id_of (chain t k) → again ≡ map id_of (chain t k) → None ≡ length_among (entries_in_turn t ids) → r ≡ length_among (trailers_in_turn t (reverse again)) → r ≡ length_among (sequence t k)
 among_trailers t k r ids again e f h g = g ∙ ap length_among (trailers_are t k again f) ∙ among_passed (flat_map (placed_entries t) (chain t k)) (flat_map (placed_trailers t) (reverse (chain t k))) _ (h ∙ ap length_among (entries_are t k ids e)) refl
 
--- ---- numbers of chains
-
-numbers_map : (xs : List ℕ) → numbers_of (map id_of xs) ≡ xs
-numbers_map [] = refl
-numbers_map (x ∷ xs) = ap (λ ys. x ∷ ys) (numbers_map xs)
-
-pub numbers_are : (ids : List TypeId) (xs : List ℕ) → ids ≡ map id_of xs → numbers_of ids ≡ xs
-numbers_are ids xs e = ap numbers_of e ∙ numbers_map xs
-
 -- ---- candidates
-
-both_again : (a b : Bool) → (b && (a && (b && true))) ≡ (a && (b && true))
-both_again a true = refl
-both_again true false = refl
-both_again false false = refl
-
--- a container's own constraints are among those of its chain
-pub own_along : (t : Table) (m : Constraint → Bool) (u : ℕ) → (list_all m (constraints_of t u) && list_all m (constraints_along t u)) ≡ list_all m (constraints_along t u)
-unfolding chain_within
-own_along t m u = ap (λ b. list_all m (constraints_of t u) && b) split ∙ both_again (list_all m (flat_map (constraints_of t) front)) (list_all m (constraints_of t u)) ∙ sym split
-  where
-    front : List ℕ
-    front = chain_before (chain_within 15 t) (base_of t u)
-
-    split : list_all m (constraints_along t u) ≡ (list_all m (flat_map (constraints_of t) front) && (list_all m (constraints_of t u) && true))
-    split = ap (list_all m) (flat_map-append (constraints_of t) front (u ∷ [])) ∙ list_all-append m (flat_map (constraints_of t) front) (constraints_of t u ++ []) ∙ ap (λ b. list_all m (flat_map (constraints_of t) front) && b) (list_all-append m (constraints_of t u) [])
-
--- the candidates are looked for in the family
-pub candidate_is_first : (t : Table) (x : ℕ) (fs : List Field) (ids : List TypeId) → ids ≡ map id_of (family t x) → first_of (fits_choice t x fs) (numbers_of ids) ≡ candidate_under t x fs
-candidate_is_first t x fs ids e = ap (first_of (fits_choice t x fs)) (numbers_are ids (family t x) e) ∙ sym (first_in_family t x (λ l. list_all (meets t x fs) (constraints_along t l)))
 
 pub no_candidate : (t : Table) (x : ℕ) (fs : List Field) (ids : List TypeId) → ids ≡ map id_of (family t x) → length ids ≡ 0 → None ≡ candidate_under t x fs
 unfolding first_of

@@ -36,8 +36,3 @@ number_taken form b raw o h e f =
     ap (judge (λ c. decimal (number_of form c))) (bits_enough form.bits b h)
     ∙ ap (λ c. judged (drop form.bits b) (decimal (number_of form c))) (sym (pattern form.bits b h) ∙ ap (low_bits form.bits) (sym e))
     ∙ ap (λ p. judged (drop form.bits b) (decimal p)) (sym f)
-
--- whether the domain has the number
-pub within_is : (spans : List Span) (n : ℤ) (b : Bool) → (IsTrue b ↔ IsWithin spans n) → is_within spans n ≡ b
-within_is spans n true h = within_in spans n (h.0 refl)
-within_is spans n false h = false_from_ne_true (is_within spans n) (λ k. let p : false ≡ true = h.1 (within_from spans n k) in absurd cc)

@@ -44,7 +44,7 @@ on_judged : {B : Type 0} (b rest : Bits) (r : Result B Fault) → MovesOn b rest
 on_judged b rest (Ok y) h = h
 on_judged b rest (Err g) h = tt
 
-on_judge : {A B : Type 0} (j : A → Result B Fault) (b : Bits) (r : Read A) → OnRead b r → OnRead b (judge j r)
+pub on_judge : {A B : Type 0} (j : A → Result B Fault) (b : Bits) (r : Read A) → OnRead b r → OnRead b (judge j r)
 on_judge j b (Ok x) h = on_judged b x.1 (j x.0) h
 on_judge j b (Err g) h = tt
 
@@ -64,7 +64,7 @@ on_bind {A} {B} b (Ok x) f h k = go (f x) (k x.0 x.1)
     go (Err g) m = tt
 on_bind b (Err g) f h k = tt
 
-on_bits : (n : ℕ) (b : Bits) → OnRead b (read_bits n b)
+pub on_bits : (n : ℕ) (b : Bits) → OnRead b (read_bits n b)
 on_bits n b = go (nat_lt (length b) n)
   where
     go : (short : Bool) → OnRead b (cond short (Err (fault_here Short)) (Ok (take n b, drop n b)))

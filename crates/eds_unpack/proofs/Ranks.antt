@@ -19,8 +19,8 @@ use Rattle.eds_types.proofs.ReadingTests.{found_is}
 use Rattle.eds_types.proofs.RuleFacts.{table_of}
 use Rattle.eds_base.specs.declared.fault.Step.{Step}
 use Rattle.eds_types.specs.Failing.{path_steps}
-use Rattle.eds_unpack.proofs.Paths.{rest_is}
-use Rattle.eds_unpack.specs.Choices.{IsNear}
+use Rattle.eds_types.proofs.Paths.{rest_is}
+use Rattle.eds_types.specs.Choices.{IsNear}
 use Rattle.eds_unpack.specs.Entries.{IsLow, IsInner, LengthIsRead, PartIsRead}
 
 get_past : {A : Type 0} (xs : List A) (y : A) (ys : List A) → slice_get (xs ++ y ∷ ys) (length xs) ≡ Some y

@@ -10,7 +10,7 @@ use Rattle.eds_types.specs.Failing.{fault_behind, length_step, if_length as leng
 use Rattle.eds_types.specs.Fields.{Field, values_of, field_of}
 use Rattle.eds_types.specs.Plain.{Plain, plain}
 use Rattle.eds_types.specs.Reading.{Read, ◌>>=◌, front, read_items, read_parts, read_entry}
-use Rattle.eds_types.specs.Rows.{Table, Placed}
+use Rattle.eds_types.specs.Rows.{Table, Placed, or_else}
 use Rattle.eds_types.specs.declared.row.Part.{Part}
 use Rattle.eds_types.specs.declared.row.Part.TheVariants as part
 use Rattle.eds_types.specs.Spelling.{Progress, with_bits, with_value, with_octets}
@@ -18,7 +18,7 @@ use Rattle.eds_types.proofs.ExactReading.{front_is}
 use Rattle.eds_unpack.specs.declared.fields.ReadField.{ReadField}
 use Rattle.eds_unpack.specs.declared.progress.Reached.{Reached}
 use Rattle.eds_unpack.specs.Courses.{MovesOn, fields_of, field_read, progress_of}
-use Rattle.eds_unpack.specs.Seeking.{length_among, if_length, or_else}
+use Rattle.eds_unpack.specs.Seeking.{length_among, if_length}
 
 -- a step that may be there, as a list
 abbrev pub steps_of : Option Step → List Step

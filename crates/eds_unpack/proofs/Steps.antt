@@ -34,16 +34,16 @@ use Rattle.eds_types.specs.Rules.{KeepsRules, IsInt, IsIntBy, KindKeeps}
 use Rattle.eds_types.specs.Spelling.{Progress, started, with_bits, with_value, count_at}
 use Rattle.eds_types.proofs.ReadingTests.{within_from}
 use Rattle.eds_unpack.specs.declared.progress.Reached.{Reached}
-use Rattle.eds_unpack.specs.Choices.{IsNear}
+use Rattle.eds_types.specs.Choices.{IsNear}
+use Rattle.eds_types.specs.Seeking.{trailers_in_turn}
+use Rattle.eds_types.proofs.Paths.{rest_is}
+use Rattle.eds_types.proofs.Seeking.{last_of, trailers_are}
 use Rattle.eds_unpack.specs.Courses.{MovesOn, IsUnderWay, fields_of, progress_of, told_by}
 use Rattle.eds_unpack.specs.Entries.{IsLow, PartIsRead, placed}
 use Rattle.eds_unpack.specs.Readers.{Stops, passed, stop_at}
-use Rattle.eds_unpack.specs.Seeking.{trailers_along}
 use Rattle.eds_unpack.proofs.OnReads.{moves, stays}
-use Rattle.eds_unpack.proofs.Paths.{rest_is}
 use Rattle.eds_unpack.proofs.Ranks.{constraints_near, entries_are_read, trailers_are_read}
 use Rattle.eds_unpack.proofs.Reaches.{bits_kept, value_kept, octets_kept, items_next, parts_append, behind_items}
-use Rattle.eds_unpack.proofs.Seeking.{last_of, trailers_are}
 use Rattle.eds_types.proofs.AllOf.{All-weaker}
 use Rattle.eds_types.proofs.ExactReading.{failed, ok_is, ok_err, err_is, front_is}
 
@@ -234,24 +234,24 @@ items_more read n j k vs ws b v d total e f lt h inv =
 
 module _ (t : Table) (read : ℕ → Bits → Read Plain) where
   pub trailers_step : (ids : List TypeId) (d : TypeId) (s : Progress) (b : Bits) → 0 < length ids
-      → read_parts t read (trailers_along t (reverse ids)) s b ≡ (read_parts t read (placed_trailers t (get_or ids (length ids - 1) d).0) s b >>= λ v. read_parts t read (trailers_along t (reverse (take (length ids - 1) ids))) v.0 v.1)
+      → read_parts t read (trailers_in_turn t (reverse ids)) s b ≡ (read_parts t read (placed_trailers t (get_or ids (length ids - 1) d).0) s b >>= λ v. read_parts t read (trailers_in_turn t (reverse (take (length ids - 1) ids))) v.0 v.1)
   trailers_step ids d s b lt =
       ap (λ ps. read_parts t read ps s b) (last_of (λ (id : TypeId). placed_trailers t id.0) ids d lt)
-      ∙ parts_append t read (placed_trailers t (get_or ids (length ids - 1) d).0) (trailers_along t (reverse (take (length ids - 1) ids))) s b
+      ∙ parts_append t read (placed_trailers t (get_or ids (length ids - 1) d).0) (trailers_in_turn t (reverse (take (length ids - 1) ids))) s b
 
-  module _ (ids : List TypeId) (d : TypeId) (s : Progress) (b : Bits) (total : Read Progress) (es ts : List Part) (lt : 0 < length ids) (h : es ≡ entries_of t (get_or ids (length ids - 1) d).0) (k : ts ≡ trailers_of t (get_or ids (length ids - 1) d).0) (inv : read_parts t read (trailers_along t (reverse ids)) s b ≡ total) where
+  module _ (ids : List TypeId) (d : TypeId) (s : Progress) (b : Bits) (total : Read Progress) (es ts : List Part) (lt : 0 < length ids) (h : es ≡ entries_of t (get_or ids (length ids - 1) d).0) (k : ts ≡ trailers_of t (get_or ids (length ids - 1) d).0) (inv : read_parts t read (trailers_in_turn t (reverse ids)) s b ≡ total) where
     last_parts : read_parts t read (placed_from (get_or ids (length ids - 1) d).0 (length es) ts) s b ≡ read_parts t read (placed_trailers t (get_or ids (length ids - 1) d).0) s b
     last_parts = ap (λ xs. read_parts t read (placed_from (get_or ids (length ids - 1) d).0 (length xs) ts) s b) h ∙ ap (λ xs. read_parts t read (placed_from (get_or ids (length ids - 1) d).0 (length (entries_of t (get_or ids (length ids - 1) d).0)) xs) s b) k
 
     pub trailers_stop : (e : Fail Fault) → Stops e (read_parts t read (placed_from (get_or ids (length ids - 1) d).0 (length es) ts) s b) → Stops e total
     trailers_stop e stop =
         subst (Stops e) (sym (trailers_step ids d s b lt) ∙ inv)
-        (stops_on e (read_parts t read (placed_trailers t (get_or ids (length ids - 1) d).0) s b) (λ v. read_parts t read (trailers_along t (reverse (take (length ids - 1) ids))) v.0 v.1) (subst (Stops e) last_parts stop))
+        (stops_on e (read_parts t read (placed_trailers t (get_or ids (length ids - 1) d).0) s b) (λ v. read_parts t read (trailers_in_turn t (reverse (take (length ids - 1) ids))) v.0 v.1) (subst (Stops e) last_parts stop))
 
-    pub trailers_go : (u : Progress) (c : Bits) → read_parts t read (placed_from (get_or ids (length ids - 1) d).0 (length es) ts) s b ≡ Ok (u, c) → read_parts t read (trailers_along t (reverse (take (length ids - 1) ids))) u c ≡ total
-    trailers_go u c ok = ap (λ r. r >>= λ v. read_parts t read (trailers_along t (reverse (take (length ids - 1) ids))) v.0 v.1) (sym ok ∙ last_parts) ∙ sym (trailers_step ids d s b lt) ∙ inv
+    pub trailers_go : (u : Progress) (c : Bits) → read_parts t read (placed_from (get_or ids (length ids - 1) d).0 (length es) ts) s b ≡ Ok (u, c) → read_parts t read (trailers_in_turn t (reverse (take (length ids - 1) ids))) u c ≡ total
+    trailers_go u c ok = ap (λ r. r >>= λ v. read_parts t read (trailers_in_turn t (reverse (take (length ids - 1) ids))) v.0 v.1) (sym ok ∙ last_parts) ∙ sym (trailers_step ids d s b lt) ∙ inv
 
-  pub trailers_done : (ids : List TypeId) (s : Progress) (b : Bits) (total : Read Progress) → length ids < 1 → read_parts t read (trailers_along t (reverse ids)) s b ≡ total → total ≡ Ok (s, b)
+  pub trailers_done : (ids : List TypeId) (s : Progress) (b : Bits) (total : Read Progress) → length ids < 1 → read_parts t read (trailers_in_turn t (reverse ids)) s b ≡ total → total ≡ Ok (s, b)
   unfolding read_parts
   trailers_done [] s b total lt e = sym e
   trailers_done (x ∷ ids) s b total lt e = absurd (omega arith)
@@ -270,15 +270,15 @@ module _ (t : Table) (read : ℕ → Bits → Read Plain) where
     under_is o e = let k : 16 - c ≡ suc (15 - c) = omega arith in ap (λ n. read_under t read n x s b) k ∙ under_step (15 - c) x s b ∙ ap (under_by (15 - c) x s b) (sym e)
 
     abbrev pub stayed : List TypeId → Ends
-    stayed ids = read_parts t read (trailers_along t (reverse ids)) s b >>= finish x (length_path t x)
+    stayed ids = read_parts t read (trailers_in_turn t (reverse ids)) s b >>= finish x (length_path t x)
 
     pub stay_is : (ids : List TypeId) → stay ≡ next t x s.fields → ids ≡ map id_of (chain t x) → read_under t read (16 - c) x s b ≡ stayed ids
     stay_is ids e f = under_is stay e ∙ ap (λ ps. read_parts t read ps s b >>= finish x (length_path t x)) (sym (trailers_are t x ids f))
 
-    pub stay_stops : (ids : List TypeId) (e : Fail Fault) (total : Ends) → stay ≡ next t x s.fields → ids ≡ map id_of (chain t x) → read_under t read (16 - c) x s b ≡ total → Stops e (read_parts t read (trailers_along t (reverse ids)) s b) → Stops e total
-    stay_stops ids e total h f inv k = subst (Stops e) (sym (stay_is ids h f) ∙ inv) (stops_on e (read_parts t read (trailers_along t (reverse ids)) s b) (finish x (length_path t x)) k)
+    pub stay_stops : (ids : List TypeId) (e : Fail Fault) (total : Ends) → stay ≡ next t x s.fields → ids ≡ map id_of (chain t x) → read_under t read (16 - c) x s b ≡ total → Stops e (read_parts t read (trailers_in_turn t (reverse ids)) s b) → Stops e total
+    stay_stops ids e total h f inv k = subst (Stops e) (sym (stay_is ids h f) ∙ inv) (stops_on e (read_parts t read (trailers_in_turn t (reverse ids)) s b) (finish x (length_path t x)) k)
 
-    pub stay_ends : (ids : List TypeId) (u : Progress) (d : Bits) (total : Ends) (fits : Bool) → stay ≡ next t x s.fields → ids ≡ map id_of (chain t x) → read_under t read (16 - c) x s b ≡ total → read_parts t read (trailers_along t (reverse ids)) s b ≡ Ok (u, d) → fits ≡ size_fits u.octets u.before → total ≡ cond fits (Ok (x, u, d)) (Err (fault_at LengthDiffers (length_path t x)))
+    pub stay_ends : (ids : List TypeId) (u : Progress) (d : Bits) (total : Ends) (fits : Bool) → stay ≡ next t x s.fields → ids ≡ map id_of (chain t x) → read_under t read (16 - c) x s b ≡ total → read_parts t read (trailers_in_turn t (reverse ids)) s b ≡ Ok (u, d) → fits ≡ size_fits u.octets u.before → total ≡ cond fits (Ok (x, u, d)) (Err (fault_at LengthDiffers (length_path t x)))
     stay_ends ids u d total fits h f inv k z = sym inv ∙ stay_is ids h f ∙ ap (λ q. q >>= finish x (length_path t x)) k ∙ ap (λ g. cond g (Ok (x, u, d)) (Err (fault_at LengthDiffers (length_path t x)))) (sym z)
 
     pub nowhere_is : (total : Ends) → nowhere ≡ next t x s.fields → read_under t read (16 - c) x s b ≡ total → total ≡ Err (fault_at NoDerived (step.Choice (id_of x) ∷ []))

@@ -1,6 +1,6 @@
 -- Reading a container whose value is that of its entries alone.
 use Rattle.std.proofs.Common.{◌≡◌, ℕ, suc, ◌+◌, ◌<◌, Bool, true, false, cond, List, [], ◌∷◌, ◌++◌, length, map, reverse, get_or, Option, Some, None, Result, Ok, Err, refl, sym, ap, subst, ◌∙◌, arith}
-use Rattle.std.specs.Prelude.{◌-◌, ◌==◌, ◌&&◌, not, take, drop}
+use Rattle.std.specs.Prelude.{◌-◌, ◌==◌, ◌&&◌, is_none, not, take, drop}
 use Rattle.std.specs.List.{list_all, flat_map}
 use Rattle.std.proofs.lemmas.Bool.{eqb-true, eq-eqb, and_parts, false≢true}
 use Rattle.eds_base.specs.declared.ids.TypeId.{TypeId}
@@ -22,12 +22,12 @@ use Rattle.eds_types.specs.Rows.{Table, id_of, chain, family, is_concrete, const
 use Rattle.eds_types.specs.Sizes.{tail_of}
 use Rattle.eds_types.specs.Spelling.{Progress, started, with_value}
 use Rattle.eds_base.specs.declared.fault.Reason.TheVariants.{LengthDiffers}
-use Rattle.eds_unpack.specs.Choices.{meets, fits_choice}
+use Rattle.eds_types.specs.Choices.{meets, fits_choice}
+use Rattle.eds_types.proofs.Candidates.{numbers_are, candidate_is_first}
+use Rattle.eds_types.proofs.Paths.{rest_is}
 use Rattle.eds_unpack.specs.Entries.{placed}
 use Rattle.eds_unpack.specs.Readers.{Stops}
-use Rattle.eds_unpack.specs.Straight.{is_none, is_only, is_straight_entry, is_straight}
-use Rattle.eds_unpack.proofs.Listing.{numbers_are, candidate_is_first}
-use Rattle.eds_unpack.proofs.Paths.{rest_is}
+use Rattle.eds_unpack.specs.Straight.{is_only, is_straight_entry, is_straight}
 use Rattle.eds_unpack.proofs.Steps.{stops_on, stops_as, under_step, under_by, chain_stops, container_reads}
 use Rattle.eds_types.proofs.ExactReading.{failed, ok_is, ok_err, err_is}
 

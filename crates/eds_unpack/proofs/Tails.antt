@@ -13,7 +13,7 @@ use Rattle.eds_types.specs.Sizes.{part_size, trailers_size}
 use Rattle.eds_types.specs.Spelling.{Progress}
 use Rattle.eds_unpack.specs.Entries.{placed}
 use Rattle.eds_unpack.specs.Tails.{limit, limited, sizes_of, trailers_sizes}
-use Rattle.eds_unpack.proofs.Seeking.{reverse_map}
+use Rattle.eds_types.proofs.Seeking.{reverse_map}
 
 placed_sizes : (t : Table) (y i : ℕ) (ps : List Part) → sum_by (λ (p : Placed). unwrap_or (part_size t p.part) 0) (placed_from y i ps) ≡ sizes_of t ps
 placed_sizes t y i [] = refl

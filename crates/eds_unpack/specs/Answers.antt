@@ -5,6 +5,7 @@ use Rattle.eds_base.specs.declared.fail.Fail.TheVariants.{Named, Memory}
 use Rattle.eds_base.specs.declared.fault.Fault.{Fault}
 use Rattle.eds_base.specs.declared.fault.Reason.{Reason}
 use Rattle.eds_base.specs.declared.fault.Reason.TheVariants.{Short, OutOfRange, NoLabel, BadDigit, BadText, Unterminated, FixedDiffers, Constraint, NoDerived, LengthDiffers, CheckDiffers, TooLong, Trailing}
+use Rattle.eds_base.specs.declared.ids.TypeId.{TypeId}
 use Rattle.eds_types.specs.declared.value.Value.{Value}
 use Rattle.eds_types.specs.Plain.{Plain, plain}
 
@@ -41,6 +42,18 @@ IfNamed P Memory = Unit {0}
 abbrev pub IfFault : (Fault → Type 0) → Result (Value × ℕ) (Fail Fault) → Type 0
 IfFault P (Ok x) = Unit {0}
 IfFault P (Err stop) = IfNamed P stop
+
+-- ---- containers
+
+-- the answer is the container of this number, of so many bits
+abbrev pub IsRecognised : ℕ → ℕ → Result (TypeId × ℕ) Fault → Type 0
+IsRecognised k n (Ok x) = ((x.0).0 ≡ k) × (x.1 ≡ n)
+IsRecognised k n (Err fault) = ⊥
+
+-- the answer is this fault
+abbrev pub IsOnlyFault : Fault → Result (TypeId × ℕ) Fault → Type 0
+IsOnlyFault g (Ok x) = ⊥
+IsOnlyFault g (Err fault) = fault ≡ g
 
 -- ---- reasons
 

@@ -1,26 +1,16 @@
--- The choice of a derived container.
-use Rattle.std.specs.Prelude.{ℕ, ◌≤◌, List, length, map, Bool, true, cond, not, ◌&&◌, ◌==◌}
-use Rattle.std.specs.List.{list_all}
-use Rattle.eds_base.specs.declared.ids.TypeId.{TypeId}
+-- The choice of a derived container, by what is known of the entries before it.
+use Rattle.std.specs.Prelude.{◌≡◌, ℕ, List, true}
+use Rattle.std.specs.List.{AllByRecursion}
 use Rattle.eds_types.specs.declared.row.Constraint.{Constraint}
-use Rattle.eds_types.specs.Fields.{Field, constraints_along}
-use Rattle.eds_types.specs.Reading.{Next, stay, nowhere, under, starts_above, holds}
-use Rattle.eds_types.specs.Rows.{Table}
+use Rattle.eds_types.specs.Fields.{Field}
+use Rattle.eds_types.specs.Reading.{Next, stay, nowhere, under, starts_above}
+use Rattle.eds_types.specs.Rows.{Table, constraints_of}
 use Rattle.eds_unpack.specs.declared.choice.Next.{Next as Chosen}
 use Rattle.eds_unpack.specs.declared.choice.Next.TheVariants as chosen
-
--- the numbers of some types
-abbrev pub numbers_of : List TypeId → List ℕ
-numbers_of ids = map (λ (id : TypeId). id.0) ids
-
--- a constraint on an entry that is read before the choice at x holds
-abbrev pub meets : Table → ℕ → List Field → Constraint → Bool
-meets t x fs c = cond (starts_above t x c.path) (holds t fs c) true
-
--- of the family of x, the container l is another one, and all that its chain asks of entries that are read before the
--- choice holds
-abbrev pub fits_choice : Table → ℕ → List Field → ℕ → Bool
-fits_choice t x fs l = not (l == x) && list_all (meets t x fs) (constraints_along t l)
+use Rattle.eds_unpack.specs.declared.known.Known.{Known}
+use Rattle.eds_unpack.specs.declared.known.Known.TheVariants as known
+use Rattle.eds_unpack.specs.Courses.{fields_of}
+use Rattle.eds_unpack.specs.Noted.{IsNotedFor}
 
 -- what a choice is in the definition
 abbrev pub next_in : Chosen → Next
@@ -28,6 +18,15 @@ next_in chosen.Stay = stay
 next_in chosen.Nowhere = nowhere
 next_in (chosen.Under id) = under id.0
 
--- the path of the constraint has at most n steps
-abbrev pub IsNear : ℕ → Constraint → Type 0
-IsNear n c = length c.path ≤ n
+-- what is known tells whether the constraint holds of the fields
+abbrev pub Tells : Table → List Field → Known → Constraint → Type 0
+Tells t fs (known.Fields read) c = fields_of read.now ≡ fs
+Tells t fs (known.Numbers notes numbers) c = IsNotedFor t notes.now numbers.now fs c
+
+-- it does where the constraint is on an entry that is read before the choice at x
+abbrev pub TellsAbove : Table → ℕ → List Field → Known → Constraint → Type 0
+TellsAbove t x fs k c = starts_above t x c.path ≡ true → Tells t fs k c
+
+-- and so for all constraints of the table
+abbrev pub TellsChoice : Table → ℕ → List Field → Known → Type 0
+TellsChoice t x fs k = (y : ℕ) → AllByRecursion (TellsAbove t x fs k) (constraints_of t y)

@@ -1,13 +1,11 @@
 -- How far the reader of a container has come.
 use Rattle.eds_base.specs.declared.fault.Fault.{Fault}
-use Rattle.std.specs.Prelude.{◌≡◌, ℕ, ◌^◌, ◌≤◌, ℤ, nat_abs, ◌+ℤ◌, ◌*ℤ◌, List, [], ◌∷◌, ◌++◌, map, Option, Some, Result, Ok, IfSome}
-use Rattle.eds_base.specs.declared.ids.TypeId.{TypeId}
+use Rattle.std.specs.Prelude.{◌≡◌, ◌^◌, ◌≤◌, ℤ, nat_abs, ◌+ℤ◌, ◌*ℤ◌, List, ◌++◌, map, Option, Some, Result, Ok, IfSome}
 use Rattle.eds_bits.specs.Bits.{Bits}
 use Rattle.eds_bits.specs.Reader.{bits_left}
-use Rattle.eds_types.specs.Fields.{Field, field_at, value_at, fields_in}
+use Rattle.eds_types.specs.Fields.{Field, field_at}
 use Rattle.eds_types.specs.Plain.{Plain, plain}
 use Rattle.eds_types.specs.Reading.{◌>>=◌, front, number_in}
-use Rattle.eds_types.specs.Rows.{Table}
 use Rattle.eds_types.specs.Spelling.{Progress}
 use Rattle.eds_unpack.specs.declared.fields.ReadField.{ReadField}
 use Rattle.eds_unpack.specs.declared.progress.Reached.{Reached}
@@ -27,11 +25,6 @@ field_read f = field_at f.container.0 f.place (plain f.value)
 -- all fields that were read
 abbrev pub fields_of : List ReadField → List Field
 fields_of fs = map field_read fs
-
--- the value that a path leads to from a value
-abbrev pub along : Table → Option Plain → List (TypeId × ℕ) → Option Plain
-along t v [] = v
-along t v (p ∷ path) = along t (value_at (fields_in t v) (p.0).0 p.1) path
 
 -- ---- containers
 

@@ -5,10 +5,14 @@ pub mod Courses
 pub mod Seeking
 pub mod Tails
 pub mod Choices
-pub mod Programs
 pub mod Holding
 pub mod Packets
 pub mod Splitting
 pub mod Straight
 pub mod Split
 pub mod Pieces
+pub mod Asked
+pub mod Index
+pub mod Noted
+pub mod Walks
+pub mod Programs

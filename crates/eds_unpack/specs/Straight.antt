@@ -1,15 +1,10 @@
 -- Containers whose value is that of their entries alone, one after another.
-use Rattle.std.specs.Prelude.{ℕ, List, [], ◌∷◌, length, Bool, true, false, Option, Some, None, ◌==◌, ◌&&◌}
+use Rattle.std.specs.Prelude.{ℕ, List, [], ◌∷◌, length, Bool, false, is_none, ◌==◌, ◌&&◌}
 use Rattle.std.specs.List.{list_all}
 use Rattle.eds_types.specs.declared.row.Part.{Part}
 use Rattle.eds_types.specs.declared.row.Part.TheVariants as part
 use Rattle.eds_types.specs.Rows.{Table, chain, family, is_concrete, constraints_of, entries_of, trailers_of}
 use Rattle.eds_types.specs.Sizes.{tail_of}
-
--- there is no number
-abbrev pub is_none : Option ℕ → Bool
-is_none None = true
-is_none (Some n) = false
 
 -- an entry with a value, which is no open binary
 abbrev pub is_straight_entry : Table → Part → Bool

@@ -1,19 +1,20 @@
 //! The choice of the most derived container.
 
-ghost use Rattle.std.specs.Prelude.{◌≡◌, ◌&&◌, ◌==◌, not, length, option_map, unwrap_or, slice_get};
-ghost use Rattle.std.specs.List.{list_all, flat_map};
+ghost use Rattle.std.specs.Prelude.{◌≡◌, List, ◌&&◌, ◌==◌, not, length, option_map, unwrap_or, slice_get};
+ghost use Rattle.std.specs.List.{AllByRecursion, list_all, flat_map};
 ghost use Rattle.eds_base.specs.declared.ids.TypeId.{TypeId as Id};
 ghost use Rattle.eds_types.specs.Families.{first_of};
-ghost use Rattle.eds_types.specs.Fields.{constraints_along};
+ghost use Rattle.eds_types.specs.Fields.{Field, constraints_along};
 ghost use Rattle.eds_types.specs.Reading.{starts_above, candidate_under, next};
-ghost use Rattle.eds_types.specs.Rows.{chain, chain as chain_of, list_has, constraints_of};
+ghost use Rattle.eds_types.specs.Rows.{chain, chain as chain_of, constraints_of, numbers_of};
+ghost use Rattle.eds_types.specs.Choices.{meets, fits_choice};
 ghost use Rattle.eds_unpack.specs.Courses.{fields_of};
-ghost use Rattle.eds_unpack.specs.Choices.{numbers_of, meets, fits_choice, next_in};
+ghost use Rattle.eds_unpack.specs.Choices.{TellsAbove, TellsChoice, next_in};
 
-use crate::constraint::holds;
 use crate::fields::ReadField;
+use crate::known::{Known, holds_known};
 use eds_base::TypeId;
-use eds_types::{Constraint, TypeTable};
+use eds_types::{Constraint, TypeTable, is_among};
 
 /// Where reading goes on behind a container's entries.
 pub(crate) enum Next {
@@ -25,19 +26,6 @@ pub(crate) enum Next {
     Under(TypeId),
 }
 
-fn has(ids: &[TypeId], id: TypeId) -> bool
-    ensures { result ≡ list_has (numbers_of ids.now) id.0 }
-{
-    let mut rest = ids;
-    while let [first, after @ ..] = rest {
-        if first.0 == id.0 {
-            return true;
-        }
-        rest = after;
-    }
-    false
-}
-
 /// Whether a path starts in an entry of a container or of its bases.
 fn starts_above(table: &TypeTable, id: TypeId, chain: &[TypeId], path: &[(TypeId, u16)]) -> bool
     requires { numbers_of chain.now ≡ chain_of table.now id.0 }
@@ -46,9 +34,24 @@ fn starts_above(table: &TypeTable, id: TypeId, chain: &[TypeId], path: &[(TypeId
     match path {
         [] => false,
         [first, ..] => {
-            has(chain, first.0) && (first.1 as usize) < table.entries_of(first.0).len()
+            is_among(chain, first.0) && (first.1 as usize) < table.entries_of(first.0).len()
         }
     }
+}
+
+/// Whether a constraint holds, if it is one on an entry before the choice.
+fn meets_one(
+    table: &TypeTable,
+    id: TypeId,
+    chain: &[TypeId],
+    known: &Known<'_>,
+    constraint: &Constraint,
+) -> bool
+    requires { numbers_of chain.now ≡ chain_of table.now id.0 }
+    ensures { (fs : List Field) → TellsAbove table.now id.0 fs known.now constraint.now → result ≡ meets table.now id.0 fs constraint.now }
+{
+    !starts_above(table, id, chain, constraint.path.as_slice())
+        || holds_known(table, known, constraint)
 }
 
 /// Whether the constraints on entries before the choice hold.
@@ -56,17 +59,15 @@ fn meets_own(
     table: &TypeTable,
     id: TypeId,
     chain: &[TypeId],
-    fields: &[ReadField],
+    known: &Known<'_>,
     constraints: &[Constraint],
 ) -> bool
     requires { numbers_of chain.now ≡ chain_of table.now id.0 }
-    ensures { result ≡ list_all (meets table.now id.0 (fields_of fields.now)) constraints.now }
+    ensures { (fs : List Field) → AllByRecursion (TellsAbove table.now id.0 fs known.now) constraints.now → result ≡ list_all (meets table.now id.0 fs) constraints.now }
 {
     let mut rest = constraints;
     while let [constraint, after @ ..] = rest {
-        if starts_above(table, id, chain, constraint.path.as_slice())
-            && !holds(table, fields, constraint)
-        {
+        if !meets_one(table, id, chain, known, constraint) {
             return false;
         }
         rest = after;
@@ -79,15 +80,15 @@ fn meets_all(
     table: &TypeTable,
     id: TypeId,
     chain: &[TypeId],
-    fields: &[ReadField],
+    known: &Known<'_>,
     containers: &[TypeId],
 ) -> bool
     requires { numbers_of chain.now ≡ chain_of table.now id.0 }
-    ensures { result ≡ list_all (meets table.now id.0 (fields_of fields.now)) (flat_map (constraints_of table.now) (numbers_of containers.now)) }
+    ensures { (fs : List Field) → TellsChoice table.now id.0 fs known.now → result ≡ list_all (meets table.now id.0 fs) (flat_map (constraints_of table.now) (numbers_of containers.now)) }
 {
     let mut rest = containers;
     while let [one, after @ ..] = rest {
-        if !meets_own(table, id, chain, fields, table.constraints_of(*one)) {
+        if !meets_own(table, id, chain, known, table.constraints_of(*one)) {
             return false;
         }
         rest = after;
@@ -100,14 +101,14 @@ fn fits_under(
     table: &TypeTable,
     id: TypeId,
     chain: &[TypeId],
-    fields: &[ReadField],
+    known: &Known<'_>,
     under: TypeId,
 ) -> bool
     requires { numbers_of chain.now ≡ chain_of table.now id.0 }
-    ensures { result ≡ list_all (meets table.now id.0 (fields_of fields.now)) (constraints_along table.now under.0) }
+    ensures { (fs : List Field) → TellsChoice table.now id.0 fs known.now → result ≡ list_all (meets table.now id.0 fs) (constraints_along table.now under.0) }
 {
-    meets_own(table, id, chain, fields, table.constraints_of(under))
-        && meets_all(table, id, chain, fields, table.chain_of(under).as_slice())
+    meets_own(table, id, chain, known, table.constraints_of(under))
+        && meets_all(table, id, chain, known, table.chain_of(under).as_slice())
 }
 
 /// The first of some containers, strictly under another one, that may be that of the fields.
@@ -116,15 +117,15 @@ fn first_candidate(
     table: &TypeTable,
     id: TypeId,
     chain: &[TypeId],
-    fields: &[ReadField],
+    known: &Known<'_>,
     family: &[TypeId],
 ) -> Option<TypeId>
     requires { numbers_of chain.now ≡ chain_of table.now id.0 }
-    ensures { option_map (λ (l : Id). l.0) result ≡ first_of (fits_choice table.now id.0 (fields_of fields.now)) (numbers_of family.now) }
+    ensures { (fs : List Field) → TellsChoice table.now id.0 fs known.now → option_map (λ (l : Id). l.0) result ≡ first_of (fits_choice table.now id.0 fs) (numbers_of family.now) }
 {
     let mut rest = family;
     while let [under, after @ ..] = rest {
-        if under.0 != id.0 && fits_under(table, id, chain, fields, *under) {
+        if under.0 != id.0 && fits_under(table, id, chain, known, *under) {
             return Some(*under);
         }
         rest = after;
@@ -133,22 +134,30 @@ fn first_candidate(
 }
 
 /// The first container strictly under one that may be that of the fields.
-fn candidate_under(table: &TypeTable, id: TypeId, fields: &[ReadField]) -> Option<TypeId>
-    ensures { option_map (λ (l : Id). l.0) result ≡ candidate_under table.now id.0 (fields_of fields.now) }
+fn candidate_under(table: &TypeTable, id: TypeId, known: &Known<'_>) -> Option<TypeId>
+    ensures { (fs : List Field) → TellsChoice table.now id.0 fs known.now → option_map (λ (l : Id). l.0) result ≡ candidate_under table.now id.0 fs }
 {
     let family = table.family_of(id);
     if family.is_empty() {
         return None;
     }
     let chain = table.chain_of(id);
-    first_candidate(table, id, chain.as_slice(), fields, family)
+    first_candidate(table, id, chain.as_slice(), known, family)
 }
 
-/// Where reading goes on behind the entries of a container.
+/// Where reading goes on behind the entries of a container, by its fields.
 pub(crate) fn next_container(table: &TypeTable, id: TypeId, fields: &[ReadField]) -> Next
     ensures { next_in result ≡ next table.now id.0 (fields_of fields.now) }
 {
-    match candidate_under(table, id, fields) {
+    let known = Known::Fields(fields);
+    next_known(table, id, &known)
+}
+
+/// Where it goes on, by what is known of them.
+pub(crate) fn next_known(table: &TypeTable, id: TypeId, known: &Known<'_>) -> Next
+    ensures { (fs : List Field) → TellsChoice table.now id.0 fs known.now → next_in result ≡ next table.now id.0 fs }
+{
+    match candidate_under(table, id, known) {
         None if table.is_concrete(id) => Next::Stay,
         None => Next::Nowhere,
         Some(under) => Next::Under(child(table, id, under)),

@@ -2,25 +2,34 @@
 #![tactic(auto)]
 
 mod choice;
+mod chosen;
 mod constraint;
 mod expected;
 mod fault;
 mod fields;
 mod held;
+mod known;
 pub mod law;
+mod noted;
+mod notes;
 mod octets;
 mod program;
 mod progress;
 mod read;
+mod recognise;
 mod scalar;
+mod scratch;
 mod seek;
+mod skim;
 mod splitter;
 mod straight;
 mod sum;
 mod tail;
 mod told;
+mod walk;
 mod whole;
 
 pub use program::Program;
+pub use scratch::Scratch;
 pub use splitter::{Fed, Splitter, Taken};
 pub use whole::unpack;

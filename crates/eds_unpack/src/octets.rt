@@ -5,25 +5,14 @@ ghost use Rattle.eds_bits.specs.Bits.{octets_of};
 ghost use Rattle.eds_bits.specs.Reader.{bits_left};
 ghost use Rattle.eds_types.specs.Plain.{plain, bits as binary};
 ghost use Rattle.eds_types.specs.Reading.{judge, read_bits as bits_read, read_text as text_read};
-ghost use Rattle.eds_unpack.specs.Entries.{reason_of as reason_of_fault};
 ghost use Rattle.eds_unpack.specs.Readers.{Gives, with_path, StopsReading, passed};
 
+use crate::skim::{reason_of, skim_padding};
 use eds_base::{Fail, Reason};
 use eds_bits::{BitReader, TextForm};
-use eds_codec::{TextFault, read_binary, read_text};
+use eds_codec::{read_binary, read_text};
 use eds_types::Value;
 use std::alloc::Global;
-
-/// The reason for which no text is read.
-fn reason_of(fault: TextFault) -> Reason
-    ensures { result ≡ reason_of_fault fault }
-{
-    match fault {
-        TextFault::Short => Reason::Short,
-        TextFault::BadText => Reason::BadText,
-        TextFault::Unterminated => Reason::Unterminated,
-    }
-}
 
 /// Reads a text.
 pub(crate) fn read_string(
@@ -62,9 +51,8 @@ pub(crate) fn skip_padding(bits: u32, reader: &mut BitReader) -> Result<(), Fail
     ensures gives { Gives (λ u. bits_left reader.new) (with_path [] result) (passed (bits_read bits (bits_left reader.old))) }
     ensures reason { IfErr result StopsReading }
 {
-    if reader.left() < u64::from(bits) {
-        return Err(Fail::Named(Reason::Short));
+    match skim_padding(bits, reader) {
+        Ok(()) => Ok(()),
+        Err(reason) => Err(Fail::Named(reason)),
     }
-    reader.skip(u64::from(bits));
-    Ok(())
 }

@@ -5,9 +5,9 @@ ghost use Rattle.eds_bits.specs.Bits.{octets_for};
 ghost use Rattle.eds_bits.specs.Reader.{bits_left};
 ghost use Rattle.eds_types.specs.Fields.{field_at};
 ghost use Rattle.eds_types.specs.Plain.{plain};
-ghost use Rattle.eds_types.specs.Reading.{size_fits};
+ghost use Rattle.eds_types.specs.Reading.{front, size_fits};
 ghost use Rattle.eds_types.specs.Spelling.{started};
-ghost use Rattle.eds_unpack.specs.Courses.{IsUnderWay, fields_of, progress_of};
+ghost use Rattle.eds_unpack.specs.Courses.{IsUnderWay, MovesOn, fields_of, progress_of};
 
 use crate::fields::ReadField;
 use eds_base::{Memory, TypeId};
@@ -65,12 +65,35 @@ pub(crate) fn keep_field(
     Ok(())
 }
 
+/// How many bits stand from where one reader is to where another is, which moved on from there.
+pub(crate) fn bits_between(start: &BitReader<'_>, reader: &BitReader<'_>) -> u64
+    requires { MovesOn (bits_left start.now) (bits_left reader.now) }
+    ensures { result ≡ length (front (bits_left start.now) (bits_left reader.now)) }
+{
+    start.left() - reader.left()
+}
+
+/// Whether the bits between two readers have as many octets as are told, if any are.
+pub(crate) fn is_told_size(
+    told: Option<i128>,
+    start: &BitReader<'_>,
+    reader: &BitReader<'_>,
+) -> bool
+    requires { MovesOn (bits_left start.now) (bits_left reader.now) }
+    ensures { result ≡ size_fits told (front (bits_left start.now) (bits_left reader.now)) }
+{
+    match told {
+        Some(told) => told == i128::from(bits_between(start, reader).div_ceil(8)),
+        None => true,
+    }
+}
+
 /// How many bits of the container are before those that are left.
 pub(crate) fn bits_before(reached: &Reached<'_>, reader: &BitReader<'_>) -> u64
     requires begun { IsUnderWay reached.now (bits_left reader.now) }
     ensures { result ≡ length (progress_of reached.now (bits_left reader.now)).before }
 {
-    reached.start.left() - reader.left()
+    bits_between(&reached.start, reader)
 }
 
 /// Whether the container has as many octets as its length entry tells, if it has one.
@@ -78,8 +101,5 @@ pub(crate) fn has_told_size(reached: &Reached<'_>, reader: &BitReader<'_>) -> bo
     requires begun { IsUnderWay reached.now (bits_left reader.now) }
     ensures { result ≡ size_fits reached.now.octets (progress_of reached.now (bits_left reader.now)).before }
 {
-    match reached.octets {
-        Some(told) => told == i128::from(bits_before(reached, reader).div_ceil(8)),
-        None => true,
-    }
+    is_told_size(reached.octets, &reached.start, reader)
 }

@@ -6,13 +6,12 @@ ghost use Rattle.eds_bits.specs.Reader.{bits_left};
 ghost use Rattle.eds_types.specs.Plain.{plain};
 ghost use Rattle.eds_base.specs.declared.fault.Step.TheVariants.{Part as ToPart};
 ghost use Rattle.eds_types.specs.Reading.{inside, read_within, read_kind, read_items as items_read, read_part as part_read, read_entry as entry_read, read_parts as parts_read, read_chain as chain_read, read_under as under_read, ended, read_to_end};
-ghost use Rattle.eds_types.specs.Rows.{placed_from};
+ghost use Rattle.eds_types.specs.Rows.{placed_from, numbers_of};
 ghost use Rattle.eds_base.specs.declared.ids.TypeId.{TypeId as Id};
-ghost use Rattle.eds_unpack.specs.Choices.{numbers_of};
+ghost use Rattle.eds_types.specs.Seeking.{trailers_in_turn};
 ghost use Rattle.eds_unpack.specs.Courses.{IsUnderWay, progress_of};
 ghost use Rattle.eds_unpack.specs.Entries.{IsInner, IsLow, PartIsRead, placed};
 ghost use Rattle.eds_unpack.specs.Readers.{Gives, with_path, StopsReading};
-ghost use Rattle.eds_unpack.specs.Seeking.{trailers_along};
 ghost use Rattle.eds_unpack.specs.Straight.{is_straight};
 
 use crate::choice::{Next, next_container};
@@ -372,7 +371,7 @@ fn read_trailers(
     requires few { level.now.depth < 32 }
     requires begun { IsUnderWay reached.old (bits_left reader.old) }
     requires root { path.old ≡ [] }
-    ensures gives { Gives (λ u. (progress_of reached.new (bits_left reader.new), bits_left reader.new)) (with_path path.new result) (parts_read level.now.table.now (read_within level.now.depth level.now.table.now) (trailers_along level.now.table.now (reverse chain.now)) (progress_of reached.old (bits_left reader.old)) (bits_left reader.old)) }
+    ensures gives { Gives (λ u. (progress_of reached.new (bits_left reader.new), bits_left reader.new)) (with_path path.new result) (parts_read level.now.table.now (read_within level.now.depth level.now.table.now) (trailers_in_turn level.now.table.now (reverse chain.now)) (progress_of reached.old (bits_left reader.old)) (bits_left reader.old)) }
     ensures begun { OnOk result (IsUnderWay reached.new (bits_left reader.new)) }
     ensures near { length path.new ≤ 2 * level.now.depth + 2 }
     ensures calm { OnOk result (path.new ≡ []) }

@@ -1,142 +1,12 @@
-//! Where the values of a container and its length entry stand.
+//! Where the length entry of a container stands.
 
-ghost use Rattle.std.specs.Prelude.{◌≡◌, ◌≤◌, ◌<◌, ◌+◌, ◌^◌, ◌*◌, length, map, reverse, IfErr, option_map, slice_get};
-ghost use Rattle.std.specs.Option.{option_copied};
-ghost use Rattle.eds_types.specs.Fields.{value_at, fields_in};
-ghost use Rattle.eds_types.specs.Plain.{plain};
+ghost use Rattle.std.specs.Prelude.{◌≡◌, ◌≤◌, ◌<◌, ◌+◌, ◌^◌, length, reverse};
 ghost use Rattle.eds_types.specs.Rows.{placed_from, sequence};
-ghost use Rattle.eds_unpack.specs.Courses.{along};
-ghost use Rattle.eds_unpack.specs.Seeking.{seek, nth, entries_along, trailers_along, length_among};
+ghost use Rattle.eds_types.specs.Seeking.{entries_in_turn, trailers_in_turn};
+ghost use Rattle.eds_unpack.specs.Seeking.{length_among};
 
 use eds_base::{Step, TypeId};
-use eds_types::{Part, TypeTable, Value};
-
-/// Looks for an entry among parts of the container `id`, the first of which has a given place, after so many values.
-fn seek_part(
-    parts: &[Part],
-    id: TypeId,
-    first: usize,
-    wanted: (TypeId, u16),
-    before: usize,
-) -> Result<usize, usize>
-    requires few { first + length parts.now < 2 ^ 32 }
-    requires before { before < 2 ^ 32 }
-    ensures place { result ≡ seek (placed_from id.0 first parts.now) before wanted.0.0 wanted.1 }
-    ensures few { IfErr result (λ n. n ≤ before + length parts.now) }
-{
-    let mut n = before;
-    for (i, part) in parts.iter().enumerate() {
-        if part.has_value() {
-            if id.0 == wanted.0.0 && first + i == wanted.1 as usize {
-                return Ok(n);
-            }
-            n += 1;
-        }
-    }
-    Err(n)
-}
-
-/// Looks for an entry among the entries of containers.
-fn seek_entries(
-    table: &TypeTable,
-    chain: &[TypeId],
-    wanted: (TypeId, u16),
-    before: usize,
-) -> Result<usize, usize>
-    requires few { length chain.now ≤ 16 }
-    requires before { before < 2 ^ 31 }
-    ensures place { result ≡ seek (entries_along table.now chain.now) before wanted.0.0 wanted.1 }
-    ensures few { IfErr result (λ n. n ≤ before + 32767 * length chain.now) }
-{
-    let mut n = before;
-    for id in chain {
-        match seek_part(table.entries_of(*id), *id, 0, wanted, n) {
-            Ok(place) => return Ok(place),
-            Err(more) => n = more,
-        }
-    }
-    Err(n)
-}
-
-/// Looks for an entry among the trailers of containers, those of the last container first.
-fn seek_trailers(
-    table: &TypeTable,
-    chain: &[TypeId],
-    wanted: (TypeId, u16),
-    before: usize,
-) -> Result<usize, usize>
-    requires few { length chain.now ≤ 16 }
-    requires before { before < 2 ^ 31 }
-    ensures { result ≡ seek (trailers_along table.now (reverse chain.now)) before wanted.0.0 wanted.1 }
-{
-    let mut n = before;
-    let mut rest = chain;
-    while let [front @ .., id] = rest {
-        let first = table.entries_of(*id).len();
-        match seek_part(table.trailers_of(*id), *id, first, wanted, n) {
-            Ok(place) => return Ok(place),
-            Err(more) => n = more,
-        }
-        rest = front;
-    }
-    Err(n)
-}
-
-/// How many values stand before that of a part in the sequence of a container, or how many there are where the part is
-/// none of them.
-fn place_of(table: &TypeTable, own: TypeId, wanted: (TypeId, u16)) -> Result<usize, usize>
-    ensures { result ≡ seek (sequence table.now own.0) 0 wanted.0.0 wanted.1 }
-{
-    let chain = table.chain_of(own);
-    match seek_entries(table, chain.as_slice(), wanted, 0) {
-        Ok(place) => Ok(place),
-        Err(n) => seek_trailers(table, chain.as_slice(), wanted, n),
-    }
-}
-
-fn value_in(values: &[Value], place: usize) -> Option<&Value>
-    ensures { option_map plain (option_copied result) ≡ slice_get (map plain values.now) place }
-{
-    values.get(place)
-}
-
-fn nth(values: &[Value], place: Result<usize, usize>) -> Option<&Value>
-    ensures { option_map plain (option_copied result) ≡ nth (map plain values.now) place }
-{
-    match place {
-        Ok(place) => value_in(values, place),
-        Err(_) => None,
-    }
-}
-
-/// The value of a part, where a value is the fields of a container.
-fn field_of<'a>(
-    table: &TypeTable,
-    value: Option<&'a Value>,
-    wanted: (TypeId, u16),
-) -> Option<&'a Value>
-    ensures { option_map plain (option_copied result) ≡ value_at (fields_in table.now (option_map plain (option_copied value.entry))) wanted.0.0 wanted.1 }
-{
-    match value {
-        Some(Value::Fields(own, values)) => nth(values.as_slice(), place_of(table, *own, wanted)),
-        _ => None,
-    }
-}
-
-/// The value that a path leads to from a value.
-pub(crate) fn value_along<'a>(
-    table: &TypeTable,
-    value: Option<&'a Value>,
-    path: &[(TypeId, u16)],
-) -> Option<&'a Value>
-    ensures { option_map plain (option_copied result) ≡ along table.now (option_map plain (option_copied value.entry)) path.now }
-{
-    let mut at = value;
-    for wanted in path {
-        at = field_of(table, at, *wanted);
-    }
-    at
-}
+use eds_types::{Part, TypeTable};
 
 /// The step to the first length entry among parts of the container `id`, the first of which has a given place.
 fn length_among(parts: &[Part], id: TypeId, first: u16) -> Option<Step>
@@ -156,7 +26,7 @@ fn length_among(parts: &[Part], id: TypeId, first: u16) -> Option<Step>
 }
 
 fn length_in_entries(table: &TypeTable, chain: &[TypeId]) -> Option<Step>
-    ensures { result ≡ length_among (entries_along table.now chain.now) }
+    ensures { result ≡ length_among (entries_in_turn table.now chain.now) }
 {
     for id in chain {
         match length_among(table.entries_of(*id), *id, 0) {
@@ -169,7 +39,7 @@ fn length_in_entries(table: &TypeTable, chain: &[TypeId]) -> Option<Step>
 
 fn length_in_trailers(table: &TypeTable, chain: &[TypeId]) -> Option<Step>
     requires few { length chain.now ≤ 16 }
-    ensures { result ≡ length_among (trailers_along table.now (reverse chain.now)) }
+    ensures { result ≡ length_among (trailers_in_turn table.now (reverse chain.now)) }
 {
     let mut rest = chain;
     while let [front @ .., id] = rest {

@@ -107,7 +107,7 @@ impl<'a> Splitter<'a> {
         ensures framing { IsFraming self.old.framing }
     {
         let octets = judged(self.held.as_slice(), self.most);
-        match self.program.read(alloc, BitView::new(octets)) {
+        match self.program.value_of(alloc, BitView::new(octets)) {
             Ok((value, bits)) => {
                 self.held.pass(bits.div_ceil(8) as usize);
                 Ok(Taken::Packet(value, bits))

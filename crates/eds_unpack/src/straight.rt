@@ -3,7 +3,7 @@
 ghost use Rattle.std.specs.Prelude.{◌≡◌, ℕ, length, Some};
 ghost use Rattle.std.specs.List.{list_all};
 ghost use Rattle.eds_types.specs.Fields.{type_by};
-ghost use Rattle.eds_unpack.specs.Choices.{numbers_of};
+ghost use Rattle.eds_types.specs.Rows.{numbers_of};
 ghost use Rattle.eds_unpack.specs.Straight.{is_only, is_straight_entry, is_straight};
 
 use crate::tail::open_bits;

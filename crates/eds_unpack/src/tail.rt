@@ -5,19 +5,19 @@ ghost use Rattle.eds_bits.specs.Reader.{bits_left};
 ghost use Rattle.eds_types.specs.Failing.{length_path};
 ghost use Rattle.eds_types.specs.Reading.{octets_left, tail_octets, tail_room, read_tail as tail_read};
 ghost use Rattle.eds_types.specs.declared.row.Part.{Part as Piece};
+ghost use Rattle.eds_types.specs.Spelling.{Progress};
 ghost use Rattle.eds_types.specs.Sizes.{open_by, tail_of, size_within, kind_size, part_size};
 ghost use Rattle.eds_unpack.specs.Courses.{IsUnderWay, progress_of};
 ghost use Rattle.eds_unpack.specs.Entries.{placed};
 ghost use Rattle.eds_unpack.specs.Readers.{Gives, with_path, StopsReading};
 ghost use Rattle.eds_unpack.specs.Tails.{limit, limited, limited_size, sizes_of, trailers_sizes};
 
-use crate::constraint::row_of;
 use crate::octets::read_octets;
 use crate::progress::{Reached, bits_before, keep_field};
 use crate::seek::length_step;
 use eds_base::{Fail, Path, Reason, Step, TypeId};
 use eds_bits::BitReader;
-use eds_types::{Kind, Part, TypeTable};
+use eds_types::{Kind, Part, TypeTable, row_of};
 use std::alloc::Global;
 
 /// How deep types are nested at most.
@@ -163,6 +163,24 @@ fn tail_octets(most: u32, told: Option<i128>, others: u128) -> Option<u32>
     }
 }
 
+/// How many octets the tail of at most so many bits has that stands in a container behind so many bits, where the length
+/// entry told octets; None where it told another number than any tail would make.
+pub(crate) fn tail_octets_left(
+    table: &TypeTable,
+    most: u32,
+    container: TypeId,
+    told: Option<i128>,
+    before: u64,
+) -> Option<u32>
+    requires { IfSome told (λ n. nat_abs n ≤ 2 ^ 97) }
+    ensures value { (s : Progress) (i : ℕ) (p : Piece) → s.octets ≡ told → length s.before ≡ before → result ≡ tail_room table.now most s (placed container.0 i p) }
+    ensures few { IfSome result (λ j. 8 * j ≤ most) }
+{
+    let chain = table.chain_of(container);
+    let trailers = trailers_size(table, chain.as_slice());
+    tail_octets(most, told, (u128::from(before) + trailers).div_ceil(8))
+}
+
 /// How many octets the tail of at most so many bits has that stands next in a container, None where the length entry
 /// tells another number than any tail would make.
 fn tail_room(
@@ -176,10 +194,8 @@ fn tail_room(
     ensures value { (i : ℕ) (p : Piece) → result ≡ tail_room table.now most (progress_of reached.now (bits_left reader.now)) (placed container.0 i p) }
     ensures few { IfSome result (λ j. 8 * j ≤ most) }
 {
-    let chain = table.chain_of(container);
-    let trailers = trailers_size(table, chain.as_slice());
-    let before = u128::from(bits_before(reached, reader));
-    tail_octets(most, reached.octets, (before + trailers).div_ceil(8))
+    let before = bits_before(reached, reader);
+    tail_octets_left(table, most, container, reached.octets, before)
 }
 
 /// Reads a tail of at most so many bits, the part at a place of a container: it has the size that the length entry leaves

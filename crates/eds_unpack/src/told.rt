@@ -22,7 +22,7 @@ fn number_in(value: &Value) -> Result<i128, Fail<Reason>>
 }
 
 /// How many octets a length entry with this number tells.
-fn told_octets(c0: i64, c1: i64, number: i128) -> i128
+pub(crate) fn told_octets(c0: i64, c1: i64, number: i128) -> i128
     requires offset { nat_abs c0 ≤ 2 ^ 32 }
     requires factor { nat_abs c1 ≤ 2 ^ 32 }
     requires number { nat_abs number ≤ 2 ^ 64 }

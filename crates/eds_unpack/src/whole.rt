@@ -21,7 +21,7 @@ use eds_types::{TypeTable, Value};
 use std::alloc::Global;
 
 /// How deep types are nested at most.
-const NESTING: u32 = 32;
+pub(crate) const NESTING: u32 = 32;
 
 /// The value that the bits of a view begin with, and how many bits it takes.
 fn read_front(

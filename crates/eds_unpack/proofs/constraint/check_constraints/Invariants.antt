@@ -1,7 +1,7 @@
 use Rattle.std.proofs.Common.{◌≡◌, ℕ, [], length}
 use Rattle.std.specs.List.{AllByRecursion}
 use Rattle.eds_types.specs.Reading.{check_all}
-use Rattle.eds_unpack.specs.Choices.{IsNear}
+use Rattle.eds_types.specs.Choices.{IsNear}
 use Rattle.eds_unpack.specs.Courses.{fields_of}
 use Rattle.eds_unpack.proofs.constraint.check_constraints.Given as goal
 

@@ -1,5 +1,5 @@
 use Rattle.std.proofs.Common.{rules}
-use Rattle.eds_unpack.proofs.Values.{plain_num}
+use Rattle.eds_types.proofs.PlainValues.{plain_num}
 use Rattle.eds_unpack.proofs.expected.expect_check.Goals as goal
 
 pub returns-clause-gives : goal.returns-clause-gives

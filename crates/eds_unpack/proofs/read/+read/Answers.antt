@@ -9,17 +9,17 @@ use Rattle.eds_types.specs.Fields.{type_by, field_at, value_at}
 use Rattle.eds_types.specs.Plain.{plain, fields, plains_of}
 use Rattle.eds_types.specs.Reading.{read_within, read_parts, next}
 use Rattle.eds_types.specs.Spelling.{count_in}
-use Rattle.eds_types.specs.Rows.{chain, placed_from}
-use Rattle.eds_unpack.specs.Choices.{numbers_of, IsNear}
+use Rattle.eds_types.specs.Rows.{chain, placed_from, numbers_of}
+use Rattle.eds_types.specs.Choices.{IsNear}
+use Rattle.eds_types.proofs.Candidates.{numbers_are}
+use Rattle.eds_types.proofs.PlainValues.{plain_items, plain_fields}
 use Rattle.eds_unpack.specs.Courses.{fields_of, progress_of}
 use Rattle.eds_unpack.specs.Entries.{IsLow, PartIsRead, LengthIsRead}
 use Rattle.eds_unpack.specs.Readers.{Gives, with_path, stop_at}
 use Rattle.eds_unpack.proofs.Labels.{kind_listed}
 use Rattle.eds_unpack.proofs.Levels.{next_level}
-use Rattle.eds_unpack.proofs.Listing.{numbers_are}
 use Rattle.eds_unpack.proofs.OnReads.{value_moves, items_move, pad_moves}
 use Rattle.eds_unpack.proofs.Ranks.{chain_is_low, child_is_low, item_is_read}
-use Rattle.eds_unpack.proofs.Values.{plain_items, plain_fields}
 use Rattle.eds_unpack.proofs.Steps.{stops_as, first_low, last_low, front_low, near_low, near_most, entries_low, trailers_low, under_way, told_way, begins, is_started, plain_part, list_part, fixed_part, check_part, pad_part, length_part, length_number, items_more, trailers_stop, trailers_go, trailers_done, stay_stops, stay_ends, nowhere_is, under_stops, under_goes, under_ends, chain_stops, end_stops, container_reads}
 use Rattle.eds_unpack.specs.Straight.{is_straight_entry}
 use Rattle.eds_unpack.proofs.StraightReads.{IsStraightSoFar, first_part, first_type, first_straight, none_left, straight_begins, straight_stops, straight_goes, straight_done, straight_ends, straight_fails, entries_straight}

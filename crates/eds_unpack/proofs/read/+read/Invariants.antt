@@ -4,11 +4,10 @@ use Rattle.eds_base.specs.declared.ids.TypeId.{TypeId}
 use Rattle.eds_bits.specs.Reader.{bits_left}
 use Rattle.eds_types.specs.Plain.{plain}
 use Rattle.eds_types.specs.Reading.{read_within, read_items, read_parts, read_chain, read_under}
-use Rattle.eds_types.specs.Rows.{placed_from}
-use Rattle.eds_unpack.specs.Choices.{numbers_of}
+use Rattle.eds_types.specs.Rows.{placed_from, numbers_of}
+use Rattle.eds_types.specs.Seeking.{trailers_in_turn}
 use Rattle.eds_unpack.specs.Courses.{IsUnderWay, progress_of}
 use Rattle.eds_unpack.specs.Entries.{IsLow, PartIsRead}
-use Rattle.eds_unpack.specs.Seeking.{trailers_along}
 use Rattle.eds_unpack.specs.Straight.{is_straight_entry}
 use Rattle.eds_unpack.proofs.Reaches.{behind_items}
 use Rattle.eds_unpack.proofs.StraightReads.{IsStraightSoFar}
@@ -100,7 +99,7 @@ invariant-read_trailers-loop-rest l = record {
   begun : IsUnderWay l.reached (bits_left l.reader);
   inner : AllByRecursion (λ (id : TypeId). IsLow l.level.table.now (l.level.depth + 1) id.0) l.rest;
   less : length l.rest ≤ length l.chain;
-  read : read_parts l.level.table.now (read_within l.level.depth l.level.table.now) (trailers_along l.level.table.now (reverse l.rest)) (progress_of l.reached (bits_left l.reader)) (bits_left l.reader) ≡ read_parts l.level.table.now (read_within l.level.depth l.level.table.now) (trailers_along l.level.table.now (reverse l.chain)) (progress_of l.fn.reached (bits_left l.fn.reader)) (bits_left l.fn.reader);
+  read : read_parts l.level.table.now (read_within l.level.depth l.level.table.now) (trailers_in_turn l.level.table.now (reverse l.rest)) (progress_of l.reached (bits_left l.reader)) (bits_left l.reader) ≡ read_parts l.level.table.now (read_within l.level.depth l.level.table.now) (trailers_in_turn l.level.table.now (reverse l.chain)) (progress_of l.fn.reached (bits_left l.fn.reader)) (bits_left l.fn.reader);
 }
 
 abbrev pub decreases-read_trailers-loop-rest : goal.decreases-read_trailers-loop-rest

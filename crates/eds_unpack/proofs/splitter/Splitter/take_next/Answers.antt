@@ -11,8 +11,8 @@ use Rattle.eds_unpack.proofs.Cutting.{packet_of}
 use Rattle.eds_unpack.proofs.Taking.{packet_read, octets_there}
 use Rattle.eds_unpack.proofs.splitter.Splitter.take_next.Goals as goal
 
-pub read-requires-clause-most : goal.read-requires-clause-most
-read-requires-clause-most c =
+pub value_of-requires-clause-most : goal.value_of-requires-clause-most
+value_of-requires-clause-most c =
     let bits = ap length c.new.ensures in
     let octets = length-bits_of c.judged-octets.result.now in
     let judged = ap length c.judged-octets.ensures in

@@ -1,0 +1,29 @@
+//! What is known of the entries of a container.
+
+ghost use Rattle.std.specs.Prelude.{◌≡◌, List};
+ghost use Rattle.eds_types.specs.Fields.{Field};
+ghost use Rattle.eds_types.specs.Reading.{holds};
+ghost use Rattle.eds_unpack.specs.Choices.{Tells};
+
+use crate::constraint::holds;
+use crate::fields::ReadField;
+use crate::noted::holds_noted;
+use crate::notes::Notes;
+use eds_types::{Constraint, TypeTable};
+
+/// What is known of the entries of a container: the fields that were read, or the numbers that were noted of them.
+#[derive(Clone, Copy)]
+pub(crate) enum Known<'a> {
+    Fields(&'a [ReadField]),
+    Numbers(&'a Notes, &'a [Option<i128>]),
+}
+
+/// Whether a constraint holds of fields of which this is known.
+pub(crate) fn holds_known(table: &TypeTable, known: &Known<'_>, constraint: &Constraint) -> bool
+    ensures { (fs : List Field) → Tells table.now fs known.now constraint.now → result ≡ holds table.now fs constraint.now }
+{
+    match known {
+        Known::Fields(fields) => holds(table, fields, constraint),
+        Known::Numbers(notes, numbers) => holds_noted(notes, numbers, constraint),
+    }
+}
