@@ -3,7 +3,7 @@
 
   bench/trees.py [PROGRAM]
 
-PROGRAM (by default crates/eds_bench/out/eds_bench) unpacks a frame again and again by a sheet, and bench/trees.rs, built here
+PROGRAM (by default crates/eds_bench/out/eds_bench) unpacks or recognises a frame again and again by a sheet, and bench/trees.rs, built here
 by `rustc -O`, reads it into a `Vec` of an enum with nothing but std. What they print has to agree. The time of one turn is that
 of many turns less that of one, each the least processor time of some runs, in which the two programs take turns. The memory is
 the most that a process was seen to hold, less that of one which reads a frame of next to nothing.
@@ -12,6 +12,7 @@ the most that a process was seen to hold, less that of one which reads a frame o
   list    a count of 16 bits, and 4,096 containers of a number of 8 and one of 16 bits
   scalars a packet of twenty scalars (packets.rs)
   kinds   a telemetry packet of one of 64 kinds, with a length and a check (split.py)
+  numbers the same packet, recognised without memory, beside a reader into an array of numbers by a table made at run time
   mixed   sixteen letters, a container of numbers of 32 and 16 bits, a mode, and a count of 8 bits with eight such containers
 """
 
@@ -73,6 +74,7 @@ FRAMES = {
     "array": ("Trees/Whole", array_sheet, bytes(range(256)) * 256, 400),
     "list": ("Trees/Whole", list_sheet, struct.pack(">H", 4096) + some_pairs(4096), 2_000),
     "scalars": ("Bench/Housekeeping", scalars_sheet, SCALARS, 500_000),
+    "numbers": ("Bench/Housekeeping", scalars_sheet, SCALARS, 500_000),
     "kinds": ("Kinds/Packet", kinds_sheet, kinds_recording(1), 1_000_000),
     "mixed": ("Trees/Whole", mixed_sheet, b"ATTITUDE CONTROL" + struct.pack(">IHBB", 1_700_000_000, 9, 4, 8) + some_pairs(8), 500_000),
 }
@@ -119,7 +121,8 @@ def main():
         def commands(kind, octets, turns):
             type_name, sheet, _, _ = FRAMES[kind]
             frame = kept("frame", octets)
-            return [[program, type_name, frame, kept("sheet", sheet()), str(turns)], [hand, kind, frame, str(turns)]]
+            words = ["recognise"] if kind == "numbers" else []
+            return [[program, *words, type_name, frame, kept("sheet", sheet()), str(turns)], [hand, kind, frame, str(turns)]]
 
         empty = least(commands("list", b"\0\0", 10_000))
         for kind, (_, _, octets, turns) in FRAMES.items():

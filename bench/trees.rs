@@ -3,7 +3,8 @@
 //!   trees KIND FRAME TURNS
 //!
 //! KIND is array, list, scalars, kinds or mixed; `trees.py`, which makes the frames, says how they are spelled. The line that is printed
-//! is `turns TURNS sum SUM`: each turn adds the bits of the value, and how many parts it and its parts have.
+//! is `turns TURNS sum SUM`: each turn adds the bits of the value, and how many parts it and its parts have. KIND numbers reads the
+//! scalars into an array of numbers, by a table that is made at run time, and adds the bits alone.
 
 use std::env;
 use std::fs;
@@ -221,7 +222,99 @@ const fn remainders() -> [u16; 256] {
 
 static CRC16: [u16; 256] = remainders();
 
+/// How a number is written.
+#[derive(Clone, Copy)]
+enum Form {
+    Unsigned,
+    TwosComplement,
+    OnesComplement,
+    SignMagnitude,
+    Decimal,
+}
+
+/// A scalar of a packet: its bits, how they are written, whether the least octet comes first, and the numbers that it may be.
+struct Scalar {
+    bits: u32,
+    form: Form,
+    least_first: bool,
+    low: i64,
+    high: i64,
+    listed: Option<Vec<i64>>,
+}
+
+/// The twenty scalars of the packet.
+fn scalar_table() -> Vec<Scalar> {
+    let plain = |bits, form| Scalar { bits, form, least_first: false, low: i64::MIN, high: i64::MAX, listed: None };
+    let least = |bits, form| Scalar { least_first: true, ..plain(bits, form) };
+    let label = |bits, listed| Scalar { listed: Some(listed), ..plain(bits, Form::Unsigned) };
+    let mut table: Vec<Scalar> = [3, 1, 1, 11].into_iter().map(|bits| plain(bits, Form::Unsigned)).collect();
+    table.push(label(2, vec![0, 1, 2, 3]));
+    table.extend([plain(14, Form::Unsigned), plain(32, Form::Unsigned), least(16, Form::Unsigned)]);
+    table.push(label(4, (0..16).filter(|&number| mode_of(number as u32).is_some()).collect()));
+    table.extend([plain(1, Form::Unsigned), plain(11, Form::TwosComplement), least(16, Form::TwosComplement)]);
+    table.extend([plain(12, Form::SignMagnitude), plain(4, Form::Unsigned), plain(8, Form::OnesComplement)]);
+    table.extend([plain(24, Form::Unsigned), least(32, Form::TwosComplement), plain(16, Form::Decimal)]);
+    table.push(Scalar { low: 0, high: 1000, ..plain(16, Form::Unsigned) });
+    table.push(plain(32, Form::Unsigned));
+    table
+}
+
+/// So many bits from a place on.
+fn bits_at(octets: &[u8], at: usize, bits: u32) -> Option<u64> {
+    let last = octets.get(at / 8..(at + bits as usize).div_ceil(8))?;
+    let word = last.iter().fold(0u64, |word, &octet| word << 8 | u64::from(octet));
+    Some(word >> (8 * last.len() - at % 8 - bits as usize) & (u64::MAX >> (64 - bits)))
+}
+
+fn number_of(scalar: &Scalar, raw: u64) -> Option<i64> {
+    let raw = if scalar.least_first { raw.swap_bytes() >> (64 - scalar.bits) } else { raw };
+    let negative = raw >> (scalar.bits - 1) & 1 == 1;
+    let number = match scalar.form {
+        Form::Unsigned => raw as i64,
+        Form::TwosComplement => ((raw << (64 - scalar.bits)) as i64) >> (64 - scalar.bits),
+        Form::OnesComplement if negative => -((!raw & (u64::MAX >> (64 - scalar.bits))) as i64),
+        Form::SignMagnitude if negative => -((raw & !(1 << (scalar.bits - 1))) as i64),
+        Form::OnesComplement | Form::SignMagnitude => raw as i64,
+        Form::Decimal => {
+            let mut number = 0;
+            for digit in (0..scalar.bits / 4).rev().map(|digit| (raw >> (4 * digit) & 0xF) as i64) {
+                if digit > 9 {
+                    return None;
+                }
+                number = 10 * number + digit;
+            }
+            number
+        }
+    };
+    let listed = scalar.listed.as_ref().is_none_or(|listed| listed.contains(&number));
+    (listed && scalar.low <= number && number <= scalar.high).then_some(number)
+}
+
+/// Reads the scalars into the array, and tells how many bits they take.
+fn read_numbers(table: &[Scalar], octets: &[u8], numbers: &mut [i64; 20]) -> Option<usize> {
+    let mut at = 0;
+    for (scalar, number) in table.iter().zip(numbers) {
+        *number = number_of(scalar, bits_at(octets, at, scalar.bits)?)?;
+        at += scalar.bits as usize;
+    }
+    Some(at)
+}
+
+fn sum_of_numbers(frame: &[u8], turns: u32) -> Option<u64> {
+    let table = black_box(scalar_table());
+    let mut numbers = [0; 20];
+    let mut sum = 0u64;
+    for _ in 0..turns {
+        sum = sum.wrapping_add(read_numbers(&table, black_box(frame), &mut numbers)? as u64);
+        black_box(&numbers);
+    }
+    Some(sum)
+}
+
 fn sum_of(kind: &str, frame: &[u8], turns: u32) -> Option<u64> {
+    if kind == "numbers" {
+        return sum_of_numbers(frame, turns);
+    }
     let mut sum = 0u64;
     for _ in 0..turns {
         let mut reader = Reader { octets: black_box(frame), at: 0 };
@@ -240,7 +333,7 @@ fn sum_of(kind: &str, frame: &[u8], turns: u32) -> Option<u64> {
 fn main() -> ExitCode {
     let words: Vec<String> = env::args().skip(1).collect();
     let [kind, frame, turns] = words.as_slice() else {
-        println!("usage: trees array|list|scalars|kinds|mixed FRAME TURNS");
+        println!("usage: trees array|list|scalars|numbers|kinds|mixed FRAME TURNS");
         return ExitCode::from(2);
     };
     let (Ok(frame), Ok(turns)) = (fs::read(frame), turns.parse()) else {

@@ -1,4 +1,4 @@
-//! A frame that is unpacked again and again by a sheet. Both come from files.
+//! A frame that is unpacked or recognised again and again by a sheet. Both come from files.
 
 ghost use Rattle.std.specs.Prelude.{◌≡◌, ◌<◌, ◌≤◌, ◌^◌, IfOk, IfSome, IsSomeAnd, Some, length};
 ghost use Rattle.std.specs.List.{All};
@@ -10,20 +10,22 @@ use eds_bits::BitView;
 use eds_io::{Shelf, read_whole};
 use eds_sheet::{Sheet, compile};
 use eds_types::{TypeTable, Value};
-use eds_unpack::unpack;
+use eds_unpack::{Program, Scratch, unpack};
 use std::alloc::Global;
 
 const SHEET_OCTETS: u64 = 4_194_304;
 
 const FRAME_OCTETS: u64 = 65_536;
 
-/// The type that the frame is of, the files of the frame and of the sheet, and how often the frame is unpacked.
+/// The type that the frame is of, the files of the frame and of the sheet, how often the frame is unpacked, and whether it is
+/// only recognised.
 #[derive(Drop)]
 pub(crate) struct Task {
     pub(crate) type_name: String,
     pub(crate) frame: String,
     pub(crate) sheet: String,
     pub(crate) turns: u32,
+    pub(crate) recognised: bool,
 }
 
 fn octets_in<S: Shelf>(alloc: Global, shelf: &mut S, name: &str, most: u64) -> Result<Octets, Stop>
@@ -95,7 +97,33 @@ fn sum_of_turns(
     Ok(sum)
 }
 
-/// What the frame's values add up to, modulo 2^64: each time the bits of the value, and how many parts it and its parts have.
+// What the bits of the values of so many turns add up to.
+#[tactic(auto, using(crate::proofs::Views::frames_are_short))]
+fn sum_recognised(
+    alloc: Global,
+    table: &TypeTable,
+    id: TypeId,
+    frame: &[u8],
+    turns: u32,
+) -> Result<u64, Fail<Fault>>
+    requires known { id.0 < length table.now }
+    requires clear { IsClear table.now id.0 }
+    requires few { length frame.now ≤ FRAME_OCTETS }
+{
+    let program = Program::build(alloc, table, id)?;
+    let mut scratch = Scratch::for_program(alloc, &program)?;
+    let mut sum = 0u64;
+    for _ in 0..turns {
+        match program.recognise(&mut scratch, BitView::new(frame)) {
+            Ok((_, bits)) => sum = sum.wrapping_add(u64::from(bits)),
+            Err(fault) => return Err(Fail::Named(fault)),
+        }
+    }
+    Ok(sum)
+}
+
+/// What the frame's values add up to, modulo 2^64: each time the bits of the value, and, unless it is only recognised, how many
+/// parts it and its parts have.
 pub(crate) fn sum_of_frame<S: Shelf>(
     alloc: Global,
     shelf: &mut S,
@@ -108,7 +136,13 @@ pub(crate) fn sum_of_frame<S: Shelf>(
         Some(id) => id,
         None => unreachable!(),
     };
-    match sum_of_turns(alloc, &sheet.table, id, frame.as_slice(), task.turns) {
+    let frame = frame.as_slice();
+    let sum = if task.recognised {
+        sum_recognised(alloc, &sheet.table, id, frame, task.turns)
+    } else {
+        sum_of_turns(alloc, &sheet.table, id, frame, task.turns)
+    };
+    match sum {
         Ok(sum) => Ok(sum),
         Err(fail) => Err(Stop::of(fail)),
     }

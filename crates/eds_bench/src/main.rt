@@ -1,4 +1,4 @@
-//! Unpacks many packets by a sheet and writes them as JSON, unpacks a frame many times, or reads a large text or binary many
+//! Unpacks many packets by a sheet and writes them as JSON, unpacks or recognises a frame many times, or reads a large text or binary many
 //! times or takes its check, so that those of a second can be counted from outside.
 #![tactic(auto)]
 
@@ -61,11 +61,25 @@ fn task_asked(rt: &HostRuntime) -> Option<Task> {
         let task = letters::Task::of(first.as_str(), second.as_str(), turns.as_str(), MOST)?;
         return Some(Task::Letters(task));
     };
+    let Some(last) = words.next() else {
+        let task = frame::Task {
+            type_name: first,
+            frame: second,
+            sheet: turns,
+            turns: count_of(count.as_str())?,
+            recognised: false,
+        };
+        return Some(Task::Frame(task));
+    };
+    if first.as_str() != "recognise" {
+        return None;
+    }
     let task = frame::Task {
-        type_name: first,
-        frame: second,
-        sheet: turns,
-        turns: count_of(count.as_str())?,
+        type_name: second,
+        frame: turns,
+        sheet: count,
+        turns: count_of(last.as_str())?,
+        recognised: true,
     };
     Some(Task::Frame(task))
 }
@@ -125,7 +139,7 @@ fn main(rt: HostRuntime) -> ExitCode {
         Some(Task::Frame(task)) => print_frame(&rt, &task),
         None => {
             let _ = println!(rt;
-                "usage: eds_bench COUNT, json COUNT, TYPE FRAME SHEET TURNS, or binary, text, sum, xor, crc8 or crc16 BITS TURNS; counts from 1 to {MOST}"
+                "usage: eds_bench COUNT, json COUNT, TYPE FRAME SHEET TURNS, recognise TYPE FRAME SHEET TURNS, or binary, text, sum, xor, crc8 or crc16 BITS TURNS; counts from 1 to {MOST}"
             );
             ExitCode::from(2)
         }
