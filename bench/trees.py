@@ -11,8 +11,8 @@ the most that a process was seen to hold, less that of one which reads a frame o
   array   a container of one array of 65,536 numbers of 8 bits
   list    a count of 16 bits, and 4,096 containers of a number of 8 and one of 16 bits
   scalars a packet of twenty scalars (packets.rs)
+  numbers the packet of scalars, recognised without memory, beside a reader into an array of numbers by a table made at run time
   kinds   a telemetry packet of one of 64 kinds, with a length and a check (split.py)
-  numbers the same packet, recognised without memory, beside a reader into an array of numbers by a table made at run time
   mixed   sixteen letters, a container of numbers of 32 and 16 bits, a mode, and a count of 8 bits with eight such containers
 """
 
