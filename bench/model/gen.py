@@ -652,6 +652,8 @@ class Values:
         concrete = [k for k in self.j.at_or_under(t) if not k.hidden]
         if concrete and (self.strays == 0 or r.random() < .98):
             k = r.choice(concrete)
+        elif self.strays == 0:
+            return {"$type": t.name}  # no container has a value of this type
         else:
             self.strays = 0
             k = r.choice([x for x in self.j.types if x.kind == "Container"])
