@@ -39,16 +39,6 @@ walk-at ts walks i t lt at w =
 pub least-joined : (xs ys : List Refusal) (a b r : Option Refusal) → a ≡ least xs → b ≡ least ys → r ≡ first_of a b → r ≡ least (xs ++ ys)
 least-joined xs ys a b r h k e = e ∙ rw (h, k) (sym (least-append xs ys))
 
--- the least of three lists, of five, and of six
+-- the least of three lists
 pub least-of_three : (v w x : List Refusal) (a b c p q : Option Refusal) → a ≡ least v → b ≡ least w → c ≡ least x → p ≡ first_of a b → q ≡ first_of p c → q ≡ least (v ++ w ++ x)
 least-of_three v w x a b c p q ha hb hc hp hq = least-joined (v ++ w) x p c q (least-joined v w a b p ha hb hp) hc hq
-
-pub least-of_five : (v w x y z : List Refusal) (a b c d e p q r s : Option Refusal) → a ≡ least v → b ≡ least w → c ≡ least x → d ≡ least y → e ≡ least z
-    → p ≡ first_of a b → q ≡ first_of p c → r ≡ first_of q d → s ≡ first_of r e → s ≡ least (v ++ w ++ x ++ y ++ z)
-least-of_five v w x y z a b c d e p q r s ha hb hc hd he hp hq hr hs =
-    least-joined (v ++ w ++ x ++ y) z r e s (least-joined (v ++ w ++ x) y q d r (least-of_three v w x a b c p q ha hb hc hp hq) hd hr) he hs
-
-pub least-of_six : (u v w x y z : List Refusal) (o a b c d e p q r s t : Option Refusal) → o ≡ least u → a ≡ least v → b ≡ least w → c ≡ least x → d ≡ least y → e ≡ least z
-    → p ≡ first_of o a → q ≡ first_of p b → r ≡ first_of q c → s ≡ first_of r d → t ≡ first_of s e → t ≡ least (u ++ v ++ w ++ x ++ y ++ z)
-least-of_six u v w x y z o a b c d e p q r s t ho ha hb hc hd he hp hq hr hs ht =
-    least-joined (u ++ v ++ w ++ x ++ y) z s e t (least-of_five u v w x y o a b c d p q r s ho ha hb hc hd hp hq hr hs) he ht

@@ -11,15 +11,13 @@ use Rattle.eds_tree.specs.BadAttribute.{breaks_attribute}
 use Rattle.eds_tree.specs.BadName.{breaks_name}
 use Rattle.eds_tree.specs.Limits.{breaks_limit}
 
--- all breaks of these rules
+-- all breaks of the rules on elements
+abbrev pub element_breaks : List (List Node) → List Refusal
+element_breaks ts = breaks_of breaks_unknown ts ++ breaks_of breaks_unsupported ts ++ breaks_of breaks_missing ts
+
+-- all breaks of these rules and of those on attributes and numbers of elements
 abbrev pub shape_breaks : List (List Node) → List Refusal
-shape_breaks ts =
-    breaks_of breaks_unknown ts
-    ++ breaks_of breaks_unsupported ts
-    ++ breaks_of breaks_missing ts
-    ++ breaks_of breaks_attribute ts
-    ++ breaks_of breaks_name ts
-    ++ breaks_limit ts
+shape_breaks ts = element_breaks ts ++ breaks_of breaks_attribute ts ++ breaks_of breaks_name ts ++ breaks_limit ts
 
 -- nothing, unless there is a break
 abbrev pub unless_broken : Option Refusal → Result (Unit {0}) Refusal

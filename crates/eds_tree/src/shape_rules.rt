@@ -1,39 +1,67 @@
 //! The rules on elements and attributes, over all files.
 
-ghost use Rattle.std.specs.Prelude.{◌≡◌, ◌≤◌, length, map, IfOk};
+ghost use Rattle.std.specs.Prelude.{◌≡◌, ◌≤◌, ◌++◌, length, map, IfOk};
 ghost use Rattle.eds_base.specs.Answering.{Answers};
 ghost use Rattle.eds_base.specs.Refusals.{least, first_of};
 ghost use Rattle.eds_tree.specs.Trees.{links_of};
-ghost use Rattle.eds_tree.specs.ShapeCheck.{shape_breaks, shape_verdict};
+ghost use Rattle.eds_tree.specs.BadAttribute.{breaks_attribute};
+ghost use Rattle.eds_tree.specs.BadName.{breaks_name};
+ghost use Rattle.eds_tree.specs.Breaks.{breaks_of};
+ghost use Rattle.eds_tree.specs.ShapeCheck.{element_breaks, shape_breaks, shape_verdict};
 
 use crate::breaks::{least_of, walks};
+use crate::link::Link;
 use crate::rule_attribute::BadAttribute;
 use crate::rule_limit::least_limit;
 use crate::rule_missing::MissingAttribute;
 use crate::rule_name::BadName;
 use crate::rule_unknown::UnknownElement;
 use crate::rule_unsupported::Unsupported;
-use crate::tree::Trees;
-use eds_base::{Fail, Memory, Refusal};
+use crate::tree::{Tree, Trees};
+use eds_base::{Fail, Items, Memory, Refusal};
 use std::alloc::Global;
 
-// The least break of the rules.
+// The least break of the rules on elements.
+fn least_of_elements(
+    alloc: Global,
+    trees: &[Tree],
+    walks: &Items<Items<Link>>,
+) -> Result<Option<Refusal>, Memory>
+    requires few { length trees.now ≤ 64 }
+    requires walked { walks.now ≡ map links_of trees.now }
+    ensures { IfOk result (λ r. r ≡ least (element_breaks trees.now)) }
+{
+    let unknown = least_of::<UnknownElement>(alloc, trees, walks)?;
+    let unsupported = least_of::<Unsupported>(alloc, trees, walks)?;
+    let missing = least_of::<MissingAttribute>(alloc, trees, walks)?;
+    Ok(Refusal::first(Refusal::first(unknown, unsupported), missing))
+}
+
+// The least break of these rules and of those on attributes.
+fn least_with_attributes(
+    alloc: Global,
+    trees: &[Tree],
+    walks: &Items<Items<Link>>,
+) -> Result<Option<Refusal>, Memory>
+    requires few { length trees.now ≤ 64 }
+    requires walked { walks.now ≡ map links_of trees.now }
+    ensures { IfOk result (λ r. r ≡ least (element_breaks trees.now ++ breaks_of breaks_attribute trees.now ++ breaks_of breaks_name trees.now)) }
+{
+    let elements = least_of_elements(alloc, trees, walks)?;
+    let attribute = least_of::<BadAttribute>(alloc, trees, walks)?;
+    let name = least_of::<BadName>(alloc, trees, walks)?;
+    Ok(Refusal::first(Refusal::first(elements, attribute), name))
+}
+
+// The least break of all rules.
 fn least_break(alloc: Global, trees: &Trees) -> Result<Option<Refusal>, Memory>
     requires { length trees.now ≤ 64 }
     ensures { IfOk result (λ r. r ≡ least (shape_breaks trees.now)) }
 {
     let trees = trees.as_slice();
     let walks = walks(alloc, trees)?;
-    let unknown = least_of::<UnknownElement>(alloc, trees, &walks)?;
-    let unsupported = least_of::<Unsupported>(alloc, trees, &walks)?;
-    let missing = least_of::<MissingAttribute>(alloc, trees, &walks)?;
-    let attribute = least_of::<BadAttribute>(alloc, trees, &walks)?;
-    let name = least_of::<BadName>(alloc, trees, &walks)?;
+    let found = least_with_attributes(alloc, trees, &walks)?;
     let limit = least_limit(alloc, trees, &walks)?;
-    let found = Refusal::first(unknown, unsupported);
-    let found = Refusal::first(found, missing);
-    let found = Refusal::first(found, attribute);
-    let found = Refusal::first(found, name);
     Ok(Refusal::first(found, limit))
 }
 

@@ -1,0 +1,13 @@
+use Rattle.eds_tree.specs.Breaks.{breaks_of}
+use Rattle.eds_tree.specs.Unknown.{breaks_unknown}
+use Rattle.eds_tree.specs.Unsupported.{breaks_unsupported}
+use Rattle.eds_tree.specs.Missing.{breaks_missing}
+use Rattle.eds_tree.proofs.Least.{least-of_three}
+use Rattle.eds_tree.proofs.shape_rules.least_of_elements.Goals as goal
+
+pub returns : goal.returns
+returns c =
+    let ts = c.args.trees.now in
+    least-of_three (breaks_of breaks_unknown ts) (breaks_of breaks_unsupported ts) (breaks_of breaks_missing ts)
+    c.in_ok-unknown.unknown c.in_ok-unsupported.unsupported c.in_ok-missing.missing c.first.result c.first-2.result
+    c.in_ok-unknown.ensures c.in_ok-unsupported.ensures c.in_ok-missing.ensures c.first.ensures.first c.first-2.ensures.first
