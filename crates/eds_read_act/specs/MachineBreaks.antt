@@ -71,12 +71,17 @@ state_breaks file s state = flat_map (action_breaks file s) (state_actions s.tre
 abbrev pub lacks_entry : List Node → (machine : ℕ) → Bool
 lacks_entry t machine = not (length (entry_states t machine) == 1)
 
+-- all that breaks a rule in the states of a machine, which begins in exactly one of them
+abbrev pub state_breaks_of : (file : ℕ) → Scope → (machine : ℕ) → List Refusal
+state_breaks_of file s machine = broken_if BadMachine file machine (lacks_entry s.tree machine) ++ flat_map (state_breaks file s) (states_of s.tree machine)
+
+-- all that breaks a rule in the transitions of a machine
+abbrev pub transition_breaks_of : (file : ℕ) → Scope → (machine : ℕ) → List Refusal
+transition_breaks_of file s machine = flat_map (transition_breaks file s machine) (transitions_of s.tree machine)
+
 -- all that breaks a rule in a machine
 abbrev pub machine_breaks_at : (file : ℕ) → Scope → (machine : ℕ) → List Refusal
-machine_breaks_at file s machine =
-    broken_if BadMachine file machine (lacks_entry s.tree machine)
-    ++ flat_map (state_breaks file s) (states_of s.tree machine)
-    ++ flat_map (transition_breaks file s machine) (transitions_of s.tree machine)
+machine_breaks_at file s machine = state_breaks_of file s machine ++ transition_breaks_of file s machine
 
 -- all that breaks BadReference, TypeMismatch, BadMachine and BadTimer in the machines of a component, whose elements are given
 abbrev pub machine_breaks : (file : ℕ) → Scope → (nodes : List ℕ) → List Refusal

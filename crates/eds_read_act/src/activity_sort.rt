@@ -1,7 +1,7 @@
 //! What the elements of activities and machines are, told by their names.
 
 ghost use Rattle.std.specs.Prelude.{◌≡◌};
-ghost use Rattle.eds_read_act.specs.ActivitySorts.{sort_of, sort_at, is_operand};
+ghost use Rattle.eds_read_act.specs.ActivitySorts.{inner_sort_of, statement_sort_of, sort_of, sort_at, is_operand};
 
 use eds_tree::Tree;
 
@@ -34,7 +34,53 @@ pub(crate) enum ActivitySort {
     Other,
 }
 
-/// What an element of a name is.
+/// What an element of a name is that stands inside a statement.
+#[tactic(auto, unfolding(crate::specs::ActivitySorts::inner_sort_of))]
+fn inner_sort_of(name: &str) -> ActivitySort
+    ensures { result ≡ inner_sort_of name.now }
+{
+    if name == "Operator" {
+        ActivitySort::Operator
+    } else if name == "Comparison" {
+        ActivitySort::Comparison
+    } else if name == "ANDedConditions" {
+        ActivitySort::Every
+    } else if name == "ORedConditions" {
+        ActivitySort::Some
+    } else if name == "StartAt" || name == "EndAt" {
+        ActivitySort::Bound
+    } else if name == "Step" {
+        ActivitySort::Step
+    } else {
+        ActivitySort::Other
+    }
+}
+
+/// What an element of a name is: a statement, or what stands inside one.
+#[tactic(auto, unfolding(crate::specs::ActivitySorts::statement_sort_of))]
+fn statement_sort_of(name: &str) -> ActivitySort
+    ensures { result ≡ statement_sort_of name.now }
+{
+    if name == "Assignment" {
+        ActivitySort::Assignment
+    } else if name == "MathOperation" {
+        ActivitySort::Calculation
+    } else if name == "Conditional" {
+        ActivitySort::Choice
+    } else if name == "Iteration" {
+        ActivitySort::Iteration
+    } else if name == "Call" {
+        ActivitySort::Call
+    } else if name == "SendCommandPrimitive" {
+        ActivitySort::SendCommand
+    } else if name == "SendParameterPrimitive" {
+        ActivitySort::SendParameter
+    } else {
+        inner_sort_of(name)
+    }
+}
+
+/// What an element of a name is: an operand, an argument, an action, or what stands in an action.
 #[tactic(auto, unfolding(crate::specs::ActivitySorts::sort_of))]
 pub(crate) fn sort_of(name: &str) -> ActivitySort
     ensures { result ≡ sort_of name.now }
@@ -47,36 +93,10 @@ pub(crate) fn sort_of(name: &str) -> ActivitySort
         ActivitySort::ArgumentRef
     } else if name == "ArgumentValue" {
         ActivitySort::ArgumentValue
-    } else if name == "Assignment" {
-        ActivitySort::Assignment
-    } else if name == "MathOperation" {
-        ActivitySort::Calculation
-    } else if name == "Operator" {
-        ActivitySort::Operator
-    } else if name == "Conditional" {
-        ActivitySort::Choice
-    } else if name == "Comparison" {
-        ActivitySort::Comparison
-    } else if name == "ANDedConditions" {
-        ActivitySort::Every
-    } else if name == "ORedConditions" {
-        ActivitySort::Some
-    } else if name == "Iteration" {
-        ActivitySort::Iteration
-    } else if name == "StartAt" || name == "EndAt" {
-        ActivitySort::Bound
-    } else if name == "Step" {
-        ActivitySort::Step
-    } else if name == "Call" {
-        ActivitySort::Call
     } else if name == "OnEntry" || name == "OnExit" || name == "Do" {
         ActivitySort::Action
-    } else if name == "SendCommandPrimitive" {
-        ActivitySort::SendCommand
-    } else if name == "SendParameterPrimitive" {
-        ActivitySort::SendParameter
     } else {
-        ActivitySort::Other
+        statement_sort_of(name)
     }
 }
 

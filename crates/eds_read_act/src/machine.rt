@@ -6,7 +6,7 @@ ghost use Rattle.std.specs.Option.{option_copied};
 ghost use Rattle.eds_base.specs.Refusals.{least};
 ghost use Rattle.eds_read_act.specs.Activities.{bad_references_in, mismatches_in};
 ghost use Rattle.eds_read_act.specs.Machines.{state_actions as state_actions_in, guarded_and_done as guarded_and_done_in, transitions_of as transitions_in};
-ghost use Rattle.eds_read_act.specs.MachineBreaks.{lacks_state as state_lacks, cannot_leave as leaving_fails, is_bad_transition as transition_is_bad, event_breaks, mismatches_unless, breaks_inside, inner_breaks, transition_breaks, action_breaks, state_breaks, lacks_entry as entry_lacks, machine_breaks_at, machine_breaks};
+ghost use Rattle.eds_read_act.specs.MachineBreaks.{lacks_state as state_lacks, cannot_leave as leaving_fails, is_bad_transition as transition_is_bad, event_breaks, mismatches_unless, breaks_inside, inner_breaks, transition_breaks, action_breaks, state_breaks, lacks_entry as entry_lacks, state_breaks_of, transition_breaks_of, machine_breaks_at, machine_breaks};
 ghost use Rattle.eds_read_act.specs.Scopes.{scope_of, with_known, with_arguments};
 ghost use Rattle.eds_read_act.specs.Events.{carried_at};
 ghost use Rattle.eds_read_act.specs.States.{TellsStates};
@@ -337,6 +337,36 @@ fn lacks_entry(alloc: Global, tree: &Tree, machine: u32) -> Result<bool, Memory>
     Ok(entries.len() != 1)
 }
 
+// The least break in the states of a machine, of which it begins in exactly one.
+fn least_of_states(
+    alloc: Global,
+    file: u16,
+    scope: &Scope,
+    states: &States,
+) -> Result<Option<Refusal>, Memory>
+    requires { TellsStates scope.now.tree.now states.now }
+    ensures { IfOk result (λ r. r ≡ least (state_breaks_of file (scope_of scope.now) states.now.machine)) }
+{
+    let lacks = lacks_entry(alloc, scope.tree, states.machine)?;
+    let entry = broken_if(Rule::BadMachine, file, states.machine, lacks);
+    let at_states = least_over_states(alloc, file, scope, states.nodes.as_slice())?;
+    Ok(Refusal::first(entry, at_states))
+}
+
+// The least break in the transitions of a machine.
+fn least_of_transitions(
+    alloc: Global,
+    file: u16,
+    scope: &Scope,
+    states: &States,
+) -> Result<Option<Refusal>, Memory>
+    requires { TellsStates scope.now.tree.now states.now }
+    ensures { IfOk result (λ r. r ≡ least (transition_breaks_of file (scope_of scope.now) states.now.machine)) }
+{
+    let transitions = transitions_of(alloc, scope.tree, states.machine)?;
+    least_over_transitions(alloc, file, scope, states, transitions.as_slice())
+}
+
 fn least_at(
     alloc: Global,
     file: u16,
@@ -345,20 +375,10 @@ fn least_at(
 ) -> Result<Option<Refusal>, Memory>
     ensures { IfOk result (λ r. r ≡ least (machine_breaks_at file (scope_of scope.now) machine)) }
 {
-    let lacks = lacks_entry(alloc, scope.tree, machine)?;
-    let entry = broken_if(Rule::BadMachine, file, machine, lacks);
     let states = States::of(alloc, scope.tree, machine)?;
-    let at_states = least_over_states(alloc, file, scope, states.nodes.as_slice())?;
-    let transitions = transitions_of(alloc, scope.tree, machine)?;
-    let at_transitions = least_over_transitions(
-        alloc,
-        file,
-        scope,
-        &states,
-        transitions.as_slice(),
-    )?;
-    let found = Refusal::first(entry, at_states);
-    Ok(Refusal::first(found, at_transitions))
+    let at_states = least_of_states(alloc, file, scope, &states)?;
+    let at_transitions = least_of_transitions(alloc, file, scope, &states)?;
+    Ok(Refusal::first(at_states, at_transitions))
 }
 
 /// The least break of BadReference, TypeMismatch, BadMachine and BadTimer in the state machines of a component, whose elements are

@@ -1,11 +1,7 @@
-use Rattle.std.proofs.Common.{Bool, ap, ◌∙◌}
-use Rattle.std.specs.List.{flat_map}
+use Rattle.std.proofs.Common.{ap, ◌∙◌}
 use Rattle.eds_base.specs.Refusals.{least}
-use Rattle.eds_base.specs.declared.rule.Rule.TheVariants.{BadMachine}
-use Rattle.eds_tree.proofs.Least.{least-of_three}
-use Rattle.eds_read_act.specs.BadReference.{broken_if}
-use Rattle.eds_read_act.specs.MachineBreaks.{lacks_entry, state_breaks, transition_breaks}
-use Rattle.eds_read_act.specs.Machines.{states_of, transitions_of}
+use Rattle.eds_tree.proofs.Least.{least-joined}
+use Rattle.eds_read_act.specs.MachineBreaks.{state_breaks_of, transition_breaks_of}
 use Rattle.eds_read_act.specs.Scopes.{scope_of}
 use Rattle.eds_read_act.proofs.machine.least_at.Goals as goal
 
@@ -13,12 +9,9 @@ pub returns : goal.returns
 returns c =
     let s = scope_of c.args.scope.now in
     let file = c.args.file in
-    let m = c.args.machine in
     let told = c.in_ok-states.ensures in
-    least-of_three (broken_if BadMachine file m (lacks_entry s.tree m)) (flat_map (state_breaks file s) (states_of s.tree m)) (flat_map (transition_breaks file s m) (transitions_of s.tree m))
-    c.broken_if-entry.result c.in_ok-at_states.at_states c.in_ok-at_transitions.at_transitions c.first-found.result c.first.result
-    (c.broken_if-entry.ensures ∙ ap (λ (t : Bool). least (broken_if BadMachine file m t)) c.in_ok-lacks.ensures)
-    (c.in_ok-at_states.ensures ∙ ap (λ ns. least (flat_map (state_breaks file s) ns)) (c.as_slice.ensures.value ∙ told.states.nodes ∙ ap (states_of s.tree) told.machine))
-    (c.in_ok-at_transitions.ensures ∙ ap (λ k. least (flat_map (transition_breaks file s k) c.as_slice-2.result.now)) told.machine
-    ∙ ap (λ ns. least (flat_map (transition_breaks file s m) ns)) (c.as_slice-2.ensures.value ∙ c.in_ok-transitions.ensures))
-    c.first-found.ensures.first c.first.ensures.first
+    least-joined (state_breaks_of file s c.args.machine) (transition_breaks_of file s c.args.machine)
+    c.in_ok-at_states.at_states c.in_ok-at_transitions.at_transitions c.first.result
+    (c.in_ok-at_states.ensures ∙ ap (λ m. least (state_breaks_of file s m)) told.machine)
+    (c.in_ok-at_transitions.ensures ∙ ap (λ m. least (transition_breaks_of file s m)) told.machine)
+    c.first.ensures.first
