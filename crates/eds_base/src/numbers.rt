@@ -11,16 +11,12 @@ fn count_digits(octets: &[u8]) -> usize
     ensures digits { result ≡ prefix_len is_ascii_digit octets.now }
     ensures within { result ≤ length octets.now }
 {
-    let mut count = 0;
-    let mut rest = octets;
-    while let [first, after @ ..] = rest {
-        if !first.is_ascii_digit() {
+    for (count, octet) in octets.iter().enumerate() {
+        if !octet.is_ascii_digit() {
             return count;
         }
-        count += 1;
-        rest = after;
     }
-    count
+    octets.len()
 }
 
 fn all_digits(octets: &[u8]) -> bool
@@ -62,13 +58,11 @@ fn bounded_value(digits: &[u8]) -> Option<u128>
     ensures small { IfSome result (λ n. n ≤ 2 ^ 64) }
 {
     let mut value = 0;
-    let mut rest = digits;
-    while let [first, after @ ..] = rest {
-        value = 10 * value + first.saturating_sub(b'0') as u128;
+    for digit in digits {
+        value = 10 * value + digit.saturating_sub(b'0') as u128;
         if value > LIMIT {
             return None;
         }
-        rest = after;
     }
     Some(value)
 }
