@@ -33,11 +33,9 @@ fn end_fields(alloc: Global, end: &EndPlan) -> Result<EndFields, Memory>
     ensures { IfOk result (λ fs. fs ≡ fields_of_end end.now) }
 {
     let mut all = Items::new(alloc);
-    let mut rest = end.instance.members.as_slice();
-    while let [member, after @ ..] = rest {
+    for member in end.instance.members.as_slice() {
         let fields = member_fields(alloc, end.required, member)?;
         all.push(fields)?;
-        rest = after;
     }
     Ok(all)
 }
@@ -46,11 +44,9 @@ fn component_fields(alloc: Global, component: &ComponentPlan) -> Result<Items<En
     ensures { IfOk result (λ fs. fs ≡ fields_of_component component.now) }
 {
     let mut all = Items::new(alloc);
-    let mut rest = component.ends.as_slice();
-    while let [end, after @ ..] = rest {
+    for end in component.ends.as_slice() {
         let fields = end_fields(alloc, end)?;
         all.push(fields)?;
-        rest = after;
     }
     Ok(all)
 }
@@ -60,11 +56,9 @@ pub(crate) fn plan_fields(alloc: Global, plan: &Plan) -> Result<PlanFields, Memo
     ensures { IfOk result (λ fs. fs ≡ fields_of_plan plan.now) }
 {
     let mut all = Items::new(alloc);
-    let mut rest = plan.as_slice();
-    while let [component, after @ ..] = rest {
+    for component in plan.as_slice() {
         let fields = component_fields(alloc, component)?;
         all.push(fields)?;
-        rest = after;
     }
     Ok(all)
 }

@@ -105,15 +105,11 @@ pub(crate) fn given_arguments(
     requires known { AreFieldsKnown table.now fields.now }
     ensures { Answers (map plain) result (arguments_given table.now fields.now json.now) }
 {
-    match args_from_json(alloc, table, fields, json.as_bytes()) {
-        Err(fail) => Err(why_of(fail)),
-        Ok(values) => {
-            if all_pack(table, fields.as_slice(), &values) {
-                Ok(copied(alloc, &values)?)
-            } else {
-                Err(Fail::Named(LineWhy::Value))
-            }
-        }
+    let values = args_from_json(alloc, table, fields, json.as_bytes()).map_err(why_of)?;
+    if all_pack(table, fields.as_slice(), &values) {
+        Ok(copied(alloc, &values)?)
+    } else {
+        Err(Fail::Named(LineWhy::Value))
     }
 }
 
@@ -137,14 +133,10 @@ pub(crate) fn given_value(
     requires known { id.0 < length table.now }
     ensures { Answers (map plain) result (value_given table.now id.0 json.now) }
 {
-    match from_json(alloc, table, id, json.as_bytes()) {
-        Err(fail) => Err(why_of(fail)),
-        Ok(value) => {
-            if packs(table, id, &value) {
-                Ok(only_value(alloc, value)?)
-            } else {
-                Err(Fail::Named(LineWhy::Value))
-            }
-        }
+    let value = from_json(alloc, table, id, json.as_bytes()).map_err(why_of)?;
+    if packs(table, id, &value) {
+        Ok(only_value(alloc, value)?)
+    } else {
+        Err(Fail::Named(LineWhy::Value))
     }
 }

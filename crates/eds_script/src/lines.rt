@@ -54,10 +54,8 @@ fn cut(octets: &[u8]) -> Option<(&[u8], &[u8])>
     ensures shorter { IfSome result (λ p. length p.1.now < length octets.now) }
     ensures none { IfNone result (pieces octets.now ≡ octets.now ∷ []) }
 {
-    match feed_at(octets) {
-        Some(at) => Some((&octets[..at], &octets[at + 1..])),
-        None => None,
-    }
+    let at = feed_at(octets)?;
+    Some((&octets[..at], &octets[at + 1..]))
 }
 
 // Puts a line last, unless it is skipped.

@@ -119,10 +119,8 @@ fn tick_meaning<'a>(time: u64, number: &'a str) -> Result<Meaning<'a>, Fail<Line
     ensures value { Answers meaning_of result (meaning_of_tick time number.now) }
     ensures in_time { IfOk result (λ m. time + ticks_by (meaning_of m) < 2 ^ 63) }
 {
-    match tick_of(time, number) {
-        Ok(tick) => Ok(Meaning::Tick(tick)),
-        Err(why) => Err(Fail::Named(why)),
-    }
+    let tick = tick_of(time, number).map_err(Fail::Named)?;
+    Ok(Meaning::Tick(tick))
 }
 
 /// What a line means that says this, after so much time, and after another line than a wire line or after none.
@@ -144,10 +142,8 @@ pub(crate) fn saying_meaning<'a>(
         Saying::Ties(lower, upper) => tie_meaning(late, lower, upper),
         Saying::Ticks(number) => tick_meaning(time, number),
         Saying::Arrives(verb, end, name, rest) => {
-            match arrival_line(alloc, setting, verb, end, name, rest) {
-                Ok(line) => Ok(Meaning::Comes(line)),
-                Err(fail) => Err(fail),
-            }
+            let line = arrival_line(alloc, setting, verb, end, name, rest)?;
+            Ok(Meaning::Comes(line))
         }
     }
 }

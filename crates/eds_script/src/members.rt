@@ -38,13 +38,11 @@ pub(crate) fn find_command(members: &[Member], name: &str) -> Result<Option<u16>
     ensures { IfOk result (λ p. p ≡ command_place name.now 0 members.now) }
 {
     let mut place: u16 = 0;
-    let mut rest = members;
-    while let [member, after @ ..] = rest {
+    for member in members {
         if let Some(found) = as_command(member, place, name) {
             return Ok(Some(found));
         }
         place = place.checked_add(1).ok_or(Memory)?;
-        rest = after;
     }
     Ok(None)
 }
@@ -73,13 +71,11 @@ pub(crate) fn find_parameter(members: &[Member], name: &str) -> Result<Option<Pa
     ensures { IfOk result (λ m. option_map parameter_of m ≡ parameter_from name.now 0 members.now) }
 {
     let mut place: u16 = 0;
-    let mut rest = members;
-    while let [member, after @ ..] = rest {
+    for member in members {
         if let Some(found) = as_parameter(member, place, name) {
             return Ok(Some(found));
         }
         place = place.checked_add(1).ok_or(Memory)?;
-        rest = after;
     }
     Ok(None)
 }
@@ -137,10 +133,8 @@ pub(crate) fn carried_fields(
     ensures { IfOk result (λ fs. fs ≡ carried_of way arguments.now) }
 {
     let mut fields = FieldList::new(alloc);
-    let mut rest = arguments;
-    while let [argument, after @ ..] = rest {
+    for argument in arguments {
         push_field(alloc, &mut fields, way, argument)?;
-        rest = after;
     }
     Ok(fields)
 }

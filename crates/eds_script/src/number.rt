@@ -32,13 +32,11 @@ fn bounded_value(digits: &[u8]) -> Option<u64>
     ensures small { IfSome result (λ n. n ≤ 10 ^ 18) }
 {
     let mut value = 0;
-    let mut rest = digits;
-    while let [first, after @ ..] = rest {
-        value = 10 * value + u64::from(first.saturating_sub(b'0'));
+    for digit in digits {
+        value = 10 * value + u64::from(digit.saturating_sub(b'0'));
         if value > LONGEST_TICK {
             return None;
         }
-        rest = after;
     }
     Some(value)
 }

@@ -105,10 +105,8 @@ fn line_meaning<'a>(
     ensures value { Answers meaning_of result (line_says setting.now.table.now setting.now.plan.now (is_among (map string_bytes setting.now.wired.now.keys)) late time line.now.text.now) }
     ensures in_time { IfOk result (λ m. time + ticks_by (meaning_of m) < 2 ^ 63) }
 {
-    match form(line.text) {
-        Ok(saying) => saying_meaning(alloc, setting, late, time, saying),
-        Err(why) => Err(Fail::Named(why)),
-    }
+    let saying = form(line.text).map_err(Fail::Named)?;
+    saying_meaning(alloc, setting, late, time, saying)
 }
 
 // Whether a wire is late behind a line that means this.

@@ -67,10 +67,8 @@ pub(crate) fn wired_ends(alloc: Global, lines: &[ScriptLine<'_>]) -> Result<EndS
     ensures { IfOk result (λ s. (q : List ℕ) → is_among (map string_bytes s.keys) q ≡ wired_in (map line_of lines.now) q) }
 {
     let mut ends = IndexSet::new(alloc);
-    let mut rest = lines;
-    while let [line, after @ ..] = rest {
+    for line in lines {
         note_line(alloc, &mut ends, line.text)?;
-        rest = after;
     }
     Ok(ends)
 }

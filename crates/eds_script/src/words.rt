@@ -32,10 +32,8 @@ pub(crate) enum Saying<'a> {
 fn word_and_rest(text: &str) -> Option<(&str, &str)>
     ensures { option_map (λ p. (p.0.now, p.1.now)) result ≡ first_of text.now }
 {
-    match text.split_once(' ') {
-        Some((first, rest)) => Some((first, rest)),
-        None => None,
-    }
+    let (first, rest) = text.split_once(' ')?;
+    Some((first, rest))
 }
 
 // A last word.

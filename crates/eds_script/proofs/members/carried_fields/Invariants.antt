@@ -1,9 +1,6 @@
-use Rattle.std.proofs.Common.{◌≡◌, ◌++◌, length}
+use Rattle.std.proofs.Common.{◌≡◌, ◌++◌, drop}
 use Rattle.eds_plan.specs.Carried.{carried_fields}
 use Rattle.eds_script.proofs.members.carried_fields.Given as goal
 
-abbrev pub invariant-loop-rest : goal.invariant-loop-rest
-invariant-loop-rest l = l.fields ++ carried_fields l.way l.rest ≡ carried_fields l.way l.arguments
-
-abbrev pub decreases-loop-rest : goal.decreases-loop-rest
-decreases-loop-rest l = length l.rest
+abbrev pub invariant-loop-argument : goal.invariant-loop-argument
+invariant-loop-argument l = l.fields ++ carried_fields l.way (drop l.argument-index l.arguments) ≡ carried_fields l.way l.arguments

@@ -1,9 +1,6 @@
-use Rattle.std.proofs.Common.{◌≡◌, length}
+use Rattle.std.proofs.Common.{◌≡◌, drop}
 use Rattle.eds_script.specs.Members.{command_from}
 use Rattle.eds_script.proofs.members.find_command.Given as goal
 
-abbrev pub invariant-loop-rest : goal.invariant-loop-rest
-invariant-loop-rest l = command_from l.name l.place l.rest ≡ command_from l.name 0 l.members
-
-abbrev pub decreases-loop-rest : goal.decreases-loop-rest
-decreases-loop-rest l = length l.rest
+abbrev pub invariant-loop-member : goal.invariant-loop-member
+invariant-loop-member l = command_from l.name l.place (drop l.member-index l.members) ≡ command_from l.name 0 l.members
