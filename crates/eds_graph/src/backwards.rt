@@ -11,14 +11,7 @@ use std::alloc::Global;
 fn is_child(graph: &Graph, number: usize, parent: usize) -> bool
     ensures { result ≡ is_child_in graph.now number parent }
 {
-    let mut rest = graph.children(parent);
-    while let [child, after @ ..] = rest {
-        if *child == number {
-            return true;
-        }
-        rest = after;
-    }
-    false
+    graph.children(parent).iter().any(|child| *child == number)
 }
 
 /// Puts a number last, where it leads to another in one step.

@@ -87,9 +87,6 @@ impl<T: Copy> Stack<T> {
     pub(crate) fn top(&self) -> Option<T>
         ensures { result ≡ top_of self.now }
     {
-        match self.inner.last() {
-            None => None,
-            Some(item) => Some(*item),
-        }
+        self.inner.last().copied()
     }
 }
