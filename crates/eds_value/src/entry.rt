@@ -44,10 +44,8 @@ fn entry_by(container: TypeId, place: u16, part: &Part) -> Option<Entry<'_>>
 fn entry_at(table: &TypeTable, container: TypeId, place: u16) -> Option<Entry<'_>>
     ensures { option_map seen result ≡ entry_in table.now (container, place) }
 {
-    match table.part_at(container, place) {
-        Some(part) => entry_by(container, place, part),
-        None => None,
-    }
+    let part = table.part_at(container, place)?;
+    entry_by(container, place, part)
 }
 
 fn push_entry<'a>(entries: &mut Items<Entry<'a>>, entry: Option<Entry<'a>>) -> Result<(), Memory>
@@ -69,10 +67,8 @@ pub fn entries_along<'a>(
 {
     let sequence = table.sequence_of(alloc, id)?;
     let mut entries = Items::from_vec(Vec::with_capacity(alloc, sequence.len())?);
-    let mut rest = sequence.as_slice();
-    while let [(container, place), after @ ..] = rest {
+    for (container, place) in sequence.as_slice() {
         push_entry(&mut entries, entry_at(table, *container, *place))?;
-        rest = after;
     }
     Ok(entries)
 }

@@ -24,10 +24,8 @@ fn whole(json: &Json) -> Option<i128>
     if let Some(number) = json.as_u64() {
         return Some(number as i128);
     }
-    match json.as_i64() {
-        Some(number) => Some(number as i128),
-        None => None,
-    }
+    let number = json.as_i64()?;
+    Some(number as i128)
 }
 
 // The octets of a text of hex digits in either case.
@@ -136,10 +134,7 @@ fn container_named(table: &TypeTable, id: TypeId, json: &Json) -> Option<TypeId>
 {
     match json.get("$type") {
         None => Some(id),
-        Some(name) => match name.as_str() {
-            Some(word) => named(table, word),
-            None => None,
-        },
+        Some(name) => named(table, name.as_str()?),
     }
 }
 
@@ -194,16 +189,14 @@ fn items_from(
 {
     table.keeps_rules();
     let mut values = Vec::new(alloc);
-    let mut rest = items;
     let mut place: u32 = 0;
-    while let [json, after @ ..] = rest {
+    for json in items {
         match value_within(alloc, table, depth, id, json) {
             Ok(value) => values.push(value)?,
             Err(stop) => return Err(behind(Step::Item(place), stop)),
         }
         // a text of JSON has fewer octets than that
         place = place.checked_add(1).ok_or(Memory)?;
-        rest = after;
     }
     Ok(values)
 }
@@ -277,11 +270,9 @@ fn member_values(
     ensures { Answers (λ vs. map plain vs.items) result (values_of_members table.now (value_in depth table.now) (view json.now) (map seen entries.now)) }
 {
     let mut values = Vec::new(alloc);
-    let mut rest = entries;
-    while let [entry, after @ ..] = rest {
+    for entry in entries {
         let value = member_value(alloc, table, depth, json, entry)?;
         values.push(value)?;
-        rest = after;
     }
     Ok(values)
 }

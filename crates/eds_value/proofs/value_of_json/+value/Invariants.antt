@@ -1,4 +1,4 @@
-use Rattle.std.proofs.Common.{◌≡◌, ◌+◌, ◌*◌, length, map}
+use Rattle.std.proofs.Common.{◌≡◌, ◌+◌, ◌*◌, drop, map}
 use Rattle.serde_json.specs.View.{items_view, view}
 use Rattle.eds_types.specs.Plain.{plain}
 use Rattle.eds_value.specs.Seen.{seen}
@@ -33,16 +33,10 @@ decreases-fields_in l = 12 * l.depth + 7
 abbrev pub decreases-value_by : goal.decreases-value_by
 decreases-value_by l = 12 * l.depth + 8
 
-abbrev pub invariant-items_from-loop-rest : goal.invariant-items_from-loop-rest
-invariant-items_from-loop-rest l =
-    put_before (map plain l.values.items) (items_from l.table (value_within l.depth l.table) l.id.0 l.place (items_view l.rest)) ≡ items_from l.table (value_within l.depth l.table) l.id.0 0 (items_view l.items)
+abbrev pub invariant-items_from-loop-json : goal.invariant-items_from-loop-json
+invariant-items_from-loop-json l =
+    put_before (map plain l.values.items) (items_from l.table (value_within l.depth l.table) l.id.0 l.place (items_view (drop l.json-index l.items))) ≡ items_from l.table (value_within l.depth l.table) l.id.0 0 (items_view l.items)
 
-abbrev pub decreases-items_from-loop-rest : goal.decreases-items_from-loop-rest
-decreases-items_from-loop-rest l = length l.rest
-
-abbrev pub invariant-member_values-loop-rest : goal.invariant-member_values-loop-rest
-invariant-member_values-loop-rest l =
-    put_before (map plain l.values.items) (member_values l.table (value_within l.depth l.table) (view l.json) (map seen l.rest)) ≡ member_values l.table (value_within l.depth l.table) (view l.json) (map seen l.entries)
-
-abbrev pub decreases-member_values-loop-rest : goal.decreases-member_values-loop-rest
-decreases-member_values-loop-rest l = length l.rest
+abbrev pub invariant-member_values-loop-entry : goal.invariant-member_values-loop-entry
+invariant-member_values-loop-entry l =
+    put_before (map plain l.values.items) (member_values l.table (value_within l.depth l.table) (view l.json) (map seen (drop l.entry-index l.entries))) ≡ member_values l.table (value_within l.depth l.table) (view l.json) (map seen l.entries)
