@@ -8,7 +8,6 @@ pub mod Fitted
 pub mod Leading
 pub mod Sameness
 pub mod OneOutcome
-pub mod Seeking
 pub mod Starting
 pub mod Whole
 pub mod Working

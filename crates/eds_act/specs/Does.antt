@@ -1,10 +1,10 @@
 -- What an activity does.
 use Rattle.std.specs.Prelude.{◌≡◌, ℕ, zero, suc, ◌+◌, ◌-◌, ℤ, pos, neg_ℤ, ◌^◌, ◌+ℤ◌, ◌-ℤ◌, ◌*ℤ◌, int_le, int_lt, List, [], ◌∷◌, ◌++◌, map, Bool, true, false, not, ◌&&◌, ◌==◌, Option, Some, None, Result, Ok, Err, option_map, option_and_then, option_to_list, slice_get, slice_set, if◌then◌else◌, IsTrue, ◌↔◌}
 use Rattle.eds_base.specs.declared.ids.TypeId.{TypeId}
-use Rattle.eds_types.specs.Rows.{Table, Placed, sequence}
-use Rattle.eds_types.specs.Fields.{has_value}
+use Rattle.eds_types.specs.Rows.{Table, sequence}
 use Rattle.eds_types.specs.Plain.{Plain, num, label, truth, text, bits, items, fields, plain, Plains, list_of as plains_in, plains_of}
 use Rattle.eds_types.specs.Plain as plains
+use Rattle.eds_types.specs.Seeking.{along, seek}
 use Rattle.eds_base.specs.Reading.{same as same_text}
 use Rattle.eds_pack.specs.Packs.{Packs}
 use Rattle.eds_plan.specs.declared.activity.Operand.{Operand}
@@ -97,32 +97,6 @@ number_of (Some (fields k vs)) = None
 
 -- ---- entries of containers
 
--- looking for the part at place i of the container y: the number of values before it, or of all values
-abbrev pub seek : List Placed → ℕ → ℕ → ℕ → Result ℕ ℕ
-seek [] n y i = Err n
-seek (p ∷ ps) n y i = if has_value p.part then (if p.container == y && p.place == i then Ok n else seek ps (n + 1) y i) else seek ps n y i
-
--- the value that a container's value has for an entry
-abbrev pub nth : List Plain → Result ℕ ℕ → Option Plain
-nth vs (Ok n) = slice_get vs n
-nth vs (Err n) = None
-
--- the value of an entry of a container
-abbrev pub field_of : Table → Plain → TypeId × ℕ → Option Plain
-field_of t (num n) p = None
-field_of t (label l) p = None
-field_of t (truth b) p = None
-field_of t (text s) p = None
-field_of t (bits n o) p = None
-field_of t (items vs) p = None
-field_of t (fields k vs) p = nth (plains_in vs) (seek (sequence t k) 0 (p.0).0 p.1)
-
--- the value of the entry that a path leads to, or the whole
-abbrev pub entry_of : Table → Option Plain → List (TypeId × ℕ) → Option Plain
-entry_of t v [] = v
-entry_of t None (p ∷ path) = None
-entry_of t (Some v) (p ∷ path) = entry_of t (field_of t v p) path
-
 -- a container's values with another one at a place
 abbrev pub put_back : ℕ → List Plain → ℕ → Option Plain → Option Plain
 put_back k vs n None = None
@@ -156,8 +130,8 @@ targeted t vars x (Some new) = option_and_then (λ v. with_entry t x.path v new)
 -- the value of an operand
 abbrev pub value_of : Table → List Plain → List Plain → Operand → Option Plain
 value_of t args vars (source.Value v) = Some (plain v)
-value_of t args vars (source.Variable x path) = entry_of t (slice_get vars x) path
-value_of t args vars (source.Argument i path) = entry_of t (slice_get args i) path
+value_of t args vars (source.Variable x path) = along t (slice_get vars x) path
+value_of t args vars (source.Argument i path) = along t (slice_get args i) path
 
 -- ---- conditions
 

@@ -2,8 +2,7 @@
 use Rattle.std.specs.Prelude.{◌≡◌, ℕ, suc, ◌<◌, ◌+ℤ◌, ◌-◌, List, [], ◌∷◌, ◌++◌, length, map, Bool, Option, Some, None, Result, Ok, Err, slice_get}
 use Rattle.eds_base.specs.declared.fail.Memory.{Memory}
 use Rattle.eds_base.specs.declared.ids.TypeId.{TypeId}
-use Rattle.std.specs.List.{flat_map}
-use Rattle.eds_types.specs.Rows.{Table, Placed, placed_entries, placed_trailers}
+use Rattle.eds_types.specs.Rows.{Table}
 use Rattle.eds_types.specs.Plain.{Plain, plain}
 use Rattle.eds_plan.specs.declared.activity.Activity.{Activity}
 use Rattle.eds_plan.specs.declared.component.ComponentPlan.{ComponentPlan}
@@ -104,13 +103,3 @@ pub record Runs (t : Table) (number : ℕ) (c : ComponentPlan) (a : Activity) (a
   pub out : List Sent
   pub appended : after ≡ before ++ out
   pub does : Does t number c (stmts a.body) args vars waiting (budget - l) vars' waiting' out (budget - m) end
-
--- ---- sequences
-
--- the entries of some types, one after the other
-abbrev pub entries_along : Table → List TypeId → List Placed
-entries_along t ids = flat_map (λ (id : TypeId). placed_entries t id.0) ids
-
--- the trailers of some types, one after the other
-abbrev pub trailers_along : Table → List TypeId → List Placed
-trailers_along t ids = flat_map (λ (id : TypeId). placed_trailers t id.0) ids

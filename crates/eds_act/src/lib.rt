@@ -7,7 +7,6 @@ mod arguments;
 mod check;
 mod copy;
 mod ending;
-mod entry;
 mod event;
 mod guard;
 pub mod law;

@@ -7,8 +7,7 @@ ghost use Rattle.eds_types.specs.Plain.{plain};
 ghost use Rattle.eds_types.specs.Reading.{number_within, holds};
 ghost use Rattle.eds_types.specs.Seeking.{first_on};
 
-use crate::seek::value_along;
-use crate::{Constraint, Kind, TypeRow, TypeTable, Value, number_of_label};
+use crate::{Constraint, Kind, TypeRow, TypeTable, Value, number_of_label, value_along};
 use eds_base::{Spans, TypeId};
 
 /// The number of a label of the type in a row.

@@ -30,7 +30,7 @@ pub use row::{
     Constraint, Constraints, Container, EntryPath, Kind, Listing, Part, Parts, TypeRow, TypeRows,
     Used,
 };
-pub use seek::value_of;
+pub use seek::{place_of, value_along, value_of};
 pub use sequence::Sequence;
 pub use sets::{PathSet, Sets};
 pub use table::TypeTable;

@@ -1,6 +1,6 @@
 //! Where the values of a container stand, and what paths lead to.
 
-ghost use Rattle.std.specs.Prelude.{◌≡◌, ◌≤◌, ◌<◌, ◌+◌, ◌^◌, ◌*◌, length, map, reverse, IfErr, option_map, slice_get};
+ghost use Rattle.std.specs.Prelude.{◌≡◌, ◌≤◌, ◌<◌, ◌+◌, ◌^◌, ◌*◌, length, map, reverse, IfErr, option_map};
 ghost use Rattle.std.specs.Option.{option_copied};
 ghost use Rattle.eds_types.specs.Fields.{fields_in, paired, value_at};
 ghost use Rattle.eds_types.specs.Plain.{plain};
@@ -81,9 +81,10 @@ fn seek_trailers(
     Err(n)
 }
 
-/// How many values stand before that of a part in the sequence of a container, or how many there are where the part is
-/// none of them.
-fn place_of(table: &TypeTable, own: TypeId, wanted: (TypeId, u16)) -> Result<usize, usize>
+/// Where the value of a part stands among the values of the container `own`: how many stand before it. The part is told by
+/// the container that has it, and its position among that container's entries and then its trailers. Err says that it is
+/// no part of `own` with a value, and tells how many of these there are.
+pub fn place_of(table: &TypeTable, own: TypeId, wanted: (TypeId, u16)) -> Result<usize, usize>
     ensures { result ≡ seek (sequence table.now own.0) 0 wanted.0.0 wanted.1 }
 {
     let chain = table.chain_of(own);
@@ -93,23 +94,15 @@ fn place_of(table: &TypeTable, own: TypeId, wanted: (TypeId, u16)) -> Result<usi
     }
 }
 
-/// The value at a place.
-fn value_in(values: &[Value], place: usize) -> Option<&Value>
-    ensures { option_map plain (option_copied result) ≡ slice_get (map plain values.now) place }
-{
-    values.get(place)
-}
-
+/// The value at a place that was found.
 fn nth(values: &[Value], place: Result<usize, usize>) -> Option<&Value>
     ensures { option_map plain (option_copied result) ≡ nth (map plain values.now) place }
 {
-    match place {
-        Ok(place) => value_in(values, place),
-        Err(_) => None,
-    }
+    values.get(place.ok()?)
 }
 
-/// The value of a part among the values of the container `own`.
+/// The value of a part among the values of the container `own`, None where it is no part of `own` with a value, or the
+/// values end before it.
 pub fn value_of<'a>(
     table: &TypeTable,
     own: TypeId,
@@ -135,8 +128,10 @@ fn field_of<'a>(
     }
 }
 
-/// The value that a path leads to from a value.
-pub(crate) fn value_along<'a>(
+/// The value that a path leads to: each step goes on to the value of a part in the fields of the container that was reached.
+/// An empty path leads to the value itself. None where there is no value to begin with, or a step finds none.
+#[inline(always)]
+pub fn value_along<'a>(
     table: &TypeTable,
     value: Option<&'a Value>,
     path: &[(TypeId, u16)],
