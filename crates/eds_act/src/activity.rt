@@ -9,12 +9,11 @@ ghost use Rattle.eds_act.specs.Does.{AllConform, budget};
 ghost use Rattle.eds_act.specs.Running.{Fits, HasConforming, Runs};
 
 use crate::ActEnd;
-use crate::copy::copied_all;
 use crate::event::Event;
 use crate::run::{frame_of, run_frames};
 use eds_base::{CompId, Items, Memory};
 use eds_plan::{Activity, CompState, ComponentPlan, Plan, Sends, Values};
-use eds_types::{TypeTable, Value, law};
+use eds_types::{TypeTable, Value, copy_all, law};
 use std::alloc::Global;
 use std::mem;
 
@@ -53,7 +52,7 @@ fn run_body(
 {
     table.keeps_rules();
     law::packing_is_decided();
-    let arguments = copied_all(alloc, arguments)?;
+    let arguments = copy_all(alloc, arguments)?;
     let frame = frame_of(alloc, arguments, activity)?;
     run_frames(alloc, table, component, frame, event)
 }

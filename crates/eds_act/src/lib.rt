@@ -5,7 +5,6 @@ mod action;
 mod activity;
 mod arguments;
 mod check;
-mod copy;
 mod ending;
 mod event;
 mod guard;

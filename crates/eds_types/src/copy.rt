@@ -13,8 +13,9 @@ fn copy_octets(alloc: Global, octets: &Octets) -> Result<Octets, Memory>
     Ok(Items::from_vec(octets.as_slice().to_vec(alloc)?))
 }
 
+/// Values once more, in order.
 #[cycle(copy)]
-fn copy_all(alloc: Global, values: &[Value]) -> Result<Vec<Value>, Memory>
+pub fn copy_all(alloc: Global, values: &[Value]) -> Result<Vec<Value>, Memory>
     ensures { IfOk result (λ vs. map plain vs.items ≡ map plain values.now) }
 {
     let mut all = Vec::new(alloc);

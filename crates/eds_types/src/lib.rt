@@ -25,6 +25,7 @@ mod values;
 pub use binary::is_binary;
 pub use chain::Chain;
 pub use condition::{holds_from, row_of};
+pub use copy::copy_all;
 pub use reason::PackReason;
 pub use row::{
     Constraint, Constraints, Container, EntryPath, Kind, Listing, Part, Parts, TypeRow, TypeRows,
