@@ -1,5 +1,5 @@
 -- Ends by their texts.
-use Rattle.std.proofs.Common.{◌≡◌, ℕ, ◌+◌, ◌-◌, ◌≤◌, length, take, drop, get_or, arith, Bool, true, false, List, [], ◌∷◌, ◌++◌, Option, Some, None, is_some, refl, sym, ap, ◌∙◌}
+use Rattle.std.proofs.Common.{◌≡◌, ℕ, ◌+◌, ◌-◌, ◌<◌, ◌≤◌, length, take, drop, drop-cons, add-one, get_or, arith, Bool, true, false, List, [], ◌∷◌, ◌++◌, Option, Some, None, is_some, refl, sym, ap, ◌∙◌}
 use Rattle.std.specs.Bool.{one_answer}
 use Rattle.std.specs.Map.{update}
 use Rattle.std.specs.Str.{bytes_eq}
@@ -58,6 +58,10 @@ first_append (x ∷ xs) ys q = ap (or_else (end_called x q)) (first_append xs ys
 pub opened : {A : Type 0} (xs : List A) (x d : A) → 1 ≤ length xs → x ≡ get_or xs 0 d → xs ≡ x ∷ take (length xs - 1) (drop 1 xs)
 opened [] x d some is = absurd (omega arith)
 opened (y ∷ ys) x d some is = rw is (ap (λ zs. y ∷ zs) (sym (take_all (length (y ∷ ys) - 1) ys (omega arith))))
+
+-- the same of what stands from a place on
+pub opened_at : {A : Type 0} (xs : List A) (i : ℕ) (x : A) → i < length xs → x ≡ get_or xs i x → drop i xs ≡ x ∷ drop (i + 1) xs
+opened_at xs i x lt is = drop-cons xs i x lt ∙ rw (add-one, ← is) refl
 
 -- the ends of one component more
 pub ends-more : (q : List ℕ) (old new : Option End) (n m : ℕ) (c : ComponentPlan) (rest after : List ComponentPlan) (whole : Option End)

@@ -41,8 +41,7 @@ fn note_ends(
     ensures { OnOk result ((q : List ℕ) → get_by_text index.new q ≡ or_else (get_by_text index.old q) (first_called (ends_from component.now.name comp 0 component.now.ends) q)) }
 {
     let mut face: u16 = 0;
-    let mut rest = component.ends.as_slice();
-    while let [end, after @ ..] = rest {
+    for end in component.ends.as_slice() {
         let text = end_text(alloc, component.name.as_str(), end.name.as_str())?;
         let end = End {
             comp: CompId(comp),
@@ -50,7 +49,6 @@ fn note_ends(
         };
         note_end(index, text, end)?;
         face = face.checked_add(1).ok_or(Memory)?;
-        rest = after;
     }
     Ok(())
 }
@@ -61,11 +59,9 @@ pub fn index_ends(alloc: Global, plan: &Plan) -> Result<EndIndex, Memory>
 {
     let mut index = IndexMap::new(alloc);
     let mut comp: u32 = 0;
-    let mut rest = plan.as_slice();
-    while let [component, after @ ..] = rest {
+    for component in plan.as_slice() {
         note_ends(alloc, &mut index, comp, component)?;
         comp = comp.checked_add(1).ok_or(Memory)?;
-        rest = after;
     }
     Ok(index)
 }

@@ -52,10 +52,8 @@ impl<T: Drop> SharedItems<T> {
     pub fn new(alloc: Global, items: Items<T>) -> Result<SharedItems<T>, Memory>
         ensures { IfOk result (λ s. s ≡ items) }
     {
-        match Rc::new(alloc, items) {
-            Ok(inner) => Ok(SharedItems { inner }),
-            Err(_) => Err(Memory),
-        }
+        let inner = Rc::new(alloc, items)?;
+        Ok(SharedItems { inner })
     }
 
     /// The same items for another owner, with no copy.
