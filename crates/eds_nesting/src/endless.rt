@@ -59,10 +59,7 @@ fn marks_of(
 fn mark_at(marks: &[bool], name: usize) -> bool
     ensures { result ≡ mark marks.now name }
 {
-    match marks.get(name) {
-        None => false,
-        Some(marked) => *marked,
-    }
+    marks.get(name).copied().unwrap_or(false)
 }
 
 fn marked(alloc: Global, marks: &[bool], families: &[usize]) -> Result<Vec<bool>, Memory>

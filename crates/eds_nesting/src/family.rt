@@ -13,20 +13,14 @@ use std::alloc::Global;
 pub(crate) fn base(rows: &[TypeRow], id: usize) -> Option<TypeId>
     ensures { option_map (λ (b : type_id). b.0) result ≡ base_of rows.now id }
 {
-    match rows.get(id) {
-        None => None,
-        Some(row) => row.base,
-    }
+    rows.get(id)?.base
 }
 
 /// Whether a type has a base.
 pub(crate) fn has_base(rows: &[TypeRow], id: usize) -> bool
     ensures { result ≡ is_some (base_of rows.now id) }
 {
-    match base(rows, id) {
-        None => false,
-        Some(_) => true,
-    }
+    base(rows, id).is_some()
 }
 
 /// The last of the bases of a type.
