@@ -1,9 +1,10 @@
 -- The common numbers that are gathered path by path are those that are worked out.
-use Rattle.std.proofs.Common.{◌≡◌, ℕ, ◌-◌, ◌≤◌, length, get_or, take, drop, Bool, true, false, cond, List, [], ◌∷◌, ◌++◌, map, Option, Some, None, refl, sym, ap, subst, ◌∙◌, append_assoc, append-nil, inl, inr}
+use Rattle.std.proofs.Common.{◌≡◌, ℕ, ◌<◌, ◌+◌, ◌-◌, length, get_or, drop, Bool, true, false, cond, List, [], ◌∷◌, ◌++◌, map, Option, Some, None, refl, sym, ap, subst, ◌∙◌, append_assoc, append-nil, inl, inr}
 use Rattle.std.specs.Prelude.{ℤ, filter, flat_map, fold, not, ◌⊎◌}
 use Rattle.std.specs.List.{AllByRecursion}
 use Rattle.std.proofs.lemmas.Bool.{both_ways}
 use Rattle.std.proofs.lemmas.Grind.{flat_map-append}
+use Rattle.std.proofs.lemmas.List.{drop_more}
 use Rattle.std.proofs.lemmas.List.Elements.{filter-append}
 use Rattle.eds_base.specs.declared.ids.TypeId.{TypeId}
 use Rattle.eds_bits.specs.Lists.{HasOne}
@@ -20,7 +21,7 @@ use Rattle.eds_overlap.specs.Pairs.{Steps, AreSets, constraints_among, same_path
 use Rattle.eds_overlap.proofs.CommonNumbers.{same_least}
 use Rattle.eds_overlap.proofs.Gathering.{is_on-one, one-is_on, sorted_to, sorted_new}
 use Rattle.eds_overlap.proofs.Meeting.{one_before}
-use Rattle.eds_overlap.proofs.Solutions.{rest_is, same_is, same_not}
+use Rattle.eds_overlap.proofs.Solutions.{same_is, same_not}
 
 pub fold-append : {A B : Type 0} (f : B → A → B) (b : B) (xs ys : List A) → fold f b (xs ++ ys) ≡ fold f (fold f b xs) ys
 fold-append f b [] ys = refl
@@ -190,13 +191,13 @@ module _ (t : Table) (x : ℕ) (least : Steps → Option ℤ) where
 -- ---- the constraints of some types
 
 -- those of one type more
-pub among_next : (t : Table) (x : ℕ) (least : Steps → Option ℤ) (rest : List TypeId) (id : TypeId) (own : List Constraint) (mid new whole : List Common) → id ≡ get_or rest 0 id → 1 ≤ length rest → own ≡ constraints_of t id.0 → new ≡ with_paths t x least mid own
-    → with_paths t x least mid (constraints_among t rest) ≡ whole → with_paths t x least new (constraints_among t (take (length rest - 1) (drop 1 rest))) ≡ whole
-among_next t x least rest id own mid new whole e l is added all =
-    let left : List Constraint = constraints_among t (take (length rest - 1) (drop 1 rest)) in
+pub among_next : (t : Table) (x : ℕ) (least : Steps → Option ℤ) (ids : List TypeId) (i : ℕ) (d : TypeId) (own : List Constraint) (mid new whole : List Common) → i < length ids → own ≡ constraints_of t (get_or ids i d).0 → new ≡ with_paths t x least mid own
+    → with_paths t x least mid (constraints_among t (drop i ids)) ≡ whole → with_paths t x least new (constraints_among t (drop (i + 1) ids)) ≡ whole
+among_next t x least ids i d own mid new whole l is added all =
+    let left : List Constraint = constraints_among t (drop (i + 1) ids) in
     ap (λ common. with_paths t x least common left) (added ∙ ap (with_paths t x least mid) is)
-    ∙ sym (fold-append (λ old (c : Constraint). with_path t x least old c.path) mid (constraints_of t id.0) left)
-    ∙ ap (λ ids. with_paths t x least mid (constraints_among t ids)) (sym (rest_is rest id e l))
+    ∙ sym (fold-append (λ old (c : Constraint). with_path t x least old c.path) mid (constraints_of t (get_or ids i d).0) left)
+    ∙ ap (λ rest. with_paths t x least mid (constraints_among t rest)) (sym (drop_more ids i d l))
     ∙ all
 
 -- ---- by the sets of two containers

@@ -1,9 +1,10 @@
 -- Containers that are listed apart don't overlap.
-use Rattle.std.proofs.Common.{◌≡◌, ℕ, zero, suc, ◌+◌, ◌<◌, ◌≤◌, ℤ, Bool, true, false, cond, List, [], ◌∷◌, ◌++◌, length, map, get_or, take, drop, ◌-◌, Option, Some, None, refl, sym, ap, subst, ◌∙◌, append_assoc, arith, inl, inr}
+use Rattle.std.proofs.Common.{◌≡◌, ℕ, zero, suc, ◌+◌, ◌<◌, ◌≤◌, ℤ, Bool, true, false, cond, List, [], ◌∷◌, ◌++◌, length, map, get_or, take, ◌-◌, Option, Some, None, refl, sym, ap, subst, ◌∙◌, arith, inl, inr}
 use Rattle.std.specs.Prelude.{◌≢◌, ◌⊎◌, slice_get, is_some, IfSome, IfNone, IsTrue, bytes_eq}
 use Rattle.std.specs.Ordering.{int_eq}
 use Rattle.std.proofs.lemmas.Bool.{both_ways, cases_lt}
 use Rattle.std.proofs.lemmas.Bool.Decides.{Decides-int_eq}
+use Rattle.std.proofs.lemmas.List.{take_all, take_more}
 use Rattle.std.proofs.lemmas.Slice.Eq.{bytes_eq-Decides}
 use Rattle.eds_base.specs.declared.ids.TypeId.{TypeId}
 use Rattle.eds_bits.specs.Lists.{HasOne}
@@ -17,7 +18,6 @@ use Rattle.eds_overlap.specs.declared.find.Pair.{Pair}
 use Rattle.eds_overlap.specs.Index.{first_or, family, sets_of, model_of, mark, marks_on, Places, listed, all_key, free_key, held_key, own_key, IsListed, AreListed, MayMeetBy, MayMeet, IsReached, OverlapsWith, AreMetWith}
 use Rattle.eds_overlap.specs.Pairs.{AllSets, Named, IsFirstWith, IsFirstPair}
 use Rattle.eds_overlap.proofs.Meeting.{first_is_first}
-use Rattle.eds_overlap.proofs.Solutions.{rest_is}
 use Rattle.eds_overlap.proofs.ToldApart.{parts_of, parts_apart}
 
 -- ---- families
@@ -109,22 +109,11 @@ module _ (t : Table) (Used : ℕ → Type 0) (l : ℕ) where
   }
 
   -- one type more
-  pub met_next : (ids rest : List TypeId) (first : TypeId) (old mid new : Option Pair) → first ≡ get_or rest 0 first → 1 ≤ length rest → ((done : List TypeId) × (ids ≡ done ++ rest) × AreMetWith t Used l done old mid) → AreMetWith t Used l (first ∷ []) mid new
-      → (done : List TypeId) × (ids ≡ done ++ take (length rest - 1) (drop 1 rest)) × AreMetWith t Used l done old new
-  met_next ids rest first old mid new e few h a = (
-    h.0 ++ first ∷ [],
-    h.1 ∙ ap (λ r. h.0 ++ r) (rest_is rest first e few) ∙ sym (append_assoc h.0 (first ∷ []) (take (length rest - 1) (drop 1 rest))),
-    met_both h.0 (first ∷ []) old mid new h.2 a,
-  )
+  pub met_next : (ids : List TypeId) (i : ℕ) (d : TypeId) (old mid new : Option Pair) → i < length ids → AreMetWith t Used l (take i ids) old mid → AreMetWith t Used l (get_or ids i d ∷ []) mid new → AreMetWith t Used l (take (i + 1) ids) old new
+  met_next ids i d old mid new few h a = subst (λ xs. AreMetWith t Used l xs old new) (sym (take_more ids i d few)) (met_both (take i ids) (get_or ids i d ∷ []) old mid new h a)
 
-  pub met_end : (ids rest : List TypeId) (old new : Option Pair) → length rest < 1 → ((done : List TypeId) × (ids ≡ done ++ rest) × AreMetWith t Used l done old new) → AreMetWith t Used l ids old new
-  met_end ids [] old new few h = subst (λ xs. AreMetWith t Used l xs old new) (sym h.1) (record { sound = (h.2).sound; kept = (h.2).kept; met = λ k m. (h.2).met k (back h.0 k m) })
-    where
-      back : (xs : List TypeId) (k : ℕ) → HasOne (λ id. id ≡ id_of k) (xs ++ []) → HasOne (λ id. id ≡ id_of k) xs
-      back [] k m = m
-      back (x ∷ xs) k (inl m) = inl m
-      back (x ∷ xs) k (inr m) = inr (back xs k m)
-  met_end ids (r ∷ rest) old new few h = absurd (omega arith)
+  pub met_end : (ids : List TypeId) (i : ℕ) (old new : Option Pair) → length ids ≤ i → AreMetWith t Used l (take i ids) old new → AreMetWith t Used l ids old new
+  met_end ids i old new few h = subst (λ xs. AreMetWith t Used l xs old new) (take_all i ids few) h
 
   same_id : (first : TypeId) (k : ℕ) → HasOne (λ id. id ≡ id_of k) (first ∷ []) → first.0 ≡ k
   same_id first k (inl h) = ap (λ (i : TypeId). i.0) h

@@ -1,9 +1,9 @@
 -- The numbers that the constraints of a chain leave on their paths.
-use Rattle.std.proofs.Common.{◌≡◌, ℕ, suc, ◌<◌, ◌≤◌, ℤ, pos, Bool, true, false, cond, List, [], ◌∷◌, ◌++◌, length, map, get_or, take, drop, ◌-◌, Option, Some, None, refl, sym, ap, subst, ◌∙◌, append_assoc, append-nil, arith, inl, inr}
+use Rattle.std.proofs.Common.{◌≡◌, ℕ, zero, ◌+◌, suc, ◌<◌, ◌≤◌, ℤ, pos, Bool, true, false, cond, List, [], ◌∷◌, ◌++◌, length, map, get_or, take, drop, ◌-◌, Option, Some, None, refl, sym, ap, subst, ◌∙◌, append_assoc, append-nil, arith, inl, inr}
 use Rattle.std.specs.Prelude.{slice_get, IfSome, IsSome, ◌⊎◌, ◌==◌, ◌&&◌, IsTrue}
 use Rattle.std.specs.List.{AllByRecursion, flat_map}
 use Rattle.std.proofs.lemmas.Grind.{flat_map-append}
-use Rattle.std.proofs.lemmas.List.{take_all}
+use Rattle.std.proofs.lemmas.List.{drop_all, drop_more, take-append-drop}
 use Rattle.std.proofs.lemmas.Bool.{and_parts, eqb-true, eq-eqb, both_ways}
 use Rattle.eds_base.specs.declared.ids.TypeId.{TypeId}
 use Rattle.eds_base.specs.declared.spans.Span.{Span}
@@ -72,19 +72,13 @@ on_none (x ∷ sets) path e h = go (same_path x.path path) refl e h (on_none set
 
 -- ---- the rest of a list
 
-pub rest_is : {A : Type 0} (rest : List A) (x : A) → x ≡ get_or rest 0 x → 1 ≤ length rest → rest ≡ x ∷ take (length rest - 1) (drop 1 rest)
-rest_is [] x e l = absurd (omega arith)
-rest_is (y ∷ rest) x e l =
-    let n : length (y ∷ rest) - 1 ≡ length rest = omega arith in
-    rw n (rw e (ap (λ r. y ∷ r) (sym (take_all (length rest) rest (omega arith)))))
+pub left_is : {A : Type 0} (xs : List A) (i : ℕ) (x : A) → x ≡ get_or xs i x → i < length xs → drop i xs ≡ x ∷ drop (i + 1) xs
+left_is xs i x e l = drop_more xs i x l ∙ ap (λ y. y ∷ drop (i + 1) xs) (sym e)
 
-pub item_at : {A : Type 0} (rest : List A) (d : A) → 1 ≤ length rest → get_or rest 0 d ≡ get_or rest 0 (get_or rest 0 d)
-item_at [] d l = absurd (omega arith)
-item_at (x ∷ rest) d l = refl
-
-pub none_left : {A : Type 0} (rest : List A) → length rest < 1 → rest ≡ []
-none_left [] l = refl
-none_left (x ∷ rest) l = absurd (omega arith)
+pub each_at : {A : Type 0} (P : A → Type 0) (xs : List A) (i : ℕ) (x : A) → x ≡ get_or xs i x → i < length xs → AllByRecursion P xs → P x
+each_at P [] i x e l h = absurd (omega arith)
+each_at P (y ∷ xs) zero x e l h = subst P (sym e) h.0
+each_at P (y ∷ xs) (suc i) x e l h = each_at P xs i x e (omega arith) h.1
 
 -- ---- constraints that were met
 
@@ -118,8 +112,8 @@ met_one path c met new e common all = record { from_old = λ n h. (common n h).0
 pub met_other : (path : Steps) (c : Constraint) (met : List Span) → (c.path ≡ path → ⊥) → IsMet path (c ∷ []) met met
 met_other path c met ne = record { from_old = λ n h. h; admitted = λ n h. (λ e. absurd (ne e), tt); all = λ n h a. h }
 
-pub met_next : (path : Steps) (cs rest : List Constraint) (c : Constraint) (old met new : List Span) → c ≡ get_or rest 0 c → 1 ≤ length rest → MetSoFar path cs rest old met → IsMet path (c ∷ []) met new → MetSoFar path cs (take (length rest - 1) (drop 1 rest)) old new
-met_next path cs rest c old met new e l s m = met_more path cs (c ∷ []) (take (length rest - 1) (drop 1 rest)) old met new (subst (λ r. MetSoFar path cs r old met) (rest_is rest c e l) s) m
+pub met_next : (path : Steps) (cs : List Constraint) (i : ℕ) (c : Constraint) (old met new : List Span) → c ≡ get_or cs i c → i < length cs → MetSoFar path cs (drop i cs) old met → IsMet path (c ∷ []) met new → MetSoFar path cs (drop (i + 1) cs) old new
+met_next path cs i c old met new e l s m = met_more path cs (c ∷ []) (drop (i + 1) cs) old met new (subst (λ r. MetSoFar path cs r old met) (left_is cs i c e l) s) m
 
 pub met_end : (path : Steps) (cs : List Constraint) (old met : List Span) → MetSoFar path cs [] old met → IsMet path cs old met
 met_end path cs old met s = subst (λ xs. IsMet path xs old met) (sym (s.is ∙ append-nil s.done)) s.met_is
@@ -162,11 +156,8 @@ added_more t cs some next rest old mid new s a = record {
   };
 }
 
-pub added_next : (t : Table) (cs some rest : List Constraint) (x : Constraint) (old mid new : List PathSet) → x ≡ get_or rest 0 x → 1 ≤ length rest → AddedSoFar t cs some rest old mid → AreAdded t cs (x ∷ []) mid new → AddedSoFar t cs some (take (length rest - 1) (drop 1 rest)) old new
-added_next t cs some rest x old mid new e l s a = added_more t cs some (x ∷ []) (take (length rest - 1) (drop 1 rest)) old mid new (subst (λ r. AddedSoFar t cs some r old mid) (rest_is rest x e l) s) a
-
-pub all_next : {A : Type 0} (P : A → Type 0) (rest : List A) (x : A) → x ≡ get_or rest 0 x → 1 ≤ length rest → AllByRecursion P rest → AllByRecursion P (take (length rest - 1) (drop 1 rest))
-all_next P rest x e l a = (subst (AllByRecursion P) (rest_is rest x e l) a).1
+pub added_next : (t : Table) (cs some : List Constraint) (i : ℕ) (x : Constraint) (old mid new : List PathSet) → x ≡ get_or some i x → i < length some → AddedSoFar t cs some (drop i some) old mid → AreAdded t cs (x ∷ []) mid new → AddedSoFar t cs some (drop (i + 1) some) old new
+added_next t cs some i x old mid new e l s a = added_more t cs some (x ∷ []) (drop (i + 1) some) old mid new (subst (λ r. AddedSoFar t cs some r old mid) (left_is some i x e l) s) a
 
 pub added_end : (t : Table) (cs some : List Constraint) (old new : List PathSet) → AddedSoFar t cs some [] old new → AreAdded t cs some old new
 added_end t cs some old new s = subst (λ xs. AreAdded t cs xs old new) (sym (s.is ∙ append-nil s.done)) s.added
@@ -397,37 +388,34 @@ met_all t cs c first set f has m n s = m.all n (f.1 n s.domain (All-at (λ (d : 
 pub has_one : (cs : List Constraint) (c : Constraint) → Has cs c → IsConstrained cs c.path
 has_one cs c h = subst (λ xs. IsConstrained xs c.path) (sym h.is) (one_of (λ (d : Constraint). d.path ≡ c.path) h.before c h.after refl)
 
--- one more constraint, by what the comparison of its path says
-pub met_hit : (path : Steps) (cs rest : List Constraint) (c : Constraint) (old met new : List Span) (b : Bool) → c ≡ get_or rest 0 c → 1 ≤ length rest → MetSoFar path cs rest old met → b ≡ same_path c.path path → b ≡ true
-    → ((n : ℤ) → IsWithin new n → IsWithin met n × IsWithin c.set n) → ((n : ℤ) → IsWithin met n → IsWithin c.set n → IsWithin new n) → MetSoFar path cs (take (length rest - 1) (drop 1 rest)) old new
-met_hit path cs rest c old met new b e l s is hit common all = met_next path cs rest c old met new e l s (met_one path c met new (same_is c.path path (sym is ∙ hit)) common all)
+-- one constraint, by what the comparison of its path says
+pub met_hit : (path : Steps) (c : Constraint) (met new : List Span) (b : Bool) → b ≡ same_path c.path path → b ≡ true → ((n : ℤ) → IsWithin new n → IsWithin met n × IsWithin c.set n) → ((n : ℤ) → IsWithin met n → IsWithin c.set n → IsWithin new n) → IsMet path (c ∷ []) met new
+met_hit path c met new b is hit = met_one path c met new (same_is c.path path (sym is ∙ hit))
 
-pub met_miss : (path : Steps) (cs rest : List Constraint) (c : Constraint) (old met : List Span) (b : Bool) → c ≡ get_or rest 0 c → 1 ≤ length rest → MetSoFar path cs rest old met → b ≡ same_path c.path path → b ≡ false → MetSoFar path cs (take (length rest - 1) (drop 1 rest)) old met
-met_miss path cs rest c old met b e l s is miss = met_next path cs rest c old met met e l s (met_other path c met (same_not c.path path (sym is ∙ miss)))
+pub met_miss : (path : Steps) (c : Constraint) (met : List Span) (b : Bool) → b ≡ same_path c.path path → b ≡ false → IsMet path (c ∷ []) met met
+met_miss path c met b is miss = met_other path c met (same_not c.path path (sym is ∙ miss))
 
 -- the constraints of the next type of a chain
-pub met_type : (t : Table) (path ps : Steps) (cs some : List Constraint) (rest : List TypeId) (x : TypeId) (old met new : List Span) → x ≡ get_or rest 0 x → 1 ≤ length rest → MetSoFar path cs (constraints_among t rest) old met
-    → ps ≡ path → some ≡ constraints_of t x.0 → IsMet ps some met new → MetSoFar path cs (constraints_among t (take (length rest - 1) (drop 1 rest))) old new
-met_type t path ps cs some rest x old met new e l s p q m =
-    met_more path cs (constraints_of t x.0) (constraints_among t (take (length rest - 1) (drop 1 rest))) old met new
-    (subst (λ r. MetSoFar path cs (constraints_among t r) old met) (rest_is rest x e l) s) (subst (λ r. IsMet r (constraints_of t x.0) met new) p (subst (λ r. IsMet ps r met new) q m))
+pub met_type : (t : Table) (path ps : Steps) (cs some : List Constraint) (ids : List TypeId) (i : ℕ) (d : TypeId) (old met new : List Span) → i < length ids → MetSoFar path cs (constraints_among t (drop i ids)) old met
+    → ps ≡ path → some ≡ constraints_of t (get_or ids i d).0 → IsMet ps some met new → MetSoFar path cs (constraints_among t (drop (i + 1) ids)) old new
+met_type t path ps cs some ids i d old met new l s p q m =
+    let own = constraints_of t (get_or ids i d).0 in
+    met_more path cs own (constraints_among t (drop (i + 1) ids)) old met new
+    (subst (λ r. MetSoFar path cs (constraints_among t r) old met) (drop_more ids i d l) s) (subst (λ r. IsMet r own met new) p (subst (λ r. IsMet ps r met new) q m))
 
-pub met_done : (t : Table) (path : Steps) (cs : List Constraint) (rest : List TypeId) (old met : List Span) → length rest < 1 → MetSoFar path cs (constraints_among t rest) old met → IsMet path cs old met
-met_done t path cs rest old met l s = met_end path cs old met (subst (λ r. MetSoFar path cs (constraints_among t r) old met) (none_left rest l) s)
+pub met_done : (t : Table) (path : Steps) (cs : List Constraint) (ids : List TypeId) (i : ℕ) (old met : List Span) → length ids ≤ i → MetSoFar path cs (constraints_among t (drop i ids)) old met → IsMet path cs old met
+met_done t path cs ids i old met l s = met_end path cs old met (subst (λ r. MetSoFar path cs (constraints_among t r) old met) (drop_all i ids l) s)
 
 -- the sets of the next type of a chain
-pub added_type : (t : Table) (cs some own : List Constraint) (rest : List TypeId) (x : TypeId) (old mid new : List PathSet) → x ≡ get_or rest 0 x → 1 ≤ length rest → AddedSoFar t cs some (constraints_among t rest) old mid
-    → own ≡ constraints_of t x.0 → AreAdded t cs own mid new → AddedSoFar t cs some (constraints_among t (take (length rest - 1) (drop 1 rest))) old new
-added_type t cs some own rest x old mid new e l s q a =
-    added_more t cs some (constraints_of t x.0) (constraints_among t (take (length rest - 1) (drop 1 rest))) old mid new
-    (subst (λ r. AddedSoFar t cs some (constraints_among t r) old mid) (rest_is rest x e l) s) (subst (λ r. AreAdded t cs r mid new) q a)
+pub added_type : (t : Table) (cs some own : List Constraint) (ids : List TypeId) (i : ℕ) (d : TypeId) (old mid new : List PathSet) → i < length ids → AddedSoFar t cs some (constraints_among t (drop i ids)) old mid
+    → own ≡ constraints_of t (get_or ids i d).0 → AreAdded t cs own mid new → AddedSoFar t cs some (constraints_among t (drop (i + 1) ids)) old new
+added_type t cs some own ids i d old mid new l s q a =
+    added_more t cs some (constraints_of t (get_or ids i d).0) (constraints_among t (drop (i + 1) ids)) old mid new
+    (subst (λ r. AddedSoFar t cs some (constraints_among t r) old mid) (drop_more ids i d l) s) (subst (λ r. AreAdded t cs r mid new) q a)
 
-pub among_next : (t : Table) (ids rest : List TypeId) (x : TypeId) (own : List Constraint) → x ≡ get_or rest 0 x → 1 ≤ length rest → ((above : List TypeId) × (ids ≡ above ++ rest)) → own ≡ constraints_of t x.0 → AllByRecursion (Has (constraints_among t ids)) own
-among_next t ids rest x own e l h q =
-    subst (AllByRecursion (Has (constraints_among t ids))) (sym q) (among_has t h.0 x (take (length rest - 1) (drop 1 rest)) ids (h.1 ∙ ap (λ r. h.0 ++ r) (rest_is rest x e l)))
+pub among_next : (t : Table) (ids : List TypeId) (i : ℕ) (d : TypeId) (own : List Constraint) → i < length ids → own ≡ constraints_of t (get_or ids i d).0 → AllByRecursion (Has (constraints_among t ids)) own
+among_next t ids i d own l q =
+    subst (AllByRecursion (Has (constraints_among t ids))) (sym q) (among_has t (take i ids) (get_or ids i d) (drop (i + 1) ids) ids (sym (take-append-drop i ids) ∙ ap (λ r. take i ids ++ r) (drop_more ids i d l)))
 
-pub above_next : (ids rest : List TypeId) (x : TypeId) → x ≡ get_or rest 0 x → 1 ≤ length rest → ((above : List TypeId) × (ids ≡ above ++ rest)) → (above : List TypeId) × (ids ≡ above ++ take (length rest - 1) (drop 1 rest))
-above_next ids rest x e l h = (h.0 ++ x ∷ [], h.1 ∙ ap (λ r. h.0 ++ r) (rest_is rest x e l) ∙ sym (append_assoc h.0 (x ∷ []) (take (length rest - 1) (drop 1 rest))))
-
-pub sets_done : (t : Table) (id : ℕ) (ids rest : List TypeId) (new : List PathSet) → ids ≡ map id_of (chain t id) → length rest < 1 → AddedSoFar t (constraints_among t ids) (constraints_among t ids) (constraints_among t rest) [] new → AreSets t (constraints_along t id) new
-sets_done t id ids rest new is l s = all_sets t id ids new is (subst (λ r. AddedSoFar t (constraints_among t ids) (constraints_among t ids) (constraints_among t r) [] new) (none_left rest l) s)
+pub sets_done : (t : Table) (id : ℕ) (ids : List TypeId) (i : ℕ) (new : List PathSet) → ids ≡ map id_of (chain t id) → length ids ≤ i → AddedSoFar t (constraints_among t ids) (constraints_among t ids) (constraints_among t (drop i ids)) [] new → AreSets t (constraints_along t id) new
+sets_done t id ids i new is l s = all_sets t id ids new is (subst (λ r. AddedSoFar t (constraints_among t ids) (constraints_among t ids) (constraints_among t r) [] new) (drop_all i ids l) s)

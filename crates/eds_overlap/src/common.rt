@@ -69,11 +69,9 @@ fn add_among(
     ensures texts { OnOk result (gathered.new.texts.items ≡ texts_of table.now gathered.new.common.items) }
     ensures added { OnOk result (gathered.new.common.items ≡ with_paths table.now ancestor.0 (least_of_both ours.now theirs.now) gathered.old.common.items (constraints_among table.now ids.now)) }
 {
-    let mut rest = ids;
-    while let [id, after @ ..] = rest {
+    for id in ids {
         let constraints = table.constraints_of(*id);
         add_paths(alloc, table, ancestor, constraints, ours, theirs, gathered)?;
-        rest = after;
     }
     Ok(())
 }
@@ -92,11 +90,9 @@ fn add_paths(
     ensures texts { OnOk result (gathered.new.texts.items ≡ texts_of table.now gathered.new.common.items) }
     ensures added { OnOk result (gathered.new.common.items ≡ with_paths table.now ancestor.0 (least_of_both ours.now theirs.now) gathered.old.common.items constraints.now) }
 {
-    let mut rest = constraints;
-    while let [constraint, after @ ..] = rest {
+    for constraint in constraints {
         let path = constraint.path.as_slice();
         add_path(alloc, table, ancestor, path, ours, theirs, gathered)?;
-        rest = after;
     }
     Ok(())
 }
@@ -135,13 +131,11 @@ fn place_of(texts: &[Text], text: &str) -> usize
     ensures within { result ≤ length texts.now }
 {
     let mut count = 0;
-    let mut rest = texts;
-    while let [one, after @ ..] = rest {
+    for one in texts {
         if one.as_str().cmp(text).is_gt() {
             return count;
         }
         count += 1;
-        rest = after;
     }
     count
 }
@@ -150,12 +144,10 @@ fn place_of(texts: &[Text], text: &str) -> usize
 fn is_on(common: &[Common], path: &[(TypeId, u16)]) -> bool
     ensures { result ≡ is_among common.now path.now }
 {
-    let mut rest = common;
-    while let [one, after @ ..] = rest {
+    for one in common {
         if is_same(one.path.as_slice(), path) {
             return true;
         }
-        rest = after;
     }
     false
 }

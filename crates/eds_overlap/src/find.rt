@@ -117,12 +117,10 @@ fn is_read_through(table: &TypeTable, used: &[TypeId], id: TypeId) -> bool
 fn has_used_one(used: &[TypeId], ids: &[TypeId]) -> bool
     ensures { result ≡ has_used used.now ids.now }
 {
-    let mut rest = ids;
-    while let [one, after @ ..] = rest {
+    for one in ids {
         if is_among(used, *one) {
             return true;
         }
-        rest = after;
     }
     false
 }
@@ -167,12 +165,10 @@ fn agrees(table: &TypeTable, id: TypeId, one: &PathSet, theirs: &[PathSet]) -> b
 fn agree(table: &TypeTable, id: TypeId, ours: &[PathSet], theirs: &[PathSet]) -> bool
     ensures { IsTrue result ↔ AllByRecursion (Agrees table.now id.0 theirs.now) ours.now }
 {
-    let mut rest = ours;
-    while let [one, after @ ..] = rest {
+    for one in ours {
         if !agrees(table, id, one, theirs) {
             return false;
         }
-        rest = after;
     }
     true
 }
@@ -197,10 +193,8 @@ fn overlap_of(
     }
     let ours = sets[first.0 as usize].as_slice();
     let theirs = sets[second.0 as usize].as_slice();
-    match parting(table, first, second) {
-        Some(id) => met_at(table, used, id, ours, theirs),
-        None => None,
-    }
+    let id = parting(table, first, second)?;
+    met_at(table, used, id, ours, theirs)
 }
 
 // The container at which two types part, where their sets agree and it is read.
@@ -275,10 +269,8 @@ fn first_among(
     ensures { AreMetWith table.now (Named used.now) second.0 ids.now best result }
 {
     let mut found = best;
-    let mut rest = ids;
-    while let [first, after @ ..] = rest {
+    for first in ids {
         found = better(table, used, sets, *first, second, found);
-        rest = after;
     }
     found
 }

@@ -40,10 +40,7 @@ fn lone(set: &Spans) -> Option<i128>
 fn lone_on(sets: &[PathSet], path: &[(TypeId, u16)]) -> Option<i128>
     ensures { result ≡ lone_on_path sets.now path.now }
 {
-    match find_set(sets, path) {
-        Some(set) => lone(set),
-        None => None,
-    }
+    lone(find_set(sets, path)?)
 }
 
 // The numbers to which sets hold those paths that a model's sets hold to one number. None where they leave one free.
@@ -55,15 +52,13 @@ fn numbers_on(
     ensures { IfOk result (λ numbers. numbers ≡ marks_on model.now sets.now) }
 {
     let mut numbers = Items::new(alloc);
-    let mut rest = model;
-    while let [one, after @ ..] = rest {
+    for one in model {
         if lone(&one.set).is_some() {
-            match lone_on(sets, one.path.as_slice()) {
-                Some(number) => numbers.push(number)?,
-                None => return Ok(None),
-            }
+            let Some(number) = lone_on(sets, one.path.as_slice()) else {
+                return Ok(None);
+            };
+            numbers.push(number)?;
         }
-        rest = after;
     }
     Ok(Some(numbers))
 }

@@ -30,12 +30,10 @@ fn common_notes(
     ensures { IfOk result (λ notes. notes ≡ map (common_note table.now) common.now) }
 {
     let mut notes = Items::new(alloc);
-    let mut rest = common;
-    while let [one, after @ ..] = rest {
+    for one in common {
         let path = path_text(alloc, table, one.path.as_slice())?;
         let number = one.number;
         notes.push(CommonNumber { path, number })?;
-        rest = after;
     }
     Ok(notes)
 }

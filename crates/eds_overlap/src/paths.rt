@@ -30,12 +30,10 @@ pub fn is_same(one: &[(TypeId, u16)], other: &[(TypeId, u16)]) -> bool
 pub(crate) fn find_set<'a>(sets: &'a [PathSet], path: &[(TypeId, u16)]) -> Option<&'a Spans>
     ensures { option_copied result ≡ set_on sets.now path.now }
 {
-    let mut rest = sets;
-    while let [one, after @ ..] = rest {
+    for one in sets {
         if is_same(one.path.as_slice(), path) {
             return Some(&one.set);
         }
-        rest = after;
     }
     None
 }

@@ -23,10 +23,8 @@ pub fn solution_sets(alloc: Global, table: &TypeTable, id: TypeId) -> Result<Set
     let chain = table.chain_of(id);
     let ids = chain.as_slice();
     let mut sets = Sets::new(alloc);
-    let mut rest = ids;
-    while let [above, after @ ..] = rest {
+    for above in ids {
         push_sets(alloc, table, ids, table.constraints_of(*above), &mut sets)?;
-        rest = after;
     }
     Ok(sets)
 }
@@ -42,10 +40,8 @@ fn push_sets(
     requires { AllByRecursion (Has (constraints_among table.now chain.now)) constraints.now }
     ensures { OnOk result (AreAdded table.now (constraints_among table.now chain.now) constraints.now sets.old sets.new) }
 {
-    let mut rest = constraints;
-    while let [constraint, after @ ..] = rest {
+    for constraint in constraints {
         push_set(alloc, table, chain, constraint, sets)?;
-        rest = after;
     }
     Ok(())
 }
@@ -97,11 +93,9 @@ fn solved_set(
 {
     table.keeps_rules();
     let mut set = first_set(alloc, table, constraint)?;
-    let mut rest = chain;
-    while let [id, after @ ..] = rest {
+    for id in chain {
         let path = constraint.path.as_slice();
         set = met_set(alloc, set, path, table.constraints_of(*id))?;
-        rest = after;
     }
     Ok(set)
 }
@@ -125,13 +119,8 @@ fn domain_on<'a>(table: &'a TypeTable, path: &[(TypeId, u16)]) -> Option<&'a Spa
     let [.., last] = path else {
         return None;
     };
-    match table.part_at(last.0, last.1) {
-        Some(part) => match part.type_id() {
-            Some(id) => table.domain_of(id),
-            None => None,
-        },
-        None => None,
-    }
+    let part = table.part_at(last.0, last.1)?;
+    table.domain_of(part.type_id()?)
 }
 
 // The numbers of a set that the constraints on a path admit.
@@ -144,14 +133,26 @@ fn met_set(
     ensures { IfOk result (λ met. IsMet path.now constraints.now set met) }
 {
     let mut met = set;
-    let mut rest = constraints;
-    while let [constraint, after @ ..] = rest {
-        if is_same(constraint.path.as_slice(), path) {
-            met = met.meet(alloc, &constraint.set)?;
-        }
-        rest = after;
+    for constraint in constraints {
+        met = met_by(alloc, met, path, constraint)?;
     }
     Ok(met)
+}
+
+// The numbers of a set that a constraint admits, if it is on a path.
+fn met_by(
+    alloc: Global,
+    set: Spans,
+    path: &[(TypeId, u16)],
+    constraint: &Constraint,
+) -> Result<Spans, Memory>
+    ensures { IfOk result (λ met. IsMet path.now (constraint.now ∷ []) set met) }
+{
+    if is_same(constraint.path.as_slice(), path) {
+        Ok(set.meet(alloc, &constraint.set)?)
+    } else {
+        Ok(set)
+    }
 }
 
 /// A copy of a path.
@@ -159,10 +160,8 @@ pub fn copied_path(alloc: Global, path: &[(TypeId, u16)]) -> Result<EntryPath, M
     ensures { IfOk result (λ copy. copy ≡ path.now) }
 {
     let mut copy = Items::new(alloc);
-    let mut rest = path;
-    while let [step, after @ ..] = rest {
+    for step in path {
         copy.push(*step)?;
-        rest = after;
     }
     Ok(copy)
 }

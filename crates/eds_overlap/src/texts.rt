@@ -43,11 +43,9 @@ pub(crate) fn path_text(
         return Ok(Text::new(alloc));
     };
     let mut text = String::from_str(alloc, step_name(table, *first))?;
-    let mut rest = further;
-    while let [step, after @ ..] = rest {
+    for step in further {
         text.push_str(".")?;
         text.push_str(step_name(table, *step))?;
-        rest = after;
     }
     Ok(Text::from_string(text))
 }

@@ -1,11 +1,8 @@
-use Rattle.std.proofs.Common.{◌≡◌, ◌++◌, length}
+use Rattle.std.proofs.Common.{◌≡◌, ◌++◌, drop}
 use Rattle.std.specs.Prelude.{option_map}
 use Rattle.eds_overlap.specs.Index.{marks_on}
 use Rattle.eds_overlap.proofs.index.numbers_on.Given as goal
 
 -- the numbers so far go before those that are left
-abbrev pub invariant-loop-rest : goal.invariant-loop-rest
-invariant-loop-rest l = marks_on l.model l.sets ≡ option_map (λ ms. l.numbers ++ ms) (marks_on l.rest l.sets)
-
-abbrev pub decreases-loop-rest : goal.decreases-loop-rest
-decreases-loop-rest l = length l.rest
+abbrev pub invariant-loop-one : goal.invariant-loop-one
+invariant-loop-one l = marks_on l.model l.sets ≡ option_map (λ ms. l.numbers ++ ms) (marks_on (drop l.one-index l.model) l.sets)

@@ -1,9 +1,6 @@
-use Rattle.std.proofs.Common.{length}
+use Rattle.std.proofs.Common.{drop}
 use Rattle.eds_overlap.proofs.Solutions.{MetSoFar}
 use Rattle.eds_overlap.proofs.sets.met_set.Given as goal
 
-abbrev pub invariant-loop-rest : goal.invariant-loop-rest
-invariant-loop-rest l = MetSoFar l.path l.constraints l.rest l.fn.set l.met
-
-abbrev pub decreases-loop-rest : goal.decreases-loop-rest
-decreases-loop-rest l = length l.rest
+abbrev pub invariant-loop-constraint : goal.invariant-loop-constraint
+invariant-loop-constraint l = MetSoFar l.path l.constraints (drop l.constraint-index l.constraints) l.fn.set l.met

@@ -1,12 +1,7 @@
-use Rattle.std.proofs.Common.{length}
-use Rattle.std.specs.List.{AllByRecursion}
-use Rattle.eds_bits.specs.Lists.{Has}
+use Rattle.std.proofs.Common.{drop}
 use Rattle.eds_overlap.specs.Pairs.{constraints_among}
 use Rattle.eds_overlap.proofs.Solutions.{AddedSoFar}
 use Rattle.eds_overlap.proofs.sets.push_sets.Given as goal
 
-abbrev pub invariant-loop-rest : goal.invariant-loop-rest
-invariant-loop-rest l = AddedSoFar l.table (constraints_among l.table l.chain) l.constraints l.rest l.initial.sets l.sets × AllByRecursion (Has (constraints_among l.table l.chain)) l.rest
-
-abbrev pub decreases-loop-rest : goal.decreases-loop-rest
-decreases-loop-rest l = length l.rest
+abbrev pub invariant-loop-constraint : goal.invariant-loop-constraint
+invariant-loop-constraint l = AddedSoFar l.table (constraints_among l.table l.chain) l.constraints (drop l.constraint-index l.constraints) l.initial.sets l.sets

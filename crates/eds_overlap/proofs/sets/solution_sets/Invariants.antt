@@ -1,13 +1,7 @@
-use Rattle.std.proofs.Common.{◌≡◌, ◌++◌, List, length}
-use Rattle.eds_base.specs.declared.ids.TypeId.{TypeId}
+use Rattle.std.proofs.Common.{drop}
 use Rattle.eds_overlap.specs.Pairs.{constraints_among}
 use Rattle.eds_overlap.proofs.Solutions.{AddedSoFar}
 use Rattle.eds_overlap.proofs.sets.solution_sets.Given as goal
 
-abbrev pub invariant-loop-rest : goal.invariant-loop-rest
-invariant-loop-rest l =
-    AddedSoFar l.table (constraints_among l.table l.ids) (constraints_among l.table l.ids) (constraints_among l.table l.rest) l.initial.sets l.sets
-    × ((above : List TypeId) × (l.ids ≡ above ++ l.rest))
-
-abbrev pub decreases-loop-rest : goal.decreases-loop-rest
-decreases-loop-rest l = length l.rest
+abbrev pub invariant-loop-above : goal.invariant-loop-above
+invariant-loop-above l = AddedSoFar l.table (constraints_among l.table l.ids) (constraints_among l.table l.ids) (constraints_among l.table (drop l.above-index l.ids)) l.initial.sets l.sets
