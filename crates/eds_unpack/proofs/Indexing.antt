@@ -1,7 +1,8 @@
 -- An index of paths holds as paths are put behind others, and it finds each path.
-use Rattle.std.proofs.Common.{◌≡◌, ◌≢◌, ℕ, zero, suc, ◌+◌, ◌<◌, ◌≤◌, ◌==◌, List, [], ◌∷◌, ◌++◌, length, get_or, set, take, drop, ◌-◌, Bool, true, false, cond, Some, refl, sym, ap, subst, ◌∙◌, append_assoc, append-nil, length-append, get_or-set_same, get_or-set_other, inl, inr, arith}
+use Rattle.std.proofs.Common.{◌≡◌, ◌≢◌, ℕ, zero, suc, ◌+◌, ◌<◌, ◌≤◌, ◌==◌, List, [], ◌∷◌, ◌++◌, length, get_or, set, drop, ◌-◌, Bool, true, false, cond, Some, refl, sym, ap, subst, ◌∙◌, append_assoc, append-nil, length-append, get_or-set_same, get_or-set_other, inl, inr, arith}
 use Rattle.std.specs.Prelude.{slice_get, flat_map}
 use Rattle.std.specs.List.{AllByRecursion, range_with_len}
+use Rattle.std.proofs.lemmas.List.{drop_more, drop_all}
 use Rattle.std.proofs.lemmas.Bool.{both_ways, eqb-true, eq-eqb}
 use Rattle.std.proofs.lemmas.Grind.{flat_map-append}
 use Rattle.std.proofs.lemmas.Option.{slice_get_within, same_Some, none-some}
@@ -13,7 +14,7 @@ use Rattle.eds_types.specs.Rows.{Table, id_of, constraints_of, entries_of, trail
 use Rattle.eds_overlap.specs.Common.{each_once}
 use Rattle.eds_overlap.specs.Pairs.{Steps, same_path}
 use Rattle.eds_overlap.proofs.CommonFound.{once_new, once_old, once_in, once_from}
-use Rattle.eds_overlap.proofs.Solutions.{same_is, same_not, rest_is, item_at, none_left}
+use Rattle.eds_overlap.proofs.Solutions.{same_is, same_not}
 use Rattle.eds_unpack.specs.Asked.{asked, asked_by, asked_in, tellers_of}
 use Rattle.eds_unpack.specs.Index.{Among, is_among, with_path, with_paths, begins_in, positions_from, positions, BeginsIn, HasStep, IsIndex}
 
@@ -195,10 +196,6 @@ pub all_within : (paths : List Steps) (y : TypeId) (ns : List ℕ) → AllByRecu
 all_within paths y [] h = tt
 all_within paths y (n ∷ ns) h = (slice_get_within paths n ((y, (h.0).0) ∷ (h.0).1) (h.0).2, all_within paths y ns h.1)
 
-pub all_head : (P : ℕ → Type 0) (ns : List ℕ) → 1 ≤ length ns → AllByRecursion P ns → P (get_or ns 0 0)
-all_head P [] l h = absurd (omega arith)
-all_head P (n ∷ ns) l h = h.0
-
 pub none_empty : (all : List Steps) (p : Steps) → AllByRecursion HasStep all → length p < 1 → Among all p → ⊥
 none_empty [] p h l k = k
 none_empty (q ∷ all) p h l (inl e) = go p l (subst HasStep e h.0)
@@ -208,26 +205,29 @@ none_empty (q ∷ all) p h l (inl e) = go p l (subst HasStep e h.0)
     go (s ∷ r) m k = omega arith
 none_empty (q ∷ all) p h l (inr k) = none_empty all p h.1 l k
 
--- another path stands at the first of some positions
-pub not_here : (all : List Steps) (path here : Steps) (rest : List ℕ) → 1 ≤ length rest → slice_get all (get_or rest 0 0) ≡ Some here → same_path here path ≡ false
-    → ((at : ℕ) → slice_get all at ≡ Some path → HasOne (λ n. n ≡ at) rest) → (at : ℕ) → slice_get all at ≡ Some path → HasOne (λ n. n ≡ at) (take (length rest - 1) (drop 1 rest))
-not_here all path here rest l s d h at e = go (subst (HasOne (λ n. n ≡ at)) (rest_is rest (get_or rest 0 0) (item_at rest 0 l) l) (h at e))
+-- another path stands at one of some positions
+pub not_here : (all : List Steps) (path here : Steps) (ns : List ℕ) (i : ℕ) → i < length ns → slice_get all (get_or ns i 0) ≡ Some here → same_path here path ≡ false
+    → ((at : ℕ) → slice_get all at ≡ Some path → HasOne (λ n. n ≡ at) (drop i ns)) → (at : ℕ) → slice_get all at ≡ Some path → HasOne (λ n. n ≡ at) (drop (i + 1) ns)
+not_here all path here ns i l s d h at e = go (subst (HasOne (λ n. n ≡ at)) (drop_more ns i 0 l) (h at e))
   where
-    go : HasOne (λ n. n ≡ at) (get_or rest 0 0 ∷ take (length rest - 1) (drop 1 rest)) → HasOne (λ n. n ≡ at) (take (length rest - 1) (drop 1 rest))
+    go : HasOne (λ n. n ≡ at) (get_or ns i 0 ∷ drop (i + 1) ns) → HasOne (λ n. n ≡ at) (drop (i + 1) ns)
     go (inl k) = absurd (same_not here path d (same_Some here path (sym s ∙ ap (slice_get all) k ∙ e)))
     go (inr k) = k
 
 -- none stands at no position
-pub not_there : (all : List Steps) (path : Steps) (rest : List ℕ) → length rest < 1 → ((at : ℕ) → slice_get all at ≡ Some path → HasOne (λ n. n ≡ at) rest) → Among all path → ⊥
-not_there all path rest l h k = let r = among_at all path k in subst (HasOne (λ n. n ≡ r.0)) (none_left rest l) (h r.0 r.1)
+pub not_there : (all : List Steps) (path : Steps) (ns : List ℕ) (i : ℕ) → length ns ≤ i → ((at : ℕ) → slice_get all at ≡ Some path → HasOne (λ n. n ≡ at) (drop i ns)) → Among all path → ⊥
+not_there all path ns i l h k = let r = among_at all path k in subst (HasOne (λ n. n ≡ r.0)) (drop_all i ns l) (h r.0 r.1)
 
 -- ---- what is asked, part by part
 
-pub with_next : {A : Type 0} (asks : A → List Steps) (rest : List A) (x : A) (old new whole : List Steps) → x ≡ get_or rest 0 x → 1 ≤ length rest → new ≡ with_paths old (asks x)
-    → with_paths old (flat_map asks rest) ≡ whole → with_paths new (flat_map asks (take (length rest - 1) (drop 1 rest))) ≡ whole
-with_next asks rest x old new whole e l added all =
-    let left : List Steps = flat_map asks (take (length rest - 1) (drop 1 rest)) in
-    ap (λ ps. with_paths ps left) added ∙ sym (with_append old (asks x) left) ∙ ap (λ xs. with_paths old (flat_map asks xs)) (sym (rest_is rest x e l)) ∙ all
+left_is : {A : Type 0} (xs : List A) (i : ℕ) (x : A) → i < length xs → x ≡ get_or xs i x → drop i xs ≡ x ∷ drop (i + 1) xs
+left_is xs i x l e = drop_more xs i x l ∙ ap (λ y. y ∷ drop (i + 1) xs) (sym e)
+
+pub with_next : {A : Type 0} (asks : A → List Steps) (xs : List A) (i : ℕ) (x : A) (old new whole : List Steps) → i < length xs → x ≡ get_or xs i x → new ≡ with_paths old (asks x)
+    → with_paths old (flat_map asks (drop i xs)) ≡ whole → with_paths new (flat_map asks (drop (i + 1) xs)) ≡ whole
+with_next asks xs i x old new whole l e added all =
+    let left : List Steps = flat_map asks (drop (i + 1) xs) in
+    ap (λ ps. with_paths ps left) added ∙ sym (with_append old (asks x) left) ∙ ap (λ ys. with_paths old (flat_map asks ys)) (sym (left_is xs i x l e)) ∙ all
 
 pub asked_by_type : (t : Table) (y : ℕ) (old mid new : List Steps) (cs : List Constraint) (es ts : List Part) → cs ≡ constraints_of t y → es ≡ entries_of t y → ts ≡ trailers_of t y
     → mid ≡ with_paths old (flat_map asked_by cs) → new ≡ with_paths mid (flat_map tellers_of es) → with_paths new (flat_map tellers_of ts) ≡ with_paths old (asked_in t y)

@@ -1,6 +1,7 @@
 -- Looking for a length entry, and for a candidate.
-use Rattle.std.proofs.Common.{◌≡◌, ℕ, ◌-◌, ◌<◌, true, false, cond, List, [], ◌∷◌, ◌++◌, length, get_or, take, drop, map, reverse, Option, Some, None, Err, refl, sym, ap, ◌∙◌, arith}
+use Rattle.std.proofs.Common.{◌≡◌, ℕ, ◌-◌, ◌<◌, true, false, cond, List, [], ◌∷◌, ◌++◌, length, get_or, drop, map, reverse, Option, Some, None, Err, refl, sym, ap, ◌∙◌, arith, ◌+◌}
 use Rattle.std.specs.List.{flat_map}
+use Rattle.std.proofs.lemmas.List.{drop_more}
 use Rattle.eds_base.specs.declared.ids.TypeId.{TypeId}
 use Rattle.eds_base.specs.declared.fault.Step.{Step}
 use Rattle.eds_base.specs.declared.fault.Reason.TheVariants.{Constraint as Fails}
@@ -12,7 +13,6 @@ use Rattle.eds_types.specs.Reading.{holds, check_all, candidate_under}
 use Rattle.eds_types.proofs.Candidates.{candidate_is_first}
 use Rattle.eds_types.specs.Rows.{Table, Placed, id_of, chain, family, sequence, placed_entries, placed_trailers, or_else}
 use Rattle.eds_types.specs.Seeking.{entries_in_turn, trailers_in_turn}
-use Rattle.eds_types.proofs.Paths.{rest_is}
 use Rattle.eds_types.proofs.Seeking.{entries_are, trailers_are}
 use Rattle.eds_unpack.specs.Seeking.{if_length, length_among}
 
@@ -53,6 +53,5 @@ pub check_goes : (t : Table) (c : Constraint) (cs : List Constraint) (fs : List 
 unfolding check_all
 check_goes t c cs fs h = ap (λ b. cond b (check_all t cs fs) (Err (fault_at Fails (path_steps c.path)))) (sym h)
 
-pub check_later : (t : Table) (cs : List Constraint) (d : Constraint) (fs : List Field) → 0 < length cs → true ≡ holds t fs (get_or cs 0 d) → check_all t cs fs ≡ check_all t (take (length cs - 1) (drop 1 cs)) fs
-check_later t [] d fs lt h = absurd (omega arith)
-check_later t (c ∷ cs) d fs lt h = check_goes t c cs fs h ∙ ap (λ xs. check_all t xs fs) (sym (rest_is (c ∷ cs)))
+pub check_later : (t : Table) (cs : List Constraint) (i : ℕ) (d : Constraint) (fs : List Field) → i < length cs → true ≡ holds t fs (get_or cs i d) → check_all t (drop i cs) fs ≡ check_all t (drop (i + 1) cs) fs
+check_later t cs i d fs lt h = ap (λ xs. check_all t xs fs) (drop_more cs i d lt) ∙ check_goes t (get_or cs i d) (drop (i + 1) cs) fs h

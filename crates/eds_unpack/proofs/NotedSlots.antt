@@ -1,6 +1,7 @@
 -- The slots of paths, and what they say of fields.
-use Rattle.std.proofs.Common.{◌≡◌, ℕ, ◌-◌, ◌<◌, ◌≤◌, ℤ, Bool, true, false, List, [], ◌∷◌, length, get_or, take, drop, Option, Some, None, Ok, Err, ◌⊎◌, inl, inr, refl, sym, ap, subst, ◌∙◌, arith, eq-eqb}
+use Rattle.std.proofs.Common.{◌≡◌, ℕ, ◌-◌, ◌<◌, ◌≤◌, ℤ, Bool, true, false, List, [], ◌∷◌, length, get_or, drop, Option, Some, None, Ok, Err, ◌⊎◌, inl, inr, refl, sym, ap, subst, ◌∙◌, eq-eqb, ◌+◌}
 use Rattle.std.proofs.lemmas.Bool.{eqb-true}
+use Rattle.std.proofs.lemmas.List.{drop_all, drop_more}
 use Rattle.std.proofs.lemmas.Option.{slice_get_within}
 use Rattle.std.specs.Prelude.{slice_get, unwrap_or, ◌==◌}
 use Rattle.std.specs.List.{AllByRecursion}
@@ -12,7 +13,6 @@ use Rattle.eds_types.specs.Fields.{Field, number_on}
 use Rattle.eds_types.specs.Failing.{fault_at, path_steps}
 use Rattle.eds_types.specs.Reading.{number_within, holds, check_all}
 use Rattle.eds_types.specs.Rows.{Table, id_of}
-use Rattle.eds_types.proofs.Paths.{rest_is}
 use Rattle.eds_unpack.proofs.Listing.{check_fails}
 use Rattle.eds_unpack.specs.Index.{Among, BeginsIn}
 use Rattle.eds_overlap.specs.Pairs.{Steps}
@@ -124,43 +124,29 @@ module _ (paths : List Steps) (y : TypeId) (i : ℕ) (number : Option ℤ) (old 
           go (inl k) = inr (here k)
           go (inr k) = later k (so.longer g p q path e a b n among)
 
-  pub first_noted : (now new : List (Option ℤ)) (left : List ℕ) → 1 ≤ length left → AreNoted paths y i number old now left → IsPathNoted paths (get_or left 0 0) i number now new → AreNoted paths y i number old new (take (length left - 1) (drop 1 left))
-  first_noted now new [] lt so step = absurd (omega arith)
-  first_noted now new (at ∷ left) lt so step = subst (AreNoted paths y i number old new) (sym (rest_is (at ∷ left))) (one_noted now new at left so step)
+  pub first_noted : (now new : List (Option ℤ)) (left : List ℕ) (k : ℕ) → k < length left → AreNoted paths y i number old now (drop k left) → IsPathNoted paths (get_or left k 0) i number now new → AreNoted paths y i number old new (drop (k + 1) left)
+  first_noted now new left k lt so step = one_noted now new (get_or left k 0) (drop (k + 1) left) (subst (AreNoted paths y i number old now) (drop_more left k 0 lt) so) step
 
   -- the path of the first position that is left is there
-  pub first_is_there : (now : List (Option ℤ)) (left : List ℕ) → 1 ≤ length left → AreNoted paths y i number old now left → get_or left 0 0 < length paths
-  first_is_there now [] lt so = absurd (omega arith)
-  first_is_there now (at ∷ left) lt so = let own = so.own.0 in slice_get_within paths at _ own.2
+  pub first_is_there : (now : List (Option ℤ)) (left : List ℕ) (k : ℕ) → k < length left → AreNoted paths y i number old now (drop k left) → get_or left k 0 < length paths
+  first_is_there now left k lt so = let first = subst (AreNoted paths y i number old now) (drop_more left k 0 lt) so in slice_get_within paths (get_or left k 0) _ (first.own.0).2
 
   -- where none is left, all have their numbers
-  none_left : {A : Type 0} (g : ℕ) (left : List ℕ) → length left < 1 → HasOne (λ n. n ≡ g) left ⊎ A → A
-  none_left g [] lt (inl h) = absurd h
-  none_left g (at ∷ left) lt (inl h) = absurd (omega arith)
-  none_left g left lt (inr h) = h
+  none_left : {A : Type 0} (g : ℕ) (left : List ℕ) (k : ℕ) → length left ≤ k → HasOne (λ n. n ≡ g) (drop k left) ⊎ A → A
+  none_left g left k past (inl h) = absurd (subst (HasOne (λ n. n ≡ g)) (drop_all k left past) h)
+  none_left g left k past (inr h) = h
 
-  pub last_noted : (new : List (Option ℤ)) (left : List ℕ) → length left < 1 → AreNoted paths y i number old new left → (g : ℕ) (p : TypeId × ℕ) → slice_get paths g ≡ Some (p ∷ []) → (p.0).0 ≡ y.0 → p.1 ≡ i → slice_get new g ≡ Some number
-  last_noted new left lt so g p e a b = none_left g left lt (so.last g p e a b)
+  pub last_noted : (new : List (Option ℤ)) (left : List ℕ) (k : ℕ) → length left ≤ k → AreNoted paths y i number old new (drop k left) → (g : ℕ) (p : TypeId × ℕ) → slice_get paths g ≡ Some (p ∷ []) → (p.0).0 ≡ y.0 → p.1 ≡ i → slice_get new g ≡ Some number
+  last_noted new left k past so g p e a b = none_left g left k past (so.last g p e a b)
 
-  pub longer_noted : (new : List (Option ℤ)) (left : List ℕ) → length left < 1 → AreNoted paths y i number old new left → (g : ℕ) (p q : TypeId × ℕ) (path : Steps) → slice_get paths g ≡ Some (p ∷ q ∷ path) → (p.0).0 ≡ y.0 → p.1 ≡ i → ((q.0).0 ≡ y.0 → ⊥) → Among paths (q ∷ path) → (h : ℕ) × (slice_get paths h ≡ Some (q ∷ path)) × (slice_get new g ≡ slice_get old h)
-  longer_noted new left lt so g p q path e a b n among = none_left g left lt (so.longer g p q path e a b n among)
+  pub longer_noted : (new : List (Option ℤ)) (left : List ℕ) (k : ℕ) → length left ≤ k → AreNoted paths y i number old new (drop k left) → (g : ℕ) (p q : TypeId × ℕ) (path : Steps) → slice_get paths g ≡ Some (p ∷ q ∷ path) → (p.0).0 ≡ y.0 → p.1 ≡ i → ((q.0).0 ≡ y.0 → ⊥) → Among paths (q ∷ path) → (h : ℕ) × (slice_get paths h ≡ Some (q ∷ path)) × (slice_get new g ≡ slice_get old h)
+  longer_noted new left k past so g p q path e a b n among = none_left g left k past (so.longer g p q path e a b n among)
 
 -- ---- constraints in turn
 
-module _ (t : Table) (paths : List Steps) (ns : List (Option ℤ)) (fs : List Field) where
-  pub first_for : (cs : List Constraint) (d : Constraint) → 0 < length cs → AllByRecursion (IsNotedFor t paths ns fs) cs → IsNotedFor t paths ns fs (get_or cs 0 d)
-  first_for [] d lt h = absurd (omega arith)
-  first_for (c ∷ cs) d lt h = h.0
+pub check_stops : (t : Table) (cs : List Constraint) (i : ℕ) (d : Constraint) (fs : List Field) → i < length cs → false ≡ holds t fs (get_or cs i d) → check_all t (drop i cs) fs ≡ Err (fault_at Fails (path_steps (get_or cs i d).path))
+check_stops t cs i d fs lt h = ap (λ xs. check_all t xs fs) (drop_more cs i d lt) ∙ check_fails t (get_or cs i d) (drop (i + 1) cs) fs h
 
-  pub later_for : (cs : List Constraint) → AllByRecursion (IsNotedFor t paths ns fs) cs → AllByRecursion (IsNotedFor t paths ns fs) (take (length cs - 1) (drop 1 cs))
-  later_for [] h = tt
-  later_for (c ∷ cs) h = subst (AllByRecursion (IsNotedFor t paths ns fs)) (sym (rest_is (c ∷ cs))) h.1
-
-pub check_stops : (t : Table) (cs : List Constraint) (d : Constraint) (fs : List Field) → 0 < length cs → false ≡ holds t fs (get_or cs 0 d) → check_all t cs fs ≡ Err (fault_at Fails (path_steps (get_or cs 0 d).path))
-check_stops t [] d fs lt h = absurd (omega arith)
-check_stops t (c ∷ cs) d fs lt h = check_fails t c cs fs h
-
-pub check_ends : (t : Table) (cs : List Constraint) (fs : List Field) → length cs < 1 → check_all t cs fs ≡ Ok tt
+pub check_ends : (t : Table) (cs : List Constraint) (i : ℕ) (fs : List Field) → length cs ≤ i → check_all t (drop i cs) fs ≡ Ok tt
 unfolding check_all
-check_ends t [] fs lt = refl
-check_ends t (c ∷ cs) fs lt = absurd (omega arith)
+check_ends t cs i fs past = ap (λ xs. check_all t xs fs) (drop_all i cs past)

@@ -1,5 +1,5 @@
 -- How deep the types of a container's parts are nested, and how long the paths of its constraints are.
-use Rattle.std.proofs.Common.{◌≡◌, ℕ, zero, suc, ◌+◌, ◌<◌, ◌≤◌, Bool, true, false, cond, List, [], ◌∷◌, ◌++◌, length, get_or, take, drop, ◌-◌, map, Option, Some, None, refl, sym, ap, subst, ◌∙◌, arith}
+use Rattle.std.proofs.Common.{◌≡◌, ℕ, zero, suc, ◌+◌, ◌<◌, ◌≤◌, Bool, true, false, cond, List, [], ◌∷◌, ◌++◌, length, get_or, ◌-◌, map, Option, Some, None, refl, sym, ap, subst, ◌∙◌, arith}
 use Rattle.std.specs.Prelude.{slice_get, unwrap_or}
 use Rattle.std.specs.List.{AllByRecursion}
 use Rattle.eds_base.specs.declared.ids.TypeId.{TypeId}
@@ -19,7 +19,6 @@ use Rattle.eds_types.proofs.ReadingTests.{found_is}
 use Rattle.eds_types.proofs.RuleFacts.{table_of}
 use Rattle.eds_base.specs.declared.fault.Step.{Step}
 use Rattle.eds_types.specs.Failing.{path_steps}
-use Rattle.eds_types.proofs.Paths.{rest_is}
 use Rattle.eds_types.specs.Choices.{IsNear}
 use Rattle.eds_unpack.specs.Entries.{IsLow, IsInner, LengthIsRead, PartIsRead}
 
@@ -36,13 +35,14 @@ unplaced : (P : Part → Type 0) (y i : ℕ) (ps : List Part) → AllByRecursion
 unplaced P y i [] h = tt
 unplaced P y i (p ∷ ps) h = (h.0, unplaced P y (i + 1) ps h.1)
 
-pub first_near : (n : ℕ) (cs : List Constraint) (d : Constraint) → 0 < length cs → AllByRecursion (IsNear n) cs → length (get_or cs 0 d).path ≤ n
-first_near n [] d lt h = absurd (omega arith)
-first_near n (c ∷ cs) d lt h = h.0
+-- what holds of all holds of the one at a place
+pub all_at : {A : Type 0} (P : A → Type 0) (xs : List A) (i : ℕ) (d : A) → i < length xs → AllByRecursion P xs → P (get_or xs i d)
+all_at P [] i d lt h = absurd (omega arith)
+all_at P (x ∷ xs) zero d lt h = h.0
+all_at P (x ∷ xs) (suc i) d lt h = all_at P xs i d (omega arith) h.1
 
-pub later_near : (n : ℕ) (cs : List Constraint) → AllByRecursion (IsNear n) cs → AllByRecursion (IsNear n) (take (length cs - 1) (drop 1 cs))
-later_near n [] h = tt
-later_near n (c ∷ cs) h = subst (AllByRecursion (IsNear n)) (sym (rest_is (c ∷ cs))) h.1
+pub near_at : (n : ℕ) (cs : List Constraint) (i : ℕ) (d : Constraint) → i < length cs → AllByRecursion (IsNear n) cs → length (get_or cs i d).path ≤ n
+near_at n = all_at (IsNear n)
 
 pub steps_length : (path : List (TypeId × ℕ)) (old : List Step) → length (path_steps path ++ old) ≡ length path + length old
 steps_length [] old = omega arith

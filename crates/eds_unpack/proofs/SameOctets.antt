@@ -2,7 +2,7 @@
 use Rattle.std.proofs.Common.{◌≡◌, ℕ, zero, suc, ◌+◌, ◌-◌, ◌*◌, ◌/◌, ◌^◌, ◌<◌, ◌≤◌, Bool, false, ◌==◌, min, List, [], ◌∷◌, ◌++◌, length, map, get_or, take, drop, replicate, refl, sym, ap, ap₂, ◌∙◌, arith, inl, inr}
 use Rattle.std.specs.Prelude.{◌&&◌}
 use Rattle.std.proofs.lemmas.Bool.{cases_lt, eq-eqb, ne_eqb}
-use Rattle.std.proofs.lemmas.List.{take_all, drop_all, take-append-le, drop-append-le, drop-take, take-take, length-take, length-drop, length-replicate}
+use Rattle.std.proofs.lemmas.List.{take_all, drop_all, take-append-le, drop-append-le, drop-take, take-take, length-take, length-drop, length-replicate, drop_more}
 use Rattle.eds_base.specs.Reading.{same as same_octets}
 use Rattle.eds_bits.specs.Bits.{Bits, octets_of, unsigned_of, first_pieces, filled, oct}
 use Rattle.eds_bits.proofs.BitLaws.{unsigned-append}
@@ -78,26 +78,24 @@ next_same n left b o os h some e =
     ap (λ xs. same_octets xs (o ∷ os)) (octets_step n (take left b) (omega arith) m ∙ ap₂ (λ c d. unsigned_of c * 2 ^ (8 - n) ∷ octets_of d) t r)
 
 -- the first octet is another one
-pub first_differs : (n left v : ℕ) (b : Bits) (os : List ℕ) → left ≤ length b → (left ≡ 0 → ⊥) → n ≡ min left 8 → v ≡ unsigned_of (take n b) * 2 ^ (8 - n) → 1 ≤ length os → (v ≡ get_or os 0 0 → ⊥)
-    → same_octets (octets_of (take left b)) os ≡ false
-first_differs n left v b [] h some e f more ne = absurd (omega arith)
-first_differs n left v b (o ∷ os) h some e f more ne =
-    next_same n left b o os h (omega arith) e
-    ∙ ap (λ x. x && same_octets (octets_of (take (left - n) (drop n b))) os) (ap (λ w. w == o) (sym f) ∙ ne_eqb v o ne)
+pub first_differs : (n left v : ℕ) (b : Bits) (os : List ℕ) (i : ℕ) → left ≤ length b → (left ≡ 0 → ⊥) → n ≡ min left 8 → v ≡ unsigned_of (take n b) * 2 ^ (8 - n) → i < length os → (v ≡ get_or os i 0 → ⊥)
+    → same_octets (octets_of (take left b)) (drop i os) ≡ false
+first_differs n left v b os i h some e f more ne =
+    ap (same_octets (octets_of (take left b))) (drop_more os i 0 more) ∙ next_same n left b (get_or os i 0) (drop (i + 1) os) h (omega arith) e
+    ∙ ap (λ x. x && same_octets (octets_of (take (left - n) (drop n b))) (drop (i + 1) os)) (ap (λ w. w == get_or os i 0) (sym f) ∙ ne_eqb v (get_or os i 0) ne)
 
 -- it is the same, and the others are compared
-pub first_same : (n left v : ℕ) (b : Bits) (os : List ℕ) → left ≤ length b → (left ≡ 0 → ⊥) → n ≡ min left 8 → v ≡ unsigned_of (take n b) * 2 ^ (8 - n) → 1 ≤ length os → v ≡ get_or os 0 0
-    → same_octets (octets_of (take (left - n) (drop n b))) (take (length os - 1) (drop 1 os)) ≡ same_octets (octets_of (take left b)) os
-first_same n left v b [] h some e f more is = absurd (omega arith)
-first_same n left v b (o ∷ os) h some e f more is =
-    let rest : take (length (o ∷ os) - 1) (drop 1 (o ∷ os)) ≡ os = take_all (length (o ∷ os) - 1) os (omega arith) in
-    ap (same_octets (octets_of (take (left - n) (drop n b)))) rest
-    ∙ sym (next_same n left b o os h (omega arith) e ∙ ap (λ x. x && same_octets (octets_of (take (left - n) (drop n b))) os) (ap (λ w. w == o) (sym f) ∙ eq-eqb v o is))
+pub first_same : (n left v : ℕ) (b : Bits) (os : List ℕ) (i : ℕ) → left ≤ length b → (left ≡ 0 → ⊥) → n ≡ min left 8 → v ≡ unsigned_of (take n b) * 2 ^ (8 - n) → i < length os → v ≡ get_or os i 0
+    → same_octets (octets_of (take (left - n) (drop n b))) (drop (i + 1) os) ≡ same_octets (octets_of (take left b)) (drop i os)
+first_same n left v b os i h some e f more is =
+    sym (
+    ap (same_octets (octets_of (take left b))) (drop_more os i 0 more) ∙ next_same n left b (get_or os i 0) (drop (i + 1) os) h (omega arith) e
+    ∙ ap (λ x. x && same_octets (octets_of (take (left - n) (drop n b))) (drop (i + 1) os)) (ap (λ w. w == get_or os i 0) (sym f) ∙ eq-eqb v (get_or os i 0) is))
 
 -- no bits are left
-pub bits_end : (left : ℕ) (b : Bits) (os : List ℕ) → left ≡ 0 → 1 ≤ length os → same_octets (octets_of (take left b)) os ≡ false
-bits_end left b [] e more = absurd (omega arith)
-bits_end left b (o ∷ os) e more = ap (λ n. same_octets (octets_of (take n b)) (o ∷ os)) e ∙ ap (λ xs. same_octets xs (o ∷ os)) none_left
+pub bits_end : (left : ℕ) (b : Bits) (os : List ℕ) (i : ℕ) → left ≡ 0 → i < length os → same_octets (octets_of (take left b)) (drop i os) ≡ false
+bits_end left b os i e more =
+    ap (λ n. same_octets (octets_of (take n b)) (drop i os)) e ∙ ap (same_octets (octets_of [])) (drop_more os i 0 more) ∙ ap (λ xs. same_octets xs (get_or os i 0 ∷ drop (i + 1) os)) none_left
 
 no_octets : (left : ℕ) (b : Bits) → left ≤ length b → same_octets (octets_of (take left b)) [] ≡ (left == 0)
 no_octets zero b h = ap (λ xs. same_octets xs []) none_left
@@ -106,6 +104,5 @@ no_octets (suc k) b h =
     ap (λ xs. same_octets xs []) (octets_step (min (length (take (suc k) b)) 8) (take (suc k) b) some refl) ∙ sym (ne_eqb (suc k) 0 (λ e. omega arith))
 
 -- no octets are left
-pub octets_end : (left : ℕ) (b : Bits) (os : List ℕ) → left ≤ length b → length os < 1 → same_octets (octets_of (take left b)) os ≡ (left == 0)
-octets_end left b [] h e = no_octets left b h
-octets_end left b (o ∷ os) h e = absurd (omega arith)
+pub octets_end : (left : ℕ) (b : Bits) (os : List ℕ) (i : ℕ) → left ≤ length b → length os ≤ i → same_octets (octets_of (take left b)) (drop i os) ≡ (left == 0)
+octets_end left b os i h past = ap (same_octets (octets_of (take left b))) (drop_all i os past) ∙ no_octets left b h

@@ -63,10 +63,6 @@ module _ (t : Table) (n : ℕ) where
   abbrev pub AreLow : List TypeId → Type 0
   AreLow ids = AllByRecursion (λ (id : TypeId). IsLow t n id.0) ids
 
-  pub first_low : (ids : List TypeId) (d : TypeId) → 0 < length ids → AreLow ids → IsLow t n (get_or ids 0 d).0
-  first_low [] d lt h = absurd (omega arith)
-  first_low (x ∷ ids) d lt h = h.0
-
   pub last_low : (ids : List TypeId) (d : TypeId) → 0 < length ids → AreLow ids → IsLow t n (get_or ids (length ids - 1) d).0
   last_low [] d lt h = absurd (omega arith)
   last_low (x ∷ []) d lt h = h.0

@@ -1,35 +1,33 @@
 -- Reading a container whose value is that of its entries alone.
-use Rattle.std.proofs.Common.{◌≡◌, ℕ, suc, ◌+◌, ◌<◌, Bool, true, false, cond, List, [], ◌∷◌, ◌++◌, length, map, reverse, get_or, Option, Some, None, Result, Ok, Err, refl, sym, ap, subst, ◌∙◌, arith}
-use Rattle.std.specs.Prelude.{◌-◌, ◌==◌, ◌&&◌, is_none, not, take, drop}
+use Rattle.std.proofs.Common.{◌≡◌, ℕ, ◌+◌, ◌<◌, Bool, true, false, cond, List, [], ◌∷◌, ◌++◌, length, map, reverse, get_or, Option, Some, None, Result, Ok, Err, refl, sym, ap, ◌∙◌, arith}
+use Rattle.std.specs.Prelude.{◌-◌, ◌==◌, ◌&&◌, is_none, not, drop}
 use Rattle.std.specs.List.{list_all, flat_map}
+use Rattle.std.proofs.lemmas.List.{drop_more}
 use Rattle.std.proofs.lemmas.Bool.{eqb-true, eq-eqb, and_parts, false≢true}
-use Rattle.eds_base.specs.declared.ids.TypeId.{TypeId}
 use Rattle.eds_base.specs.declared.fail.Fail.{Fail}
 use Rattle.eds_base.specs.declared.fail.Fail.TheVariants.{Named, Memory}
 use Rattle.eds_base.specs.declared.fault.Fault.{Fault}
 use Rattle.eds_base.specs.declared.fault.Step.{Step}
 use Rattle.eds_base.specs.declared.fault.Step.TheVariants as step
 use Rattle.eds_bits.specs.Bits.{Bits}
-use Rattle.eds_types.specs.declared.row.Constraint.{Constraint}
 use Rattle.eds_types.specs.declared.row.Part.{Part}
 use Rattle.eds_types.specs.declared.row.Part.TheVariants as part
 use Rattle.eds_types.specs.Failing.{fault_at, fault_behind, length_path}
 use Rattle.eds_types.specs.Families.{first_of}
 use Rattle.eds_types.specs.Fields.{Field, type_by, field_of, values_of, constraints_along}
 use Rattle.eds_types.specs.Plain.{Plain, fields, plains_of}
-use Rattle.eds_types.specs.Reading.{Read, Ends, stay, nowhere, next, size_fits, next_of, candidate_under, ◌>>=◌, inside, advance, front, check_all, read_part, read_entry_by, read_entry, read_parts, read_own, read_chain, read_under, go_on, finish, trailers_up, read_to_end, ended}
-use Rattle.eds_types.specs.Rows.{Table, id_of, chain, family, is_concrete, constraints_of, entries_of, trailers_of, Placed, placed_from, placed_entries, placed_trailers}
+use Rattle.eds_types.specs.Reading.{Read, stay, nowhere, next, size_fits, next_of, ◌>>=◌, inside, advance, front, check_all, read_entry_by, read_entry, read_parts, read_chain, read_under, finish, trailers_up, read_to_end, ended}
+use Rattle.eds_types.specs.Rows.{Table, id_of, chain, family, is_concrete, constraints_of, entries_of, trailers_of, placed_from, placed_entries, placed_trailers}
 use Rattle.eds_types.specs.Sizes.{tail_of}
 use Rattle.eds_types.specs.Spelling.{Progress, started, with_value}
 use Rattle.eds_base.specs.declared.fault.Reason.TheVariants.{LengthDiffers}
 use Rattle.eds_types.specs.Choices.{meets, fits_choice}
 use Rattle.eds_types.proofs.Candidates.{numbers_are, candidate_is_first}
-use Rattle.eds_types.proofs.Paths.{rest_is}
 use Rattle.eds_unpack.specs.Entries.{placed}
 use Rattle.eds_unpack.specs.Readers.{Stops}
 use Rattle.eds_unpack.specs.Straight.{is_only, is_straight_entry, is_straight}
 use Rattle.eds_unpack.proofs.Steps.{stops_on, stops_as, under_step, under_by, chain_stops, container_reads}
-use Rattle.eds_types.proofs.ExactReading.{failed, ok_is, ok_err, err_is}
+use Rattle.eds_types.proofs.ExactReading.{failed, ok_err, err_is}
 
 -- ---- the entries
 
@@ -55,13 +53,8 @@ stops_inside Memory s f b r h = tt
 
 -- the first entry, and those behind it
 
-pub first_part : (ps : List Part) (p d : Part) → 0 < length ps → p ≡ get_or ps 0 d → ps ≡ p ∷ take (length ps - 1) (drop 1 ps)
-first_part [] p d lt e = absurd (omega arith)
-first_part (q ∷ ps) p d lt e = ap (λ r. r ∷ ps) (sym e) ∙ ap (λ r. p ∷ r) (sym (rest_is (q ∷ ps)))
-
-pub none_left : (ps : List Part) → length ps < 1 → ps ≡ []
-none_left [] lt = refl
-none_left (p ∷ ps) lt = absurd (omega arith)
+pub part_left : (ps : List Part) (i : ℕ) (p : Part) → i < length ps → p ≡ get_or ps i p → drop i ps ≡ p ∷ drop (i + 1) ps
+part_left ps i p lt e = drop_more ps i p lt ∙ ap (λ q. q ∷ drop (i + 1) ps) (sym e)
 
 pub first_type : (t : Table) (p : Part) (id : ℕ) → is_straight_entry t p ≡ true → ((i : ℕ) → type_by (Some p) ≡ Some i → id ≡ i) → type_by (Some p) ≡ Some id
 first_type t (part.Plain name own) id e k = ap Some (sym (k own.0 refl))

@@ -1,6 +1,6 @@
 -- How a walk over a container goes on from part to part, from container to container of its chain, and back over the
 -- trailers.
-use Rattle.std.proofs.Common.{◌≡◌, ℕ, suc, ◌+◌, ◌-◌, ◌<◌, ◌≤◌, ℤ, nat_abs, ◌^◌, true, List, [], ◌∷◌, ◌++◌, length, take, drop, get_or, reverse, Option, Some, None, Ok, Err, refl, sym, ap, subst, ◌∙◌, append_assoc, append-nil, arith}
+use Rattle.std.proofs.Common.{◌≡◌, ℕ, suc, ◌+◌, ◌-◌, ◌<◌, ◌≤◌, ℤ, nat_abs, ◌^◌, true, List, [], ◌∷◌, ◌++◌, length, take, get_or, reverse, Option, Some, None, Ok, Err, refl, sym, ap, subst, ◌∙◌, append_assoc, append-nil, arith}
 use mathlib.Core.List.{reverse_aux}
 use Rattle.std.specs.Prelude.{IsSome, IfSome}
 use Rattle.std.specs.List.{AllByRecursion, flat_map}
@@ -21,7 +21,6 @@ use Rattle.eds_types.specs.Rules.{KeepsRules, ConstraintKeeps, Follows}
 use Rattle.eds_types.specs.Spelling.{Progress, started}
 use Rattle.eds_types.proofs.AllOf.{All-weaker, All-at, All-pair}
 use Rattle.eds_types.proofs.ChainLaws.{chain_step, front_same, under_is}
-use Rattle.eds_types.proofs.Paths.{rest_is}
 use Rattle.eds_types.proofs.RuleFacts.{table_of}
 use Rattle.eds_overlap.specs.Common.{each_once}
 use Rattle.eds_unpack.specs.Asked.{asked}
@@ -111,11 +110,7 @@ low_along t n id y low h = record { rules = low.rules; low = (let e = rank_of_ch
 
 -- ---- lists
 
--- a list by its first item, and by its last
-pub first_item : {A : Type 0} (xs : List A) (d : A) → 0 < length xs → xs ≡ get_or xs 0 d ∷ take (length xs - 1) (drop 1 xs)
-first_item [] d lt = absurd (omega arith)
-first_item (x ∷ xs) d lt = ap (λ r. x ∷ r) (sym (rest_is (x ∷ xs)))
-
+-- a list by its last item
 pub last_item : {A : Type 0} (xs : List A) (d : A) → 0 < length xs → xs ≡ take (length xs - 1) xs ++ get_or xs (length xs - 1) d ∷ []
 last_item xs d lt =
     let k : suc (length xs - 1) ≡ length xs = omega arith in

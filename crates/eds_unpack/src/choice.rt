@@ -65,12 +65,10 @@ fn meets_own(
     requires { numbers_of chain.now ≡ chain_of table.now id.0 }
     ensures { (fs : List Field) → AllByRecursion (TellsAbove table.now id.0 fs known.now) constraints.now → result ≡ list_all (meets table.now id.0 fs) constraints.now }
 {
-    let mut rest = constraints;
-    while let [constraint, after @ ..] = rest {
+    for constraint in constraints {
         if !meets_one(table, id, chain, known, constraint) {
             return false;
         }
-        rest = after;
     }
     true
 }
@@ -86,12 +84,10 @@ fn meets_all(
     requires { numbers_of chain.now ≡ chain_of table.now id.0 }
     ensures { (fs : List Field) → TellsChoice table.now id.0 fs known.now → result ≡ list_all (meets table.now id.0 fs) (flat_map (constraints_of table.now) (numbers_of containers.now)) }
 {
-    let mut rest = containers;
-    while let [one, after @ ..] = rest {
+    for one in containers {
         if !meets_own(table, id, chain, known, table.constraints_of(*one)) {
             return false;
         }
-        rest = after;
     }
     true
 }
@@ -123,12 +119,10 @@ fn first_candidate(
     requires { numbers_of chain.now ≡ chain_of table.now id.0 }
     ensures { (fs : List Field) → TellsChoice table.now id.0 fs known.now → option_map (λ (l : Id). l.0) result ≡ first_of (fits_choice table.now id.0 fs) (numbers_of family.now) }
 {
-    let mut rest = family;
-    while let [under, after @ ..] = rest {
+    for under in family {
         if under.0 != id.0 && fits_under(table, id, chain, known, *under) {
             return Some(*under);
         }
-        rest = after;
     }
     None
 }

@@ -63,13 +63,11 @@ pub(crate) fn check_constraints(
     ensures calm { OnOk result (path.new ≡ []) }
     ensures reason { IfErr result StopsReading }
 {
-    let mut rest = constraints;
-    while let [constraint, after @ ..] = rest {
+    for constraint in constraints {
         if !holds(table, fields, constraint) {
             put_steps(path, constraint.path.as_slice());
             return Err(Fail::Named(Reason::Constraint));
         }
-        rest = after;
     }
     Ok(())
 }

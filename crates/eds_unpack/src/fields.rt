@@ -23,12 +23,10 @@ pub(crate) struct ReadField {
 pub(crate) fn field_at(fields: &[ReadField], container: TypeId, place: u16) -> Option<&Value>
     ensures { option_map plain (option_copied result) ≡ value_at (fields_of fields.now) container.0 place }
 {
-    let mut rest = fields;
-    while let [field, after @ ..] = rest {
+    for field in fields {
         if field.container.0 == container.0 && field.place == place {
             return Some(&field.value);
         }
-        rest = after;
     }
     None
 }

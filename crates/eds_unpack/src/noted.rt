@@ -22,13 +22,8 @@ use eds_types::Constraint;
 fn number_noted(notes: &Notes, numbers: &[Option<i128>], path: &[(TypeId, u16)]) -> Option<i128>
     ensures { Among notes.now path.now → (h : ℕ) × (slice_get notes.now h ≡ Some path.now) × (result ≡ unwrap_or (slice_get numbers.now h) None) }
 {
-    match notes.find(path) {
-        Some(at) => match numbers.get(at as usize) {
-            Some(number) => *number,
-            None => None,
-        },
-        None => None,
-    }
+    let at = notes.find(path)?;
+    *numbers.get(at as usize)?
 }
 
 // ---- fields
@@ -82,10 +77,8 @@ pub(crate) fn note_field(
     ensures last { (g : ℕ) (p : Id × ℕ) → slice_get notes.now g ≡ Some (p ∷ []) → (p.0).0 ≡ container.0 → p.1 ≡ place → slice_get numbers.new g ≡ Some number }
     ensures longer { (g : ℕ) (p q : Id × ℕ) (path : Steps) → slice_get notes.now g ≡ Some (p ∷ q ∷ path) → (p.0).0 ≡ container.0 → p.1 ≡ place → ((q.0).0 ≡ container.0 → ⊥) → Among notes.now (q ∷ path) → (h : ℕ) × (slice_get notes.now h ≡ Some (q ∷ path)) × (slice_get numbers.new g ≡ slice_get numbers.old h) }
 {
-    let mut rest = notes.own(container);
-    while let [at, after @ ..] = rest {
+    for at in notes.own(container) {
         note_path(notes, numbers, *at, place, number);
-        rest = after;
     }
 }
 
@@ -116,13 +109,11 @@ pub(crate) fn check_noted(
     ensures calm { OnOk result (path.new ≡ []) }
     ensures reason { IfErr result IsOfReading }
 {
-    let mut rest = constraints;
-    while let [constraint, after @ ..] = rest {
+    for constraint in constraints {
         if !holds_noted(notes, numbers, constraint) {
             put_steps(path, constraint.path.as_slice());
             return Err(Reason::Constraint);
         }
-        rest = after;
     }
     Ok(())
 }

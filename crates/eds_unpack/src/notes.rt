@@ -110,12 +110,10 @@ impl Notes {
             self.has_steps();
             return None;
         };
-        let mut rest = self.own(*container);
-        while let [at, after @ ..] = rest {
+        for at in self.own(*container) {
             if is_same(self.path(*at), path) {
                 return Some(*at);
             }
-            rest = after;
         }
         None
     }
@@ -187,10 +185,8 @@ impl Notes {
         ensures { IfOk result (λ n. n ≡ with_paths self (flat_map asked_by constraints.now)) }
     {
         let mut notes = self;
-        let mut rest = constraints;
-        while let [constraint, after @ ..] = rest {
+        for constraint in constraints {
             notes = notes.with_tails(alloc, constraint.path.as_slice())?;
-            rest = after;
         }
         Ok(notes)
     }
@@ -214,10 +210,8 @@ impl Notes {
         ensures { IfOk result (λ n. n ≡ with_paths self (flat_map tellers_of parts.now)) }
     {
         let mut notes = self;
-        let mut rest = parts;
-        while let [part, after @ ..] = rest {
+        for part in parts {
             notes = notes.with_part(alloc, part)?;
-            rest = after;
         }
         Ok(notes)
     }

@@ -93,10 +93,8 @@ fn read_row(
         Kind::Str(form) => read_string(level.alloc, *form, reader),
         Kind::Bin(bits, _) => read_octets(level.alloc, *bits, reader),
         Kind::Arr(item, count) => {
-            match read_items(level, *item, u128::from(*count), path, reader) {
-                Ok(items) => Ok(Value::Items(items)),
-                Err(stop) => Err(stop),
-            }
+            let items = read_items(level, *item, u128::from(*count), path, reader)?;
+            Ok(Value::Items(items))
         }
         Kind::Con(_) => read_container(level, id, path, reader),
     }
@@ -180,16 +178,13 @@ fn read_straight(
     ensures calm { OnOk result (path.new ≡ []) }
     ensures reason { IfErr result StopsReading }
 {
-    let mut rest = level.table.entries_of(container);
-    let mut values = Vec::with_capacity(level.alloc, rest.len().min(FEW))?;
+    let entries = level.table.entries_of(container);
+    let mut values = Vec::with_capacity(level.alloc, entries.len().min(FEW))?;
     let mut place = 0;
-    while let [part, after @ ..] = rest {
-        match read_field(level, container, place, type_of(part), path, reader) {
-            Ok(value) => values.push(value)?,
-            Err(stop) => return Err(stop),
-        }
+    for part in entries {
+        let value = read_field(level, container, place, type_of(part), path, reader)?;
+        values.push(value)?;
         place += 1;
-        rest = after;
     }
     Ok(Value::Fields(container, values))
 }
@@ -316,11 +311,9 @@ fn read_parts(
     ensures reason { IfErr result StopsReading }
 {
     let mut place = first;
-    let mut rest = parts;
-    while let [part, after @ ..] = rest {
+    for part in parts {
         read_entry(level, container, place, part, reached, path, reader)?;
         place += 1;
-        rest = after;
     }
     Ok(())
 }
@@ -347,12 +340,10 @@ fn read_chain(
 {
     let table = level.table;
     table.keeps_rules();
-    let mut rest = chain;
-    while let [id, after @ ..] = rest {
+    for id in chain {
         let constraints = table.constraints_of(*id);
         check_constraints(table, constraints, reached.fields.as_slice(), path)?;
         read_parts(level, *id, 0, table.entries_of(*id), reached, path, reader)?;
-        rest = after;
     }
     Ok(())
 }
@@ -382,7 +373,7 @@ fn read_trailers(
     let mut rest = chain;
     while let [front @ .., id] = rest {
         let first = table.entries_of(*id).len() as u16;
-        if let Err(stop) = read_parts(
+        read_parts(
             level,
             *id,
             first,
@@ -390,9 +381,7 @@ fn read_trailers(
             reached,
             path,
             reader,
-        ) {
-            return Err(stop);
-        }
+        )?;
         rest = front;
     }
     Ok(())
@@ -425,9 +414,7 @@ fn read_under(
         match next_container(table, at, reached.fields.as_slice()) {
             Next::Stay => {
                 let chain = table.chain_of(at);
-                if let Err(stop) = read_trailers(level, chain.as_slice(), reached, path, reader) {
-                    return Err(stop);
-                }
+                read_trailers(level, chain.as_slice(), reached, path, reader)?;
                 if has_told_size(reached, reader) {
                     return Ok(at);
                 }
@@ -437,9 +424,7 @@ fn read_under(
             Next::Nowhere => break,
             Next::Under(child) => {
                 let entries = table.entries_of(child);
-                if let Err(stop) = read_parts(level, child, 0, entries, reached, path, reader) {
-                    return Err(stop);
-                }
+                read_parts(level, child, 0, entries, reached, path, reader)?;
                 at = child;
             }
         }
@@ -470,14 +455,8 @@ fn read_container(
     let entries = level.table.entries_of(id).len();
     let mut reached = begin(level.alloc, entries, reader)?;
     let chain = level.table.chain_of(id);
-    if let Err(stop) = read_chain(level, chain.as_slice(), &mut reached, path, reader) {
-        return Err(stop);
-    }
-    match read_under(level, id, &mut reached, path, reader) {
-        Ok(found) => {
-            let values = values_of(level.alloc, reached.fields)?;
-            Ok(Value::Fields(found, values))
-        }
-        Err(stop) => Err(stop),
-    }
+    read_chain(level, chain.as_slice(), &mut reached, path, reader)?;
+    let found = read_under(level, id, &mut reached, path, reader)?;
+    let values = values_of(level.alloc, reached.fields)?;
+    Ok(Value::Fields(found, values))
 }

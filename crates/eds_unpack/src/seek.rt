@@ -14,13 +14,11 @@ fn length_among(parts: &[Part], id: TypeId, first: u16) -> Option<Step>
     ensures { result ≡ length_among (placed_from id.0 first parts.now) }
 {
     let mut place = first;
-    let mut rest = parts;
-    while let [part, after @ ..] = rest {
+    for part in parts {
         if let Part::Length(_, _, _, _) = part {
             return Some(Step::Part(id, place));
         }
         place += 1;
-        rest = after;
     }
     None
 }

@@ -66,12 +66,10 @@ pub(crate) fn label_of(listing: &Listing, number: i128) -> Option<&Text>
     requires { AllByRecursion (λ e. listed listing.now e.0 ≡ Some e.1) listing.now }
     ensures { option_copied result ≡ label_found listing.now listing.now number }
 {
-    let mut rest = listing.as_slice();
-    while let [(label, n), after @ ..] = rest {
+    for (label, n) in listing.as_slice() {
         if *n == number {
             return Some(label);
         }
-        rest = after;
     }
     None
 }
@@ -175,8 +173,7 @@ fn octets_are(bits: u64, octets: &[u8], reader: BitReader<'_>) -> bool
 {
     let mut ahead = reader;
     let mut left = bits;
-    let mut rest = octets;
-    while let [octet, after @ ..] = rest {
+    for octet in octets {
         if left == 0 {
             return false;
         }
@@ -185,7 +182,6 @@ fn octets_are(bits: u64, octets: &[u8], reader: BitReader<'_>) -> bool
             return false;
         }
         left -= u64::from(n);
-        rest = after;
     }
     left == 0
 }

@@ -45,14 +45,7 @@ pub(crate) fn type_of(part: &Part) -> TypeId
 fn are_straight(table: &TypeTable, parts: &[Part]) -> bool
     ensures { result ≡ list_all (is_straight_entry table.now) parts.now }
 {
-    let mut rest = parts;
-    while let [part, after @ ..] = rest {
-        if !is_straight_entry(table, part) {
-            return false;
-        }
-        rest = after;
-    }
-    true
+    parts.iter().all(|part| is_straight_entry(table, part))
 }
 
 /// Whether a container derives from none and none derives from it, and it has such entries alone: then no part of it is

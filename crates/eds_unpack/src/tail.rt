@@ -40,10 +40,7 @@ pub(crate) fn open_bits(table: &TypeTable, part: &Part) -> Option<u32>
     ensures { result ≡ tail_of table.now part.now }
 {
     match part {
-        Part::Plain(_, id) => match row_of(table.rows(), *id) {
-            Some(row) => open_by(&row.kind),
-            None => None,
-        },
+        Part::Plain(_, id) => open_by(&row_of(table.rows(), *id)?.kind),
         _ => None,
     }
 }
@@ -115,10 +112,8 @@ fn parts_size(table: &TypeTable, parts: &[Part], before: u128) -> u128
     ensures { result ≡ limited (before + sizes_of table.now parts.now) }
 {
     let mut size = before;
-    let mut rest = parts;
-    while let [part, after @ ..] = rest {
+    for part in parts {
         size = limited(size + part_size(table, part));
-        rest = after;
     }
     size
 }

@@ -394,15 +394,9 @@ fn walk_parts(
     ensures reason { IfErr result IsOfReading }
 {
     let mut place = first;
-    let mut rest = parts;
-    while let [part, after @ ..] = rest {
-        if let Err(reason) = walk_entry(
-            walk, container, place, part, walked, numbers, path, reader,
-        ) {
-            return Err(reason);
-        }
+    for part in parts {
+        walk_entry(walk, container, place, part, walked, numbers, path, reader)?;
         place += 1;
-        rest = after;
     }
     Ok(())
 }
@@ -439,16 +433,10 @@ fn walk_chain(
 {
     let table = walk.table;
     table.keeps_rules();
-    let mut rest = chain;
-    while let [one, after @ ..] = rest {
-        if let Err(reason) = check_noted(walk.notes, numbers, table.constraints_of(*one), path) {
-            return Err(reason);
-        }
+    for one in chain {
+        check_noted(walk.notes, numbers, table.constraints_of(*one), path)?;
         let entries = table.entries_of(*one);
-        if let Err(reason) = walk_parts(walk, *one, 0, entries, walked, numbers, path, reader) {
-            return Err(reason);
-        }
-        rest = after;
+        walk_parts(walk, *one, 0, entries, walked, numbers, path, reader)?;
     }
     Ok(())
 }
@@ -487,11 +475,7 @@ fn walk_trailers(
     while let [front @ .., one] = rest {
         let first = table.entries_of(*one).len() as u16;
         let trailers = table.trailers_of(*one);
-        if let Err(reason) = walk_parts(
-            walk, *one, first, trailers, walked, numbers, path, reader,
-        ) {
-            return Err(reason);
-        }
+        walk_parts(walk, *one, first, trailers, walked, numbers, path, reader)?;
         rest = front;
     }
     Ok(())
@@ -532,9 +516,7 @@ fn walk_under(
             Next::Stay => {
                 let chain = table.chain_of(at);
                 let chain = chain.as_slice();
-                if let Err(reason) = walk_trailers(walk, at, chain, walked, numbers, path, reader) {
-                    return Err(reason);
-                }
+                walk_trailers(walk, at, chain, walked, numbers, path, reader)?;
                 if is_told_size(walked.octets, &walked.start, reader) {
                     return Ok(at);
                 }
@@ -544,11 +526,7 @@ fn walk_under(
             Next::Nowhere => break,
             Next::Under(child) => {
                 let entries = table.entries_of(child);
-                if let Err(reason) = walk_parts(
-                    walk, child, 0, entries, walked, numbers, path, reader,
-                ) {
-                    return Err(reason);
-                }
+                walk_parts(walk, child, 0, entries, walked, numbers, path, reader)?;
                 at = child;
             }
         }
@@ -585,14 +563,10 @@ fn walk_container(
     };
     let chain = walk.table.chain_of(id);
     let chain = chain.as_slice();
-    if let Err(reason) = walk_chain(walk, id, chain, &mut walked, numbers, path, reader) {
-        return Err(reason);
-    }
-    match walk_under(walk, id, &mut walked, numbers, path, reader) {
-        Ok(found) => Ok(Seen {
-            found,
-            number: Some(i128::from(found.0)),
-        }),
-        Err(reason) => Err(reason),
-    }
+    walk_chain(walk, id, chain, &mut walked, numbers, path, reader)?;
+    let found = walk_under(walk, id, &mut walked, numbers, path, reader)?;
+    Ok(Seen {
+        found,
+        number: Some(i128::from(found.0)),
+    })
 }

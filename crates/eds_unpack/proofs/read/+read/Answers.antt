@@ -1,6 +1,8 @@
-use Rattle.std.proofs.Common.{◌≡◌, ◌∙◌, ◌+◌, ◌-◌, [], ◌∷◌, ◌++◌, length, map, get_or, true, false, refl, ap, sym, subst, Ok, Err, Some, rules, arith}
+use Rattle.std.proofs.Common.{◌≡◌, ◌∙◌, ◌+◌, ◌-◌, [], ◌∷◌, ◌++◌, length, map, get_or, true, false, refl, ap, sym, subst, Ok, Err, Some, rules, arith, drop}
 use Rattle.std.specs.List.{AllByRecursion, list_all}
-use Rattle.std.proofs.lemmas.List.{length-take, map-append}
+use Rattle.std.proofs.lemmas.List.{drop_all, length-take, map-append}
+use Rattle.std.proofs.lemmas.Result.{err_from_is_err_and}
+use Rattle.eds_base.specs.declared.ids.TypeId.{TypeId}
 use Rattle.eds_base.specs.declared.fault.Reason.TheVariants.{LengthDiffers, NoDerived}
 use Rattle.eds_base.specs.declared.fault.Step.TheVariants as step
 use Rattle.eds_types.specs.Failing.{fault_at}
@@ -19,10 +21,10 @@ use Rattle.eds_unpack.specs.Readers.{Gives, with_path, stop_at}
 use Rattle.eds_unpack.proofs.Labels.{kind_listed}
 use Rattle.eds_unpack.proofs.Levels.{next_level}
 use Rattle.eds_unpack.proofs.OnReads.{value_moves, items_move, pad_moves}
-use Rattle.eds_unpack.proofs.Ranks.{chain_is_low, child_is_low, item_is_read}
-use Rattle.eds_unpack.proofs.Steps.{stops_as, first_low, last_low, front_low, near_low, near_most, entries_low, trailers_low, under_way, told_way, begins, is_started, plain_part, list_part, fixed_part, check_part, pad_part, length_part, length_number, items_more, trailers_stop, trailers_go, trailers_done, stay_stops, stay_ends, nowhere_is, under_stops, under_goes, under_ends, chain_stops, end_stops, container_reads}
+use Rattle.eds_unpack.proofs.Ranks.{all_at, chain_is_low, child_is_low, item_is_read}
+use Rattle.eds_unpack.proofs.Steps.{stops_as, last_low, front_low, near_low, near_most, entries_low, trailers_low, under_way, told_way, begins, is_started, plain_part, list_part, fixed_part, check_part, pad_part, length_part, length_number, items_more, trailers_stop, trailers_go, trailers_done, stay_stops, stay_ends, nowhere_is, under_stops, under_goes, under_ends, chain_stops, end_stops, container_reads}
 use Rattle.eds_unpack.specs.Straight.{is_straight_entry}
-use Rattle.eds_unpack.proofs.StraightReads.{IsStraightSoFar, first_part, first_type, first_straight, none_left, straight_begins, straight_stops, straight_goes, straight_done, straight_ends, straight_fails, entries_straight}
+use Rattle.eds_unpack.proofs.StraightReads.{IsStraightSoFar, part_left, first_type, first_straight, straight_begins, straight_stops, straight_goes, straight_done, straight_ends, straight_fails, entries_straight}
 use Rattle.eds_unpack.proofs.read.+read.Goals as goal
 use Rattle.eds_unpack.proofs.read.+read.Goals.{read_under-else-loop-test, read_under-then-loop-test+in-Nowhere}
 
@@ -99,74 +101,76 @@ read_part-returns-in_ok-keep_field-in-List-clause-begun t c =
 
 -- ---- containers that are read straight
 
-pub read_straight-loop-rest-init : goal.read_straight-loop-rest-init
-read_straight-loop-rest-init t c = record {
+pub read_straight-loop-part-init : goal.read_straight-loop-part-init
+read_straight-loop-part-init t c = record {
   root = c.requires.root;
-  inner = subst (AllByRecursion (PartIsRead c.args.level.now.table.now c.args.level.now.depth)) (sym c.entries_of-rest.ensures.value) (entries_low c.args.level.now.table.now c.args.level.now.depth c.args.container.0 c.requires.inner);
-  straight = ap (list_all (is_straight_entry c.args.level.now.table.now)) c.entries_of-rest.ensures.value ∙ entries_straight c.args.level.now.table.now c.args.container.0 c.requires.straight;
-  many = omega (arith, c.entries_of-rest.ensures.few);
-  read = straight_begins c.args.level.now.table.now (read_within c.args.level.now.depth c.args.level.now.table.now) c.args.container.0 (bits_left c.args.reader.now) c.entries_of-rest.result.now _ c.entries_of-rest.ensures.value (ap (map plain) c.in_ok-values.ensures.items);
+  inner = subst (AllByRecursion (PartIsRead c.args.level.now.table.now c.args.level.now.depth)) (sym c.entries_of-entries.ensures.value) (entries_low c.args.level.now.table.now c.args.level.now.depth c.args.container.0 c.requires.inner);
+  straight = ap (list_all (is_straight_entry c.args.level.now.table.now)) c.entries_of-entries.ensures.value ∙ entries_straight c.args.level.now.table.now c.args.container.0 c.requires.straight;
+  many = refl;
+  few = c.entries_of-entries.ensures.few;
+  read = straight_begins c.args.level.now.table.now (read_within c.args.level.now.depth c.args.level.now.table.now) c.args.container.0 (bits_left c.args.reader.now) c.entries_of-entries.result.now _ c.entries_of-entries.ensures.value (ap (map plain) c.in_ok-values.ensures.items);
 }
 
 pub read_straight-read_field-requires : goal.read_straight-read_field-requires
 read_straight-read_field-requires t c =
-    let first = first_part c.loop-rest.rest.now c.part-item.result _ (omega (arith, c.in-len1-up.len_at_least)) c.part-item.is in
-    let parts = subst (AllByRecursion (PartIsRead c.args.level.now.table.now c.args.level.now.depth)) first c.loop-rest.invariant.inner in
-    let plain_one = first_straight c.args.level.now.table.now c.loop-rest.rest.now _ c.part-item.result first c.loop-rest.invariant.straight in
-    (omega arith, (parts.0.inner c.type_of.result.0 (first_type c.args.level.now.table.now c.part-item.result c.type_of.result.0 plain_one.0 c.type_of.ensures), (c.requires.few, c.loop-rest.invariant.root)))
+    let first = part_left c.entries_of-entries.result.now c.loop-part.part-index c.part-item.result (omega arith) c.part-item.is in
+    let parts = subst (AllByRecursion (PartIsRead c.args.level.now.table.now c.args.level.now.depth)) first c.loop-part.invariant.inner in
+    let plain_one = first_straight c.args.level.now.table.now (drop c.loop-part.part-index c.entries_of-entries.result.now) _ c.part-item.result first c.loop-part.invariant.straight in
+    (omega arith, (parts.0.inner c.type_of.result.0 (first_type c.args.level.now.table.now c.part-item.result c.type_of.result.0 plain_one.0 c.type_of.ensures), (c.requires.few, c.loop-part.invariant.root)))
 
-pub read_straight-returns-in-Err-clause-gives : goal.read_straight-returns-in-Err-clause-gives
-read_straight-returns-in-Err-clause-gives t c =
-    let first = first_part c.loop-rest.rest.now c.part-item.result _ (omega (arith, c.in-len1-up.len_at_least)) c.part-item.is in
-    let plain_one = first_straight c.args.level.now.table.now c.loop-rest.rest.now _ c.part-item.result first c.loop-rest.invariant.straight in
-    let so = subst (λ ps. IsStraightSoFar c.args.level.now.table.now (read_within c.args.level.now.depth c.args.level.now.table.now) c.args.container.0 (bits_left c.args.reader.now) c.loop-rest.place ps (map plain c.loop-rest.values.items) (bits_left c.loop-rest.reader)) first c.loop-rest.invariant.read in
-    straight_fails c.args.level.now.table.now c.args.container.0 c.requires.straight (read_within c.args.level.now.depth c.args.level.now.table.now) (bits_left c.args.reader.now) _
-    (straight_stops c.args.level.now.table.now (read_within c.args.level.now.depth c.args.level.now.table.now) c.args.container.0 (bits_left c.args.reader.now) c.loop-rest.place c.part-item.result _ _ _ so c.type_of.result.0 plain_one.0 (first_type c.args.level.now.table.now c.part-item.result c.type_of.result.0 plain_one.0 c.type_of.ensures) _ c.in-Err.ensures.gives)
+pub read_straight-returns-in_err-value-clause-gives : goal.read_straight-returns-in_err-value-clause-gives
+read_straight-returns-in_err-value-clause-gives t c =
+    let p = err_from_is_err_and c.from_residual-in_err-value.result c.from_residual-in_err-value.ensures.1 in
+    let first = part_left c.entries_of-entries.result.now c.loop-part.part-index c.part-item.result (omega arith) c.part-item.is in
+    let plain_one = first_straight c.args.level.now.table.now (drop c.loop-part.part-index c.entries_of-entries.result.now) _ c.part-item.result first c.loop-part.invariant.straight in
+    let so = subst (λ ps. IsStraightSoFar c.args.level.now.table.now (read_within c.args.level.now.depth c.args.level.now.table.now) c.args.container.0 (bits_left c.args.reader.now) c.loop-part.place ps (map plain c.loop-part.values.items) (bits_left c.loop-part.reader)) first c.loop-part.invariant.read in
+    rw (p.1, p.2) (straight_fails c.args.level.now.table.now c.args.container.0 c.requires.straight (read_within c.args.level.now.depth c.args.level.now.table.now) (bits_left c.args.reader.now) _
+    (straight_stops c.args.level.now.table.now (read_within c.args.level.now.depth c.args.level.now.table.now) c.args.container.0 (bits_left c.args.reader.now) c.loop-part.place c.part-item.result _ _ _ so c.type_of.result.0 plain_one.0 (first_type c.args.level.now.table.now c.part-item.result c.type_of.result.0 plain_one.0 c.type_of.ensures) _ c.in_err-value.ensures.gives))
 
-pub read_straight-loop-rest-preserved : goal.read_straight-loop-rest-preserved
-read_straight-loop-rest-preserved t c =
-    let first = first_part c.loop-rest.rest.now c.part-item.result _ (omega (arith, c.in-len1-up.len_at_least)) c.part-item.is in
-    let parts = subst (AllByRecursion (PartIsRead c.args.level.now.table.now c.args.level.now.depth)) first c.loop-rest.invariant.inner in
-    let plain_one = first_straight c.args.level.now.table.now c.loop-rest.rest.now _ c.part-item.result first c.loop-rest.invariant.straight in
-    let so = subst (λ ps. IsStraightSoFar c.args.level.now.table.now (read_within c.args.level.now.depth c.args.level.now.table.now) c.args.container.0 (bits_left c.args.reader.now) c.loop-rest.place ps (map plain c.loop-rest.values.items) (bits_left c.loop-rest.reader)) first c.loop-rest.invariant.read in
-    let fewer = ap length first in
+pub read_straight-loop-part-preserved : goal.read_straight-loop-part-preserved
+read_straight-loop-part-preserved t c =
+    let first = part_left c.entries_of-entries.result.now c.loop-part.part-index c.part-item.result (omega arith) c.part-item.is in
+    let parts = subst (AllByRecursion (PartIsRead c.args.level.now.table.now c.args.level.now.depth)) first c.loop-part.invariant.inner in
+    let plain_one = first_straight c.args.level.now.table.now (drop c.loop-part.part-index c.entries_of-entries.result.now) _ c.part-item.result first c.loop-part.invariant.straight in
+    let so = subst (λ ps. IsStraightSoFar c.args.level.now.table.now (read_within c.args.level.now.depth c.args.level.now.table.now) c.args.container.0 (bits_left c.args.reader.now) c.loop-part.place ps (map plain c.loop-part.values.items) (bits_left c.loop-part.reader)) first c.loop-part.invariant.read in
     record {
-      root = c.in-Ok.ensures.calm;
+      root = c.in_ok-value.ensures.calm;
       inner = parts.1;
       straight = plain_one.1;
-      many = omega (arith, fewer, c.loop-rest.invariant.many);
-      read = straight_goes c.args.level.now.table.now (read_within c.args.level.now.depth c.args.level.now.table.now) c.args.container.0 (bits_left c.args.reader.now) c.loop-rest.place c.part-item.result _ (map plain c.loop-rest.values.items) (bits_left c.loop-rest.reader) so c.type_of.result.0 plain_one.0 (first_type c.args.level.now.table.now c.part-item.result c.type_of.result.0 plain_one.0 c.type_of.ensures) (plain c.in-Ok.value) (map plain c.push.new.self.items) (bits_left c.read_field.new.reader)
-          (ap (map plain) c.in_ok-push-in-Ok.ensures.items ∙ map-append plain c.loop-rest.values.items (c.in-Ok.value ∷ [])) c.in-Ok.ensures.gives;
+      many = omega (arith, c.loop-part.invariant.many);
+      few = c.loop-part.invariant.few;
+      read = straight_goes c.args.level.now.table.now (read_within c.args.level.now.depth c.args.level.now.table.now) c.args.container.0 (bits_left c.args.reader.now) c.loop-part.place c.part-item.result _ (map plain c.loop-part.values.items) (bits_left c.loop-part.reader) so c.type_of.result.0 plain_one.0 (first_type c.args.level.now.table.now c.part-item.result c.type_of.result.0 plain_one.0 c.type_of.ensures) (plain c.in_ok-value.value) (map plain c.push.new.self.items) (bits_left c.read_field.new.reader)
+          (ap (map plain) c.in_ok-push.ensures.items ∙ map-append plain c.loop-part.values.items (c.in_ok-value.value ∷ [])) c.in_ok-value.ensures.gives;
     }
 
 pub read_straight-returns-clause-gives : goal.read_straight-returns-clause-gives
 read_straight-returns-clause-gives t c =
-    let so = c.loop-rest.invariant.read in
-    straight_ends c.args.level.now.table.now c.args.container.0 c.requires.straight (read_within c.args.level.now.depth c.args.level.now.table.now) (bits_left c.args.reader.now) so.s (bits_left c.loop-rest.reader) so.octets
-    (straight_done c.args.level.now.table.now (read_within c.args.level.now.depth c.args.level.now.table.now) c.args.container.0 (bits_left c.args.reader.now) c.loop-rest.place c.loop-rest.rest.now (map plain c.loop-rest.values.items) (bits_left c.loop-rest.reader) so (none_left c.loop-rest.rest.now c.in_default.len_below))
-    ∙ ap (λ us. Ok (fields c.args.container.0 (plains_of us), bits_left c.loop-rest.reader)) so.values
-    ∙ ap (λ v. Ok (v, bits_left c.loop-rest.reader)) (sym (plain_fields c.args.container c.loop-rest.values))
+    let so = c.loop-part.invariant.read in
+    straight_ends c.args.level.now.table.now c.args.container.0 c.requires.straight (read_within c.args.level.now.depth c.args.level.now.table.now) (bits_left c.args.reader.now) so.s (bits_left c.loop-part.reader) so.octets
+    (straight_done c.args.level.now.table.now (read_within c.args.level.now.depth c.args.level.now.table.now) c.args.container.0 (bits_left c.args.reader.now) c.loop-part.place (drop c.loop-part.part-index c.entries_of-entries.result.now) (map plain c.loop-part.values.items) (bits_left c.loop-part.reader) so (drop_all c.loop-part.part-index c.entries_of-entries.result.now (omega arith)))
+    ∙ ap (λ us. Ok (fields c.args.container.0 (plains_of us), bits_left c.loop-part.reader)) so.values
+    ∙ ap (λ v. Ok (v, bits_left c.loop-part.reader)) (sym (plain_fields c.args.container c.loop-part.values))
 
 -- ---- chains
 
 pub read_chain-check_constraints-requires-clause-near : goal.read_chain-check_constraints-requires-clause-near
 read_chain-check_constraints-requires-clause-near t c =
-    let low = first_low c.args.level.now.table.now (c.args.level.now.depth + 1) c.loop-rest.rest.now (record { 0 = 0 }) (omega arith) c.loop-rest.invariant.inner in
-    subst (AllByRecursion (IsNear 32)) (sym c.constraints_of-constraints.ensures) (near_most c.args.level.now.table.now c.args.level.now.depth (get_or c.loop-rest.rest.now 0 (record { 0 = 0 })).0 c.requires.few low)
+    let low = all_at (λ (id : TypeId). IsLow c.args.level.now.table.now (c.args.level.now.depth + 1) id.0) c.args.chain.now c.loop-id.id-index (record { 0 = 0 }) (omega arith) c.requires.inner in
+    subst (AllByRecursion (IsNear 32)) (sym c.constraints_of-constraints.ensures) (near_most c.args.level.now.table.now c.args.level.now.depth (get_or c.args.chain.now c.loop-id.id-index (record { 0 = 0 })).0 c.requires.few low)
 
 pub read_chain-returns-in_err-check_constraints-clause-near : goal.read_chain-returns-in_err-check_constraints-clause-near
 read_chain-returns-in_err-check_constraints-clause-near t c =
-    let low = first_low c.args.level.now.table.now (c.args.level.now.depth + 1) c.loop-rest.rest.now (record { 0 = 0 }) (omega arith) c.loop-rest.invariant.inner in
-    let most = c.in_err-check_constraints.ensures.near (c.args.level.now.depth + 1) (subst (AllByRecursion (IsNear (c.args.level.now.depth + 1))) (sym c.constraints_of-constraints.ensures) (near_low c.args.level.now.table.now c.args.level.now.depth (get_or c.loop-rest.rest.now 0 (record { 0 = 0 })).0 low)) in
+    let low = all_at (λ (id : TypeId). IsLow c.args.level.now.table.now (c.args.level.now.depth + 1) id.0) c.args.chain.now c.loop-id.id-index (record { 0 = 0 }) (omega arith) c.requires.inner in
+    let most = c.in_err-check_constraints.ensures.near (c.args.level.now.depth + 1) (subst (AllByRecursion (IsNear (c.args.level.now.depth + 1))) (sym c.constraints_of-constraints.ensures) (near_low c.args.level.now.table.now c.args.level.now.depth (get_or c.args.chain.now c.loop-id.id-index (record { 0 = 0 })).0 low)) in
     omega arith
 
 pub read_chain-read_parts-requires : goal.read_chain-read_parts-requires
 read_chain-read_parts-requires t c =
-    let low = first_low c.args.level.now.table.now (c.args.level.now.depth + 1) c.loop-rest.rest.now (record { 0 = 0 }) (omega arith) c.loop-rest.invariant.inner in (
+    let low = all_at (λ (id : TypeId). IsLow c.args.level.now.table.now (c.args.level.now.depth + 1) id.0) c.args.chain.now c.loop-id.id-index (record { 0 = 0 }) (omega arith) c.requires.inner in (
       omega arith,
       (
-        subst (AllByRecursion (PartIsRead c.args.level.now.table.now c.args.level.now.depth)) (sym c.entries_of.ensures.value) (entries_low c.args.level.now.table.now c.args.level.now.depth (get_or c.loop-rest.rest.now 0 (record { 0 = 0 })).0 low),
-        (omega (arith, c.entries_of.ensures.few), (c.requires.few, (c.loop-rest.invariant.begun, c.in_ok-check_constraints.ensures.calm))),
+        subst (AllByRecursion (PartIsRead c.args.level.now.table.now c.args.level.now.depth)) (sym c.entries_of.ensures.value) (entries_low c.args.level.now.table.now c.args.level.now.depth (get_or c.args.chain.now c.loop-id.id-index (record { 0 = 0 })).0 low),
+        (omega (arith, c.entries_of.ensures.few), (c.requires.few, (c.loop-id.invariant.begun, c.in_ok-check_constraints.ensures.calm))),
       ),
     )
 
@@ -211,21 +215,23 @@ read_container-read_chain-requires t c = (
   ),
 )
 
-pub read_container-returns-in-Err-clause-gives : goal.read_container-returns-in-Err-clause-gives
-read_container-returns-in-Err-clause-gives t c =
-    chain_stops c.args.level.now.table.now (read_within c.args.level.now.depth c.args.level.now.table.now) c.args.id.0 (bits_left c.args.reader.now) (numbers_of c.as_slice.result.now) (progress_of c.in_ok-reached.reached (bits_left c.args.reader.now)) (numbers_are c.as_slice.result.now (chain c.args.level.now.table.now c.args.id.0) (c.as_slice.ensures.value ∙ c.chain_of-chain.ensures)) (is_started c.in_ok-reached.reached (bits_left c.args.reader.now) c.in_ok-reached.ensures.fields c.in_ok-reached.ensures.octets c.in_ok-reached.ensures.start) (stop_at c.read_chain.new.path c.in-Err.stop) c.in-Err.ensures.gives
+pub read_container-returns-in_err-read_chain-clause-gives : goal.read_container-returns-in_err-read_chain-clause-gives
+read_container-returns-in_err-read_chain-clause-gives t c =
+    let p = err_from_is_err_and c.from_residual-in_err-read_chain.result c.from_residual-in_err-read_chain.ensures.1 in
+    rw (p.1, p.2) (chain_stops c.args.level.now.table.now (read_within c.args.level.now.depth c.args.level.now.table.now) c.args.id.0 (bits_left c.args.reader.now) (numbers_of c.as_slice.result.now) (progress_of c.in_ok-reached.reached (bits_left c.args.reader.now)) (numbers_are c.as_slice.result.now (chain c.args.level.now.table.now c.args.id.0) (c.as_slice.ensures.value ∙ c.chain_of-chain.ensures)) (is_started c.in_ok-reached.reached (bits_left c.args.reader.now) c.in_ok-reached.ensures.fields c.in_ok-reached.ensures.octets c.in_ok-reached.ensures.start) (stop_at c.read_chain.new.path c.in_err-read_chain.field-0.0) c.in_err-read_chain.ensures.gives)
 
-pub read_container-returns-in_ok-values-in-Ok-clause-gives : goal.read_container-returns-in_ok-values-in-Ok-clause-gives
-read_container-returns-in_ok-values-in-Ok-clause-gives t c =
+pub read_container-returns-clause-gives : goal.read_container-returns-clause-gives
+read_container-returns-clause-gives t c =
     container_reads c.args.level.now.table.now (read_within c.args.level.now.depth c.args.level.now.table.now) c.args.id.0 (bits_left c.args.reader.now) (numbers_of c.as_slice.result.now) (progress_of c.in_ok-reached.reached (bits_left c.args.reader.now)) (numbers_are c.as_slice.result.now (chain c.args.level.now.table.now c.args.id.0) (c.as_slice.ensures.value ∙ c.chain_of-chain.ensures)) (is_started c.in_ok-reached.reached (bits_left c.args.reader.now) c.in_ok-reached.ensures.fields c.in_ok-reached.ensures.octets c.in_ok-reached.ensures.start)
-    (progress_of c.read_chain.new.reached (bits_left c.read_chain.new.reader)) (progress_of c.read_under.new.reached (bits_left c.read_under.new.reader)) (bits_left c.read_chain.new.reader) (bits_left c.read_under.new.reader) c.in-Ok.found.0 c.in_default.ensures.gives c.in-Ok.ensures.gives
-    ∙ ap (λ vs. Ok (fields c.in-Ok.found.0 (plains_of vs), bits_left c.read_under.new.reader)) (sym c.in_ok-values-in-Ok.ensures)
-    ∙ ap (λ v. Ok (v, bits_left c.read_under.new.reader)) (sym (plain_fields c.in-Ok.found c.in_ok-values-in-Ok.values))
+    (progress_of c.read_chain.new.reached (bits_left c.read_chain.new.reader)) (progress_of c.read_under.new.reached (bits_left c.read_under.new.reader)) (bits_left c.read_chain.new.reader) (bits_left c.read_under.new.reader) c.in_ok-found.found.0 c.in_ok-read_chain.ensures.gives c.in_ok-found.ensures.gives
+    ∙ ap (λ vs. Ok (fields c.in_ok-found.found.0 (plains_of vs), bits_left c.read_under.new.reader)) (sym c.in_ok-values.ensures)
+    ∙ ap (λ v. Ok (v, bits_left c.read_under.new.reader)) (sym (plain_fields c.in_ok-found.found c.in_ok-values.values))
 
-pub read_container-returns-in-Err-read_under-clause-gives : goal.read_container-returns-in-Err-read_under-clause-gives
-read_container-returns-in-Err-read_under-clause-gives t c =
-    end_stops c.args.level.now.table.now (read_within c.args.level.now.depth c.args.level.now.table.now) c.args.id.0 (bits_left c.args.reader.now) (numbers_of c.as_slice.result.now) (progress_of c.in_ok-reached.reached (bits_left c.args.reader.now)) (numbers_are c.as_slice.result.now (chain c.args.level.now.table.now c.args.id.0) (c.as_slice.ensures.value ∙ c.chain_of-chain.ensures)) (is_started c.in_ok-reached.reached (bits_left c.args.reader.now) c.in_ok-reached.ensures.fields c.in_ok-reached.ensures.octets c.in_ok-reached.ensures.start)
-    (progress_of c.read_chain.new.reached (bits_left c.read_chain.new.reader)) (bits_left c.read_chain.new.reader) (stop_at c.read_under.new.path c.in-Err-read_under.stop) c.in_default.ensures.gives c.in-Err-read_under.ensures.gives
+pub read_container-returns-in_err-found-clause-gives : goal.read_container-returns-in_err-found-clause-gives
+read_container-returns-in_err-found-clause-gives t c =
+    let p = err_from_is_err_and c.from_residual-in_err-found.result c.from_residual-in_err-found.ensures.1 in
+    rw (p.1, p.2) (end_stops c.args.level.now.table.now (read_within c.args.level.now.depth c.args.level.now.table.now) c.args.id.0 (bits_left c.args.reader.now) (numbers_of c.as_slice.result.now) (progress_of c.in_ok-reached.reached (bits_left c.args.reader.now)) (numbers_are c.as_slice.result.now (chain c.args.level.now.table.now c.args.id.0) (c.as_slice.ensures.value ∙ c.chain_of-chain.ensures)) (is_started c.in_ok-reached.reached (bits_left c.args.reader.now) c.in_ok-reached.ensures.fields c.in_ok-reached.ensures.octets c.in_ok-reached.ensures.start)
+    (progress_of c.read_chain.new.reached (bits_left c.read_chain.new.reader)) (bits_left c.read_chain.new.reader) (stop_at c.read_under.new.path c.in_err-found.field-0.0) c.in_ok-read_chain.ensures.gives c.in_err-found.ensures.gives)
 
 pub read_part-keep_told-requires-clause-number : goal.read_part-keep_told-requires-clause-number
 read_part-keep_told-requires-clause-number t c =
@@ -272,31 +278,33 @@ read_part-returns-in_ok-expect_check-in-Check-clause-begun t c =
     let on = value_moves c.args.level.now.depth c.args.level.now.table.now c.in-Check.id.0 (bits_left c.args.reader.now) (plain c.in_ok-value-in-Check.value) (bits_left c.read_value-in-Check.new.reader) c.in_ok-value-in-Check.ensures.gives in
     under_way c.args.reached.now c.args.reached.now (bits_left c.args.reader.now) (bits_left c.read_value-in-Check.new.reader) c.requires.begun on refl refl
 
-pub read_trailers-returns-in-Err-clause-gives : goal.read_trailers-returns-in-Err-clause-gives
-read_trailers-returns-in-Err-clause-gives t c =
-    trailers_stop c.args.level.now.table.now (read_within c.args.level.now.depth c.args.level.now.table.now) c.loop-rest.rest.now (record { 0 = 0 }) (progress_of c.loop-rest.reached (bits_left c.loop-rest.reader)) (bits_left c.loop-rest.reader) _ c.entries_of.result.now c.trailers_of.result.now (omega arith) c.entries_of.ensures.value c.trailers_of.ensures.value c.loop-rest.invariant.read (stop_at c.read_parts.new.path c.in-Err.stop) c.in-Err.ensures.gives
+pub read_trailers-returns-in_err-read_parts-clause-gives : goal.read_trailers-returns-in_err-read_parts-clause-gives
+read_trailers-returns-in_err-read_parts-clause-gives t c =
+    let p = err_from_is_err_and c.from_residual.result c.from_residual.ensures.1 in
+    rw (p.1, p.2) (trailers_stop c.args.level.now.table.now (read_within c.args.level.now.depth c.args.level.now.table.now) c.loop-rest.rest.now (record { 0 = 0 }) (progress_of c.loop-rest.reached (bits_left c.loop-rest.reader)) (bits_left c.loop-rest.reader) _ c.entries_of.result.now c.trailers_of.result.now (omega arith) c.entries_of.ensures.value c.trailers_of.ensures.value c.loop-rest.invariant.read (stop_at c.read_parts.new.path c.in_err-read_parts.field-0.0) c.in_err-read_parts.ensures.gives)
 
 pub read_trailers-loop-rest-preserved : goal.read_trailers-loop-rest-preserved
 read_trailers-loop-rest-preserved t c =
     record {
-      root = c.in_default-read_parts.ensures.calm;
-      begun = c.in_default-read_parts.ensures.begun;
+      root = c.in_ok-read_parts.ensures.calm;
+      begun = c.in_ok-read_parts.ensures.begun;
       inner = front_low c.args.level.now.table.now (c.args.level.now.depth + 1) (length c.loop-rest.rest.now - 1) c.loop-rest.rest.now c.loop-rest.invariant.inner;
       less = omega (arith, length-take (length c.loop-rest.rest.now - 1) c.loop-rest.rest.now, c.loop-rest.invariant.less);
-      read = trailers_go c.args.level.now.table.now (read_within c.args.level.now.depth c.args.level.now.table.now) c.loop-rest.rest.now (record { 0 = 0 }) (progress_of c.loop-rest.reached (bits_left c.loop-rest.reader)) (bits_left c.loop-rest.reader) _ c.entries_of.result.now c.trailers_of.result.now (omega arith) c.entries_of.ensures.value c.trailers_of.ensures.value c.loop-rest.invariant.read (progress_of c.read_parts.new.reached (bits_left c.read_parts.new.reader)) (bits_left c.read_parts.new.reader) c.in_default-read_parts.ensures.gives;
+      read = trailers_go c.args.level.now.table.now (read_within c.args.level.now.depth c.args.level.now.table.now) c.loop-rest.rest.now (record { 0 = 0 }) (progress_of c.loop-rest.reached (bits_left c.loop-rest.reader)) (bits_left c.loop-rest.reader) _ c.entries_of.result.now c.trailers_of.result.now (omega arith) c.entries_of.ensures.value c.trailers_of.ensures.value c.loop-rest.invariant.read (progress_of c.read_parts.new.reached (bits_left c.read_parts.new.reader)) (bits_left c.read_parts.new.reader) c.in_ok-read_parts.ensures.gives;
     }
 
-pub read_under-returns-in-Err-clause-gives : goal.read_under-returns-in-Err-clause-gives
-read_under-returns-in-Err-clause-gives t c =
-    stay_stops c.args.level.now.table.now (read_within c.args.level.now.depth c.args.level.now.table.now) c.loop.counter c.loop.at.0 (omega (arith, c.loop-test.true)) (progress_of c.loop.reached (bits_left c.loop.reader)) (bits_left c.loop.reader) c.as_slice-in-Stay.result.now (stop_at c.read_trailers.new.path c.in-Err.stop) _ (c.in-Stay.ensures ∙ ap (λ fs. next c.args.level.now.table.now c.loop.at.0 (fields_of fs)) c.as_slice.ensures.value) (c.as_slice-in-Stay.ensures.value ∙ c.chain_of-chain.ensures) c.loop.invariant.read c.in-Err.ensures.gives
+pub read_under-returns-in_err-read_trailers-in-Stay-clause-gives : goal.read_under-returns-in_err-read_trailers-in-Stay-clause-gives
+read_under-returns-in_err-read_trailers-in-Stay-clause-gives t c =
+    let p = err_from_is_err_and c.from_residual.result c.from_residual.ensures.1 in
+    rw (p.1, p.2) (stay_stops c.args.level.now.table.now (read_within c.args.level.now.depth c.args.level.now.table.now) c.loop.counter c.loop.at.0 (omega (arith, c.loop-test.true)) (progress_of c.loop.reached (bits_left c.loop.reader)) (bits_left c.loop.reader) c.as_slice-in-Stay.result.now (stop_at c.read_trailers.new.path c.in_err-read_trailers-in-Stay.field-0.0) _ (c.in-Stay.ensures ∙ ap (λ fs. next c.args.level.now.table.now c.loop.at.0 (fields_of fs)) c.as_slice.ensures.value) (c.as_slice-in-Stay.ensures.value ∙ c.chain_of-chain.ensures) c.loop.invariant.read c.in_err-read_trailers-in-Stay.ensures.gives)
 
 pub read_under-returns-then-has_told_size-clause-gives : goal.read_under-returns-then-has_told_size-clause-gives
 read_under-returns-then-has_told_size-clause-gives t c =
-    stay_ends c.args.level.now.table.now (read_within c.args.level.now.depth c.args.level.now.table.now) c.loop.counter c.loop.at.0 (omega (arith, c.loop-test.true)) (progress_of c.loop.reached (bits_left c.loop.reader)) (bits_left c.loop.reader) c.as_slice-in-Stay.result.now (progress_of c.read_trailers.new.reached (bits_left c.read_trailers.new.reader)) (bits_left c.read_trailers.new.reader) _ true (c.in-Stay.ensures ∙ ap (λ fs. next c.args.level.now.table.now c.loop.at.0 (fields_of fs)) c.as_slice.ensures.value) (c.as_slice-in-Stay.ensures.value ∙ c.chain_of-chain.ensures) c.loop.invariant.read c.in_default.ensures.gives c.if-has_told_size.ensures
+    stay_ends c.args.level.now.table.now (read_within c.args.level.now.depth c.args.level.now.table.now) c.loop.counter c.loop.at.0 (omega (arith, c.loop-test.true)) (progress_of c.loop.reached (bits_left c.loop.reader)) (bits_left c.loop.reader) c.as_slice-in-Stay.result.now (progress_of c.read_trailers.new.reached (bits_left c.read_trailers.new.reader)) (bits_left c.read_trailers.new.reader) _ true (c.in-Stay.ensures ∙ ap (λ fs. next c.args.level.now.table.now c.loop.at.0 (fields_of fs)) c.as_slice.ensures.value) (c.as_slice-in-Stay.ensures.value ∙ c.chain_of-chain.ensures) c.loop.invariant.read c.in_ok-read_trailers-in-Stay.ensures.gives c.if-has_told_size.ensures
 
 pub read_under-returns-in-Stay-clause-gives : goal.read_under-returns-in-Stay-clause-gives
 read_under-returns-in-Stay-clause-gives t c =
-    stay_ends c.args.level.now.table.now (read_within c.args.level.now.depth c.args.level.now.table.now) c.loop.counter c.loop.at.0 (omega (arith, c.loop-test.true)) (progress_of c.loop.reached (bits_left c.loop.reader)) (bits_left c.loop.reader) c.as_slice-in-Stay.result.now (progress_of c.read_trailers.new.reached (bits_left c.read_trailers.new.reader)) (bits_left c.read_trailers.new.reader) _ false (c.in-Stay.ensures ∙ ap (λ fs. next c.args.level.now.table.now c.loop.at.0 (fields_of fs)) c.as_slice.ensures.value) (c.as_slice-in-Stay.ensures.value ∙ c.chain_of-chain.ensures) c.loop.invariant.read c.in_default.ensures.gives c.if-has_told_size.ensures
+    stay_ends c.args.level.now.table.now (read_within c.args.level.now.depth c.args.level.now.table.now) c.loop.counter c.loop.at.0 (omega (arith, c.loop-test.true)) (progress_of c.loop.reached (bits_left c.loop.reader)) (bits_left c.loop.reader) c.as_slice-in-Stay.result.now (progress_of c.read_trailers.new.reached (bits_left c.read_trailers.new.reader)) (bits_left c.read_trailers.new.reader) _ false (c.in-Stay.ensures ∙ ap (λ fs. next c.args.level.now.table.now c.loop.at.0 (fields_of fs)) c.as_slice.ensures.value) (c.as_slice-in-Stay.ensures.value ∙ c.chain_of-chain.ensures) c.loop.invariant.read c.in_ok-read_trailers-in-Stay.ensures.gives c.if-has_told_size.ensures
     ∙ ap (λ p. Err (fault_at LengthDiffers p)) (sym c.tell_length.ensures.value)
 
 pub read_under-read_parts-requires : goal.read_under-read_parts-requires
@@ -304,17 +312,18 @@ read_under-read_parts-requires t c =
     let low = child_is_low c.args.level.now.table.now c.loop.invariant.low.rules (c.args.level.now.depth + 1) c.loop.at.0 c.in-Under.child.0 (fields_of c.loop.reached.fields.items) c.loop.invariant.low.low (c.in-Under.ensures ∙ ap (λ fs. next c.args.level.now.table.now c.loop.at.0 (fields_of fs)) c.as_slice.ensures.value) in
     (omega arith, (subst (AllByRecursion (PartIsRead c.args.level.now.table.now c.args.level.now.depth)) (sym c.entries_of-entries.ensures.value) (entries_low c.args.level.now.table.now c.args.level.now.depth c.in-Under.child.0 low), (omega (arith, c.entries_of-entries.ensures.few), (c.requires.few, (c.loop.invariant.begun, c.loop.invariant.root)))))
 
-pub read_under-returns-in-Err-read_parts-clause-gives : goal.read_under-returns-in-Err-read_parts-clause-gives
-read_under-returns-in-Err-read_parts-clause-gives t c =
-    under_stops c.args.level.now.table.now (read_within c.args.level.now.depth c.args.level.now.table.now) c.loop.counter c.loop.at.0 (omega (arith, c.loop-test.true)) (progress_of c.loop.reached (bits_left c.loop.reader)) (bits_left c.loop.reader) c.in-Under.child.0 (stop_at c.read_parts.new.path c.in-Err-read_parts.stop) _ (c.in-Under.ensures ∙ ap (λ fs. next c.args.level.now.table.now c.loop.at.0 (fields_of fs)) c.as_slice.ensures.value) c.loop.invariant.read (stops_as (stop_at c.read_parts.new.path c.in-Err-read_parts.stop) _ _ (ap (λ ps. read_parts c.args.level.now.table.now (read_within c.args.level.now.depth c.args.level.now.table.now) (placed_from c.in-Under.child.0 0 ps) (progress_of c.loop.reached (bits_left c.loop.reader)) (bits_left c.loop.reader)) c.entries_of-entries.ensures.value) c.in-Err-read_parts.ensures.gives)
+pub read_under-returns-in_err-read_parts-in-Under-clause-gives : goal.read_under-returns-in_err-read_parts-in-Under-clause-gives
+read_under-returns-in_err-read_parts-in-Under-clause-gives t c =
+    let p = err_from_is_err_and c.from_residual-in_err-read_parts-in-Under.result c.from_residual-in_err-read_parts-in-Under.ensures.1 in
+    rw (p.1, p.2) (under_stops c.args.level.now.table.now (read_within c.args.level.now.depth c.args.level.now.table.now) c.loop.counter c.loop.at.0 (omega (arith, c.loop-test.true)) (progress_of c.loop.reached (bits_left c.loop.reader)) (bits_left c.loop.reader) c.in-Under.child.0 (stop_at c.read_parts.new.path c.in_err-read_parts-in-Under.field-0.0) _ (c.in-Under.ensures ∙ ap (λ fs. next c.args.level.now.table.now c.loop.at.0 (fields_of fs)) c.as_slice.ensures.value) c.loop.invariant.read (stops_as (stop_at c.read_parts.new.path c.in_err-read_parts-in-Under.field-0.0) _ _ (ap (λ ps. read_parts c.args.level.now.table.now (read_within c.args.level.now.depth c.args.level.now.table.now) (placed_from c.in-Under.child.0 0 ps) (progress_of c.loop.reached (bits_left c.loop.reader)) (bits_left c.loop.reader)) c.entries_of-entries.ensures.value) c.in_err-read_parts-in-Under.ensures.gives))
 
 pub read_under-loop-preserved : goal.read_under-loop-preserved
 read_under-loop-preserved t c =
     record {
-      root = c.in_default-read_parts.ensures.calm;
-      begun = c.in_default-read_parts.ensures.begun;
+      root = c.in_ok-read_parts-in-Under.ensures.calm;
+      begun = c.in_ok-read_parts-in-Under.ensures.begun;
       low = child_is_low c.args.level.now.table.now c.loop.invariant.low.rules (c.args.level.now.depth + 1) c.loop.at.0 c.in-Under.child.0 (fields_of c.loop.reached.fields.items) c.loop.invariant.low.low (c.in-Under.ensures ∙ ap (λ fs. next c.args.level.now.table.now c.loop.at.0 (fields_of fs)) c.as_slice.ensures.value);
-      read = under_goes c.args.level.now.table.now (read_within c.args.level.now.depth c.args.level.now.table.now) c.loop.counter c.loop.at.0 (omega (arith, c.loop-test.true)) (progress_of c.loop.reached (bits_left c.loop.reader)) (bits_left c.loop.reader) c.in-Under.child.0 (progress_of c.read_parts.new.reached (bits_left c.read_parts.new.reader)) (bits_left c.read_parts.new.reader) _ (c.in-Under.ensures ∙ ap (λ fs. next c.args.level.now.table.now c.loop.at.0 (fields_of fs)) c.as_slice.ensures.value) c.loop.invariant.read (sym (ap (λ ps. read_parts c.args.level.now.table.now (read_within c.args.level.now.depth c.args.level.now.table.now) (placed_from c.in-Under.child.0 0 ps) (progress_of c.loop.reached (bits_left c.loop.reader)) (bits_left c.loop.reader)) c.entries_of-entries.ensures.value) ∙ c.in_default-read_parts.ensures.gives);
+      read = under_goes c.args.level.now.table.now (read_within c.args.level.now.depth c.args.level.now.table.now) c.loop.counter c.loop.at.0 (omega (arith, c.loop-test.true)) (progress_of c.loop.reached (bits_left c.loop.reader)) (bits_left c.loop.reader) c.in-Under.child.0 (progress_of c.read_parts.new.reached (bits_left c.read_parts.new.reader)) (bits_left c.read_parts.new.reader) _ (c.in-Under.ensures ∙ ap (λ fs. next c.args.level.now.table.now c.loop.at.0 (fields_of fs)) c.as_slice.ensures.value) c.loop.invariant.read (sym (ap (λ ps. read_parts c.args.level.now.table.now (read_within c.args.level.now.depth c.args.level.now.table.now) (placed_from c.in-Under.child.0 0 ps) (progress_of c.loop.reached (bits_left c.loop.reader)) (bits_left c.loop.reader)) c.entries_of-entries.ensures.value) ∙ c.in_ok-read_parts-in-Under.ensures.gives);
     }
 
 pub read_under-returns-clause-gives : goal.read_under-returns-clause-gives

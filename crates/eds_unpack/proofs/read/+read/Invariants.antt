@@ -1,4 +1,4 @@
-use Rattle.std.proofs.Common.{◌≡◌, ◌+◌, ◌-◌, ◌*◌, ◌≤◌, [], length, map, reverse, true}
+use Rattle.std.proofs.Common.{◌≡◌, ◌+◌, ◌-◌, ◌*◌, ◌≤◌, [], length, map, reverse, true, drop}
 use Rattle.std.specs.List.{AllByRecursion, list_all}
 use Rattle.eds_base.specs.declared.ids.TypeId.{TypeId}
 use Rattle.eds_bits.specs.Reader.{bits_left}
@@ -58,40 +58,31 @@ invariant-read_items-loop-id l = record {
 abbrev pub decreases-read_items-loop-id : goal.decreases-read_items-loop-id
 decreases-read_items-loop-id l = l.count - l.place
 
-abbrev pub invariant-read_straight-loop-rest : goal.invariant-read_straight-loop-rest
-invariant-read_straight-loop-rest l = record {
+abbrev pub invariant-read_straight-loop-part : goal.invariant-read_straight-loop-part
+invariant-read_straight-loop-part l = record {
   root : l.path ≡ [];
-  inner : AllByRecursion (PartIsRead l.level.table.now l.level.depth) l.rest;
-  straight : list_all (is_straight_entry l.level.table.now) l.rest ≡ true;
-  many : l.place + length l.rest ≤ 32767;
-  read : IsStraightSoFar l.level.table.now (read_within l.level.depth l.level.table.now) l.container.0 (bits_left l.fn.reader) l.place l.rest (map plain l.values.items) (bits_left l.reader);
+  inner : AllByRecursion (PartIsRead l.level.table.now l.level.depth) (drop l.part-index l.entries);
+  straight : list_all (is_straight_entry l.level.table.now) (drop l.part-index l.entries) ≡ true;
+  many : l.place ≡ l.part-index;
+  few : length l.entries ≤ 32767;
+  read : IsStraightSoFar l.level.table.now (read_within l.level.depth l.level.table.now) l.container.0 (bits_left l.fn.reader) l.place (drop l.part-index l.entries) (map plain l.values.items) (bits_left l.reader);
 }
 
-abbrev pub decreases-read_straight-loop-rest : goal.decreases-read_straight-loop-rest
-decreases-read_straight-loop-rest l = length l.rest
-
-abbrev pub invariant-read_parts-loop-rest : goal.invariant-read_parts-loop-rest
-invariant-read_parts-loop-rest l = record {
+abbrev pub invariant-read_parts-loop-part : goal.invariant-read_parts-loop-part
+invariant-read_parts-loop-part l = record {
   root : l.path ≡ [];
   begun : IsUnderWay l.reached (bits_left l.reader);
-  many : l.place + length l.rest ≤ 65534;
-  inner : AllByRecursion (PartIsRead l.level.table.now l.level.depth) l.rest;
-  read : read_parts l.level.table.now (read_within l.level.depth l.level.table.now) (placed_from l.container.0 l.place l.rest) (progress_of l.reached (bits_left l.reader)) (bits_left l.reader) ≡ read_parts l.level.table.now (read_within l.level.depth l.level.table.now) (placed_from l.container.0 l.first l.parts) (progress_of l.fn.reached (bits_left l.fn.reader)) (bits_left l.fn.reader);
+  many : l.place ≡ l.first + l.part-index;
+  inner : AllByRecursion (PartIsRead l.level.table.now l.level.depth) (drop l.part-index l.parts);
+  read : read_parts l.level.table.now (read_within l.level.depth l.level.table.now) (placed_from l.container.0 l.place (drop l.part-index l.parts)) (progress_of l.reached (bits_left l.reader)) (bits_left l.reader) ≡ read_parts l.level.table.now (read_within l.level.depth l.level.table.now) (placed_from l.container.0 l.first l.parts) (progress_of l.fn.reached (bits_left l.fn.reader)) (bits_left l.fn.reader);
 }
 
-abbrev pub decreases-read_parts-loop-rest : goal.decreases-read_parts-loop-rest
-decreases-read_parts-loop-rest l = length l.rest
-
-abbrev pub invariant-read_chain-loop-rest : goal.invariant-read_chain-loop-rest
-invariant-read_chain-loop-rest l = record {
+abbrev pub invariant-read_chain-loop-id : goal.invariant-read_chain-loop-id
+invariant-read_chain-loop-id l = record {
   root : l.path ≡ [];
   begun : IsUnderWay l.reached (bits_left l.reader);
-  inner : AllByRecursion (λ (id : TypeId). IsLow l.level.table.now (l.level.depth + 1) id.0) l.rest;
-  read : read_chain l.level.table.now (read_within l.level.depth l.level.table.now) (numbers_of l.rest) (progress_of l.reached (bits_left l.reader)) (bits_left l.reader) ≡ read_chain l.level.table.now (read_within l.level.depth l.level.table.now) (numbers_of l.chain) (progress_of l.fn.reached (bits_left l.fn.reader)) (bits_left l.fn.reader);
+  read : read_chain l.level.table.now (read_within l.level.depth l.level.table.now) (numbers_of (drop l.id-index l.chain)) (progress_of l.reached (bits_left l.reader)) (bits_left l.reader) ≡ read_chain l.level.table.now (read_within l.level.depth l.level.table.now) (numbers_of l.chain) (progress_of l.fn.reached (bits_left l.fn.reader)) (bits_left l.fn.reader);
 }
-
-abbrev pub decreases-read_chain-loop-rest : goal.decreases-read_chain-loop-rest
-decreases-read_chain-loop-rest l = length l.rest
 
 abbrev pub invariant-read_trailers-loop-rest : goal.invariant-read_trailers-loop-rest
 invariant-read_trailers-loop-rest l = record {

@@ -1,9 +1,6 @@
-use Rattle.std.proofs.Common.{length}
+use Rattle.std.proofs.Common.{drop}
 use Rattle.eds_unpack.proofs.Labels.{IsSearched}
 use Rattle.eds_unpack.proofs.skim.label_of.Given as goal
 
-abbrev pub invariant-loop-rest : goal.invariant-loop-rest
-invariant-loop-rest l = IsSearched l.listing l.number l.rest
-
-abbrev pub decreases-loop-rest : goal.decreases-loop-rest
-decreases-loop-rest l = length l.rest
+abbrev pub invariant-loop-label : goal.invariant-loop-label
+invariant-loop-label l = IsSearched l.listing l.number (drop l.label-index l.label-items)

@@ -1,4 +1,4 @@
-use Rattle.std.proofs.Common.{◌≡◌, ◌+◌, ◌-◌, ◌*◌, ◌≤◌, pos, nat_abs, ◌+ℤ◌, ◌*ℤ◌, true, false, [], ◌∷◌, ◌++◌, length, Some, Err, refl, sym, ap, subst, ◌∙◌, arith, rules, get_or, take}
+use Rattle.std.proofs.Common.{◌≡◌, ◌+◌, ◌-◌, ◌*◌, ◌≤◌, pos, nat_abs, ◌+ℤ◌, ◌*ℤ◌, true, false, [], ◌∷◌, ◌++◌, length, Some, Err, refl, sym, ap, subst, ◌∙◌, arith, rules, get_or, take, drop}
 use Rattle.std.specs.Prelude.{◌^◌, IfSome, IfOk, IfErr}
 use Rattle.eds_base.specs.declared.fault.Reason.TheVariants.{FixedDiffers, CheckDiffers, LengthDiffers, NoDerived}
 use Rattle.eds_bits.specs.Reader.{bits_left}
@@ -14,6 +14,8 @@ use Rattle.eds_unpack.proofs.Levels.{next_level}
 use Rattle.eds_unpack.proofs.OnReads.{items_move, value_moves, moves}
 use Rattle.eds_unpack.proofs.Steps.{length_number, entries_low, items_more, under_ends, near_low, near_most, trailers_low}
 use Rattle.eds_unpack.proofs.WalkParts.{check_goes, check_is, entry_goes, fixed_goes, fixed_value, follows_of, if_err, int_is_num, judged_moves, length_goes, length_is, list_count, list_goes, low_there, moved_short, next_of, none_is, on_ok, outer_none, outer_noted, outer_weak, pad_goes, part_lower, passed_moves, plain_goes, some_number, sum_expected, tail_answer, tail_outer, walking_on, walking_told}
+use Rattle.std.proofs.lemmas.Result.{err_from_is_err_and}
+use Rattle.std.proofs.lemmas.List.{drop_more}
 use Rattle.std.proofs.lemmas.Int.{to_z-of_z}
 use mir.Syntax.{w128}
 use mir.Val.{SFits, of_z, to_z}
@@ -28,8 +30,8 @@ use Rattle.eds_unpack.proofs.Ranks.{child_is_low, item_is_read}
 use Rattle.eds_unpack.proofs.WalkEnds.{child_has, child_rank_back, all_asked, chosen, container_passed, fewer, items_still, keeps_both, walk_nowhere, walk_stay_compares, walk_stay_ends, walk_stay_fails, walk_under_fails, walk_under_goes}
 use Rattle.eds_unpack.proofs.walk.+walk.Goals.{walk_under-else-loop-test, walk_under-then-loop-test+in-Nowhere}
 use Rattle.eds_types.specs.Choices.{IsNear}
-use Rattle.eds_unpack.proofs.StraightReads.{first_part}
-use Rattle.eds_unpack.proofs.WalkLists.{chain_begins, chain_fault, chain_goes, chain_has, chain_rank, chain_unmet, chain_walks, first_item, keeps_none, keeps_other, keeps_then, last_has, last_item, last_rank, left_before, low_along, no_items, parts_fault, parts_goes, trailers_fault, trailers_goes, trailers_passed}
+use Rattle.eds_unpack.proofs.StraightReads.{part_left}
+use Rattle.eds_unpack.proofs.WalkLists.{chain_begins, chain_fault, chain_goes, chain_has, chain_rank, chain_unmet, chain_walks, keeps_none, keeps_other, keeps_then, last_has, last_item, last_rank, left_before, low_along, no_items, parts_fault, parts_goes, trailers_fault, trailers_goes, trailers_passed}
 use Rattle.eds_unpack.proofs.walk.+walk.Goals as goal
 use Rattle.eds_base.specs.declared.fault.Step.TheVariants as step
 
@@ -182,31 +184,32 @@ walk_entry-returns-in-Some-clause-outer t c = tail_outer c.args.walk.now.table.n
 pub walk_entry-returns-in-Some-clause-passed : goal.walk_entry-returns-in-Some-clause-passed
 walk_entry-returns-in-Some-clause-passed t c = tail_answer c.args.walk.now.table.now c.requires.low.rules c.args.walk.now.notes.now c.requires.notes c.args.walk.now.depth c.args.container.0 c.args.place c.args.part.now c.requires.stands c.in-Some.most (sym c.open_bits.ensures ∙ c.in-Some.is) c.args.walked.now c.walk_tail.new.walked c.args.numbers.now c.walk_tail.new.numbers (bits_left c.args.reader.now) (bits_left c.walk_tail.new.reader) c.requires.begun.begun c.walk_tail.result c.walk_tail.ensures.same c.walk_tail.ensures.on c.walk_tail.ensures.noted c.walk_tail.ensures.passed
 
-pub walk_parts-loop-rest-preserved : goal.walk_parts-loop-rest-preserved
-walk_parts-loop-rest-preserved t c =
-    let first = first_part c.loop-rest.rest.now c.part-item.result _ (omega (arith, c.in-len1-up.len_at_least)) c.part-item.is in
-    let parts = subst (AllByRecursion (PartIsRead c.args.walk.now.table.now c.args.walk.now.depth)) first c.loop-rest.invariant.inner in
-    let placed = subst (λ ps. AllByRecursion (Stands c.args.walk.now.table.now) (placed_from c.args.container.0 c.loop-rest.place ps)) first c.loop-rest.invariant.stands in
+pub walk_parts-loop-part-preserved : goal.walk_parts-loop-part-preserved
+walk_parts-loop-part-preserved t c =
+    let first = part_left c.args.parts.now c.loop-part.part-index c.part-item.result (omega arith) c.part-item.is in
+    let parts = subst (AllByRecursion (PartIsRead c.args.walk.now.table.now c.args.walk.now.depth)) first c.loop-part.invariant.inner in
+    let placed = subst (λ ps. AllByRecursion (Stands c.args.walk.now.table.now) (placed_from c.args.container.0 c.loop-part.place ps)) first c.loop-part.invariant.stands in
     record {
-      root = c.in_default-walk_entry.ensures.calm;
-      outer = keeps_then c.args.walk.now.table.now c.args.walk.now.notes.now c.args.container.0 c.args.numbers.now c.loop-rest.numbers c.walk_entry.new.numbers c.loop-rest.invariant.outer c.in_default-walk_entry.ensures.outer;
-      start = c.in_default-walk_entry.ensures.start ∙ c.loop-rest.invariant.start;
-      begun = c.in_default-walk_entry.ensures.begun;
-      many = omega (arith, ap length first, c.loop-rest.invariant.many);
+      root = c.in_ok-walk_entry.ensures.calm;
+      outer = keeps_then c.args.walk.now.table.now c.args.walk.now.notes.now c.args.container.0 c.args.numbers.now c.loop-part.numbers c.walk_entry.new.numbers c.loop-part.invariant.outer c.in_ok-walk_entry.ensures.outer;
+      start = c.in_ok-walk_entry.ensures.start ∙ c.loop-part.invariant.start;
+      begun = c.in_ok-walk_entry.ensures.begun;
+      many = omega (arith, c.loop-part.invariant.many);
       inner = parts.1;
       stands = placed.1;
-      at = parts_goes c.args.walk.now.table.now c.args.walk.now.depth c.args.walk.now.notes.now c.args.container.0 c.args.first c.args.parts.now c.args.walked.now c.args.numbers.now (bits_left c.args.reader.now) c.loop-rest.walked c.loop-rest.numbers (bits_left c.loop-rest.reader) c.loop-rest.place c.part-item.result _ c.loop-rest.rest.now first c.loop-rest.invariant.at c.requires.low.rules c.walk_entry.new.walked c.walk_entry.new.numbers (bits_left c.walk_entry.new.reader) c.in_default-walk_entry.ensures.passed;
+      at = parts_goes c.args.walk.now.table.now c.args.walk.now.depth c.args.walk.now.notes.now c.args.container.0 c.args.first c.args.parts.now c.args.walked.now c.args.numbers.now (bits_left c.args.reader.now) c.loop-part.walked c.loop-part.numbers (bits_left c.loop-part.reader) c.loop-part.place c.part-item.result _ (drop c.loop-part.part-index c.args.parts.now) first c.loop-part.invariant.at c.requires.low.rules c.walk_entry.new.walked c.walk_entry.new.numbers (bits_left c.walk_entry.new.reader) c.in_ok-walk_entry.ensures.passed;
     }
 
-pub walk_parts-returns-in-Err-clause-fault : goal.walk_parts-returns-in-Err-clause-fault
-walk_parts-returns-in-Err-clause-fault t c =
-    let first = first_part c.loop-rest.rest.now c.part-item.result _ (omega (arith, c.in-len1-up.len_at_least)) c.part-item.is in
-    parts_fault c.args.walk.now.table.now c.args.walk.now.depth c.args.walk.now.notes.now c.args.container.0 c.args.first c.args.parts.now c.args.walked.now c.args.numbers.now (bits_left c.args.reader.now) c.loop-rest.walked c.loop-rest.numbers (bits_left c.loop-rest.reader) c.loop-rest.place c.part-item.result _ c.loop-rest.rest.now first c.loop-rest.invariant.at c.requires.low.rules (fault_at c.in-Err.reason c.walk_entry.new.path) c.in-Err.ensures.fault
+pub walk_parts-returns-in_err-walk_entry-clause-fault : goal.walk_parts-returns-in_err-walk_entry-clause-fault
+walk_parts-returns-in_err-walk_entry-clause-fault t c =
+    let p = err_from_is_err_and c.from_residual.result c.from_residual.ensures.1 in
+    let first = part_left c.args.parts.now c.loop-part.part-index c.part-item.result (omega arith) c.part-item.is in
+    rw (p.1, p.2) (parts_fault c.args.walk.now.table.now c.args.walk.now.depth c.args.walk.now.notes.now c.args.container.0 c.args.first c.args.parts.now c.args.walked.now c.args.numbers.now (bits_left c.args.reader.now) c.loop-part.walked c.loop-part.numbers (bits_left c.loop-part.reader) c.loop-part.place c.part-item.result _ (drop c.loop-part.part-index c.args.parts.now) first c.loop-part.invariant.at c.requires.low.rules (fault_at c.in_err-walk_entry.field-0.0 c.walk_entry.new.path) c.in_err-walk_entry.ensures.fault)
 
 -- ---- chains
 
-pub walk_chain-loop-rest-init : goal.walk_chain-loop-rest-init
-walk_chain-loop-rest-init t c = record {
+pub walk_chain-loop-one-init : goal.walk_chain-loop-one-init
+walk_chain-loop-one-init t c = record {
   root = c.requires.root;
   outer = keeps_none c.args.walk.now.table.now c.args.walk.now.notes.now c.args.id.0 c.args.numbers.now;
   start = refl;
@@ -216,38 +219,39 @@ walk_chain-loop-rest-init t c = record {
 
 pub walk_chain-check_noted-requires-clause-near : goal.walk_chain-check_noted-requires-clause-near
 walk_chain-check_noted-requires-clause-near t c =
-    let first = first_item c.loop-rest.rest.now (record { 0 = 0 }) (omega (arith, c.in-len1-up.len_at_least)) in
-    let low = low_along c.args.walk.now.table.now (c.args.walk.now.depth + 1) c.args.id.0 (get_or c.loop-rest.rest.now 0 (record { 0 = 0 })).0 c.requires.low (chain_has c.args.walk.now.table.now c.args.walk.now.depth c.args.walk.now.notes.now c.args.id.0 (bits_left c.args.reader.now) c.loop-rest.walked c.loop-rest.numbers (bits_left c.loop-rest.reader) (get_or c.loop-rest.rest.now 0 (record { 0 = 0 })) _ c.loop-rest.rest.now first c.loop-rest.invariant.at) in
-    subst (AllByRecursion (IsNear 32)) (sym c.constraints_of.ensures) (near_most c.args.walk.now.table.now c.args.walk.now.depth (get_or c.loop-rest.rest.now 0 (record { 0 = 0 })).0 c.requires.few low)
+    let first = drop_more c.args.chain.now c.loop-one.one-index (record { 0 = 0 }) (omega arith) in
+    let low = low_along c.args.walk.now.table.now (c.args.walk.now.depth + 1) c.args.id.0 (get_or c.args.chain.now c.loop-one.one-index (record { 0 = 0 })).0 c.requires.low (chain_has c.args.walk.now.table.now c.args.walk.now.depth c.args.walk.now.notes.now c.args.id.0 (bits_left c.args.reader.now) c.loop-one.walked c.loop-one.numbers (bits_left c.loop-one.reader) (get_or c.args.chain.now c.loop-one.one-index (record { 0 = 0 })) _ (drop c.loop-one.one-index c.args.chain.now) first c.loop-one.invariant.at) in
+    subst (AllByRecursion (IsNear 32)) (sym c.constraints_of.ensures) (near_most c.args.walk.now.table.now c.args.walk.now.depth (get_or c.args.chain.now c.loop-one.one-index (record { 0 = 0 })).0 c.requires.few low)
 
-pub walk_chain-returns-in-Err-clause-fault : goal.walk_chain-returns-in-Err-clause-fault
-walk_chain-returns-in-Err-clause-fault t c =
-    let first = first_item c.loop-rest.rest.now (record { 0 = 0 }) (omega (arith, c.in-len1-up.len_at_least)) in
-    chain_unmet c.args.walk.now.table.now c.args.walk.now.depth c.args.walk.now.notes.now c.args.id.0 (bits_left c.args.reader.now) c.loop-rest.walked c.loop-rest.numbers (bits_left c.loop-rest.reader) (get_or c.loop-rest.rest.now 0 (record { 0 = 0 })) _ c.loop-rest.rest.now first c.loop-rest.invariant.at c.requires.low.rules c.requires.notes c.constraints_of.result.now c.constraints_of.ensures (fault_at c.in-Err.reason c.check_noted.new.path) c.in-Err.ensures.stops
+pub walk_chain-returns-in_err-check_noted-clause-fault : goal.walk_chain-returns-in_err-check_noted-clause-fault
+walk_chain-returns-in_err-check_noted-clause-fault t c =
+    let p = err_from_is_err_and c.from_residual.result c.from_residual.ensures.1 in
+    let first = drop_more c.args.chain.now c.loop-one.one-index (record { 0 = 0 }) (omega arith) in
+    rw (p.1, p.2) (chain_unmet c.args.walk.now.table.now c.args.walk.now.depth c.args.walk.now.notes.now c.args.id.0 (bits_left c.args.reader.now) c.loop-one.walked c.loop-one.numbers (bits_left c.loop-one.reader) (get_or c.args.chain.now c.loop-one.one-index (record { 0 = 0 })) _ (drop c.loop-one.one-index c.args.chain.now) first c.loop-one.invariant.at c.requires.low.rules c.requires.notes c.constraints_of.result.now c.constraints_of.ensures (fault_at c.in_err-check_noted.field-0.0 c.check_noted.new.path) c.in_err-check_noted.ensures.stops)
 
-pub walk_chain-returns-in-Err-clause-near : goal.walk_chain-returns-in-Err-clause-near
-walk_chain-returns-in-Err-clause-near t c =
-    let first = first_item c.loop-rest.rest.now (record { 0 = 0 }) (omega (arith, c.in-len1-up.len_at_least)) in
-    let low = low_along c.args.walk.now.table.now (c.args.walk.now.depth + 1) c.args.id.0 (get_or c.loop-rest.rest.now 0 (record { 0 = 0 })).0 c.requires.low (chain_has c.args.walk.now.table.now c.args.walk.now.depth c.args.walk.now.notes.now c.args.id.0 (bits_left c.args.reader.now) c.loop-rest.walked c.loop-rest.numbers (bits_left c.loop-rest.reader) (get_or c.loop-rest.rest.now 0 (record { 0 = 0 })) _ c.loop-rest.rest.now first c.loop-rest.invariant.at) in
-    let most = c.in-Err.ensures.near (c.args.walk.now.depth + 1) (subst (AllByRecursion (IsNear (c.args.walk.now.depth + 1))) (sym c.constraints_of.ensures) (near_low c.args.walk.now.table.now c.args.walk.now.depth (get_or c.loop-rest.rest.now 0 (record { 0 = 0 })).0 low)) in
+pub walk_chain-returns-in_err-check_noted-clause-near : goal.walk_chain-returns-in_err-check_noted-clause-near
+walk_chain-returns-in_err-check_noted-clause-near t c =
+    let first = drop_more c.args.chain.now c.loop-one.one-index (record { 0 = 0 }) (omega arith) in
+    let low = low_along c.args.walk.now.table.now (c.args.walk.now.depth + 1) c.args.id.0 (get_or c.args.chain.now c.loop-one.one-index (record { 0 = 0 })).0 c.requires.low (chain_has c.args.walk.now.table.now c.args.walk.now.depth c.args.walk.now.notes.now c.args.id.0 (bits_left c.args.reader.now) c.loop-one.walked c.loop-one.numbers (bits_left c.loop-one.reader) (get_or c.args.chain.now c.loop-one.one-index (record { 0 = 0 })) _ (drop c.loop-one.one-index c.args.chain.now) first c.loop-one.invariant.at) in
+    let most = c.in_err-check_noted.ensures.near (c.args.walk.now.depth + 1) (subst (AllByRecursion (IsNear (c.args.walk.now.depth + 1))) (sym c.constraints_of.ensures) (near_low c.args.walk.now.table.now c.args.walk.now.depth (get_or c.args.chain.now c.loop-one.one-index (record { 0 = 0 })).0 low)) in
     omega arith
 
 pub walk_chain-walk_parts-requires : goal.walk_chain-walk_parts-requires
 walk_chain-walk_parts-requires t c =
-    let first = first_item c.loop-rest.rest.now (record { 0 = 0 }) (omega (arith, c.in-len1-up.len_at_least)) in
-    let low = low_along c.args.walk.now.table.now (c.args.walk.now.depth + 1) c.args.id.0 (get_or c.loop-rest.rest.now 0 (record { 0 = 0 })).0 c.requires.low (chain_has c.args.walk.now.table.now c.args.walk.now.depth c.args.walk.now.notes.now c.args.id.0 (bits_left c.args.reader.now) c.loop-rest.walked c.loop-rest.numbers (bits_left c.loop-rest.reader) (get_or c.loop-rest.rest.now 0 (record { 0 = 0 })) _ c.loop-rest.rest.now first c.loop-rest.invariant.at) in (
+    let first = drop_more c.args.chain.now c.loop-one.one-index (record { 0 = 0 }) (omega arith) in
+    let low = low_along c.args.walk.now.table.now (c.args.walk.now.depth + 1) c.args.id.0 (get_or c.args.chain.now c.loop-one.one-index (record { 0 = 0 })).0 c.requires.low (chain_has c.args.walk.now.table.now c.args.walk.now.depth c.args.walk.now.notes.now c.args.id.0 (bits_left c.args.reader.now) c.loop-one.walked c.loop-one.numbers (bits_left c.loop-one.reader) (get_or c.args.chain.now c.loop-one.one-index (record { 0 = 0 })) _ (drop c.loop-one.one-index c.args.chain.now) first c.loop-one.invariant.at) in (
       omega arith,
       (
         c.requires.notes,
         (
-          omega (arith, c.requires.room, c.loop-rest.invariant.outer.long),
+          omega (arith, c.requires.room, c.loop-one.invariant.outer.long),
           (
             low,
             (
-              subst (AllByRecursion (PartIsRead c.args.walk.now.table.now c.args.walk.now.depth)) (sym c.entries_of-entries.ensures.value) (entries_low c.args.walk.now.table.now c.args.walk.now.depth (get_or c.loop-rest.rest.now 0 (record { 0 = 0 })).0 low),
+              subst (AllByRecursion (PartIsRead c.args.walk.now.table.now c.args.walk.now.depth)) (sym c.entries_of-entries.ensures.value) (entries_low c.args.walk.now.table.now c.args.walk.now.depth (get_or c.args.chain.now c.loop-one.one-index (record { 0 = 0 })).0 low),
               (
-                subst (λ ps. AllByRecursion (Stands c.args.walk.now.table.now) (placed_from (get_or c.loop-rest.rest.now 0 (record { 0 = 0 })).0 0 ps)) (sym c.entries_of-entries.ensures.value) (entries_placed c.args.walk.now.table.now (get_or c.loop-rest.rest.now 0 (record { 0 = 0 })).0),
-                (omega (arith, c.entries_of-entries.ensures.few), (c.requires.few, (c.loop-rest.invariant.begun, (subst (λ z. length (bits_left z) ≤ 524288) (sym c.loop-rest.invariant.start) c.requires.short, c.in_default-check_noted.ensures.calm)))),
+                subst (λ ps. AllByRecursion (Stands c.args.walk.now.table.now) (placed_from (get_or c.args.chain.now c.loop-one.one-index (record { 0 = 0 })).0 0 ps)) (sym c.entries_of-entries.ensures.value) (entries_placed c.args.walk.now.table.now (get_or c.args.chain.now c.loop-one.one-index (record { 0 = 0 })).0),
+                (omega (arith, c.entries_of-entries.ensures.few), (c.requires.few, (c.loop-one.invariant.begun, (subst (λ z. length (bits_left z) ≤ 524288) (sym c.loop-one.invariant.start) c.requires.short, c.in_ok-check_noted.ensures.calm)))),
               ),
             ),
           ),
@@ -255,25 +259,26 @@ walk_chain-walk_parts-requires t c =
       ),
     )
 
-pub walk_chain-returns-in-Err-walk_parts-clause-fault : goal.walk_chain-returns-in-Err-walk_parts-clause-fault
-walk_chain-returns-in-Err-walk_parts-clause-fault t c =
-    let first = first_item c.loop-rest.rest.now (record { 0 = 0 }) (omega (arith, c.in-len1-up.len_at_least)) in
-    chain_fault c.args.walk.now.table.now c.args.walk.now.depth c.args.walk.now.notes.now c.args.id.0 (bits_left c.args.reader.now) c.loop-rest.walked c.loop-rest.numbers (bits_left c.loop-rest.reader) (get_or c.loop-rest.rest.now 0 (record { 0 = 0 })) _ c.loop-rest.rest.now first c.loop-rest.invariant.at c.requires.low.rules c.requires.notes c.constraints_of.result.now c.constraints_of.ensures c.in_default-check_noted.ensures.passes c.entries_of-entries.result.now c.entries_of-entries.ensures.value (fault_at c.in-Err-walk_parts.reason c.walk_parts.new.path) c.in-Err-walk_parts.ensures.fault
+pub walk_chain-returns-in_err-walk_parts-clause-fault : goal.walk_chain-returns-in_err-walk_parts-clause-fault
+walk_chain-returns-in_err-walk_parts-clause-fault t c =
+    let p = err_from_is_err_and c.from_residual-in_err-walk_parts.result c.from_residual-in_err-walk_parts.ensures.1 in
+    let first = drop_more c.args.chain.now c.loop-one.one-index (record { 0 = 0 }) (omega arith) in
+    rw (p.1, p.2) (chain_fault c.args.walk.now.table.now c.args.walk.now.depth c.args.walk.now.notes.now c.args.id.0 (bits_left c.args.reader.now) c.loop-one.walked c.loop-one.numbers (bits_left c.loop-one.reader) (get_or c.args.chain.now c.loop-one.one-index (record { 0 = 0 })) _ (drop c.loop-one.one-index c.args.chain.now) first c.loop-one.invariant.at c.requires.low.rules c.requires.notes c.constraints_of.result.now c.constraints_of.ensures c.in_ok-check_noted.ensures.passes c.entries_of-entries.result.now c.entries_of-entries.ensures.value (fault_at c.in_err-walk_parts.field-0.0 c.walk_parts.new.path) c.in_err-walk_parts.ensures.fault)
 
-pub walk_chain-returns-in-Err-walk_parts-clause-outer : goal.walk_chain-returns-in-Err-walk_parts-clause-outer
-walk_chain-returns-in-Err-walk_parts-clause-outer t c =
-    let first = first_item c.loop-rest.rest.now (record { 0 = 0 }) (omega (arith, c.in-len1-up.len_at_least)) in
-    keeps_then c.args.walk.now.table.now c.args.walk.now.notes.now c.args.id.0 c.args.numbers.now c.loop-rest.numbers c.walk_parts.new.numbers c.loop-rest.invariant.outer (keeps_other c.args.walk.now.table.now c.args.walk.now.notes.now (get_or c.loop-rest.rest.now 0 (record { 0 = 0 })).0 c.args.id.0 c.loop-rest.numbers c.walk_parts.new.numbers (chain_rank c.args.walk.now.table.now c.args.walk.now.depth c.args.walk.now.notes.now c.args.id.0 (bits_left c.args.reader.now) c.loop-rest.walked c.loop-rest.numbers (bits_left c.loop-rest.reader) (get_or c.loop-rest.rest.now 0 (record { 0 = 0 })) _ c.loop-rest.rest.now first c.loop-rest.invariant.at) c.in-Err-walk_parts.ensures.outer)
+pub walk_chain-returns-in_err-walk_parts-clause-outer : goal.walk_chain-returns-in_err-walk_parts-clause-outer
+walk_chain-returns-in_err-walk_parts-clause-outer t c =
+    let first = drop_more c.args.chain.now c.loop-one.one-index (record { 0 = 0 }) (omega arith) in
+    keeps_then c.args.walk.now.table.now c.args.walk.now.notes.now c.args.id.0 c.args.numbers.now c.loop-one.numbers c.walk_parts.new.numbers c.loop-one.invariant.outer (keeps_other c.args.walk.now.table.now c.args.walk.now.notes.now (get_or c.args.chain.now c.loop-one.one-index (record { 0 = 0 })).0 c.args.id.0 c.loop-one.numbers c.walk_parts.new.numbers (chain_rank c.args.walk.now.table.now c.args.walk.now.depth c.args.walk.now.notes.now c.args.id.0 (bits_left c.args.reader.now) c.loop-one.walked c.loop-one.numbers (bits_left c.loop-one.reader) (get_or c.args.chain.now c.loop-one.one-index (record { 0 = 0 })) _ (drop c.loop-one.one-index c.args.chain.now) first c.loop-one.invariant.at) c.in_err-walk_parts.ensures.outer)
 
-pub walk_chain-loop-rest-preserved : goal.walk_chain-loop-rest-preserved
-walk_chain-loop-rest-preserved t c =
-    let first = first_item c.loop-rest.rest.now (record { 0 = 0 }) (omega (arith, c.in-len1-up.len_at_least)) in
+pub walk_chain-loop-one-preserved : goal.walk_chain-loop-one-preserved
+walk_chain-loop-one-preserved t c =
+    let first = drop_more c.args.chain.now c.loop-one.one-index (record { 0 = 0 }) (omega arith) in
     record {
-      root = c.in_default-walk_parts.ensures.calm;
-      outer = keeps_then c.args.walk.now.table.now c.args.walk.now.notes.now c.args.id.0 c.args.numbers.now c.loop-rest.numbers c.walk_parts.new.numbers c.loop-rest.invariant.outer (keeps_other c.args.walk.now.table.now c.args.walk.now.notes.now (get_or c.loop-rest.rest.now 0 (record { 0 = 0 })).0 c.args.id.0 c.loop-rest.numbers c.walk_parts.new.numbers (chain_rank c.args.walk.now.table.now c.args.walk.now.depth c.args.walk.now.notes.now c.args.id.0 (bits_left c.args.reader.now) c.loop-rest.walked c.loop-rest.numbers (bits_left c.loop-rest.reader) (get_or c.loop-rest.rest.now 0 (record { 0 = 0 })) _ c.loop-rest.rest.now first c.loop-rest.invariant.at) c.in_default-walk_parts.ensures.outer);
-      start = c.in_default-walk_parts.ensures.start ∙ c.loop-rest.invariant.start;
-      begun = c.in_default-walk_parts.ensures.begun;
-      at = chain_goes c.args.walk.now.table.now c.args.walk.now.depth c.args.walk.now.notes.now c.args.id.0 (bits_left c.args.reader.now) c.loop-rest.walked c.loop-rest.numbers (bits_left c.loop-rest.reader) (get_or c.loop-rest.rest.now 0 (record { 0 = 0 })) _ c.loop-rest.rest.now first c.loop-rest.invariant.at c.requires.low.rules c.requires.notes c.constraints_of.result.now c.constraints_of.ensures c.in_default-check_noted.ensures.passes c.entries_of-entries.result.now c.entries_of-entries.ensures.value c.walk_parts.new.walked c.walk_parts.new.numbers (bits_left c.walk_parts.new.reader) c.in_default-walk_parts.ensures.passed;
+      root = c.in_ok-walk_parts.ensures.calm;
+      outer = keeps_then c.args.walk.now.table.now c.args.walk.now.notes.now c.args.id.0 c.args.numbers.now c.loop-one.numbers c.walk_parts.new.numbers c.loop-one.invariant.outer (keeps_other c.args.walk.now.table.now c.args.walk.now.notes.now (get_or c.args.chain.now c.loop-one.one-index (record { 0 = 0 })).0 c.args.id.0 c.loop-one.numbers c.walk_parts.new.numbers (chain_rank c.args.walk.now.table.now c.args.walk.now.depth c.args.walk.now.notes.now c.args.id.0 (bits_left c.args.reader.now) c.loop-one.walked c.loop-one.numbers (bits_left c.loop-one.reader) (get_or c.args.chain.now c.loop-one.one-index (record { 0 = 0 })) _ (drop c.loop-one.one-index c.args.chain.now) first c.loop-one.invariant.at) c.in_ok-walk_parts.ensures.outer);
+      start = c.in_ok-walk_parts.ensures.start ∙ c.loop-one.invariant.start;
+      begun = c.in_ok-walk_parts.ensures.begun;
+      at = chain_goes c.args.walk.now.table.now c.args.walk.now.depth c.args.walk.now.notes.now c.args.id.0 (bits_left c.args.reader.now) c.loop-one.walked c.loop-one.numbers (bits_left c.loop-one.reader) (get_or c.args.chain.now c.loop-one.one-index (record { 0 = 0 })) _ (drop c.loop-one.one-index c.args.chain.now) first c.loop-one.invariant.at c.requires.low.rules c.requires.notes c.constraints_of.result.now c.constraints_of.ensures c.in_ok-check_noted.ensures.passes c.entries_of-entries.result.now c.entries_of-entries.ensures.value c.walk_parts.new.walked c.walk_parts.new.numbers (bits_left c.walk_parts.new.reader) c.in_ok-walk_parts.ensures.passed;
     }
 
 -- ---- trailers
@@ -282,26 +287,27 @@ pub walk_trailers-loop-rest-preserved : goal.walk_trailers-loop-rest-preserved
 walk_trailers-loop-rest-preserved t c =
     let last = last_item c.loop-rest.rest.now (record { 0 = 0 }) (omega (arith, c.in-len1-up.len_at_least)) in
     record {
-      root = c.in_default-walk_parts.ensures.calm;
-      outer = keeps_then c.args.walk.now.table.now c.args.walk.now.notes.now c.args.id.0 c.args.numbers.now c.loop-rest.numbers c.walk_parts.new.numbers c.loop-rest.invariant.outer (keeps_other c.args.walk.now.table.now c.args.walk.now.notes.now (get_or c.loop-rest.rest.now (length c.loop-rest.rest.now - 1) (record { 0 = 0 })).0 c.args.id.0 c.loop-rest.numbers c.walk_parts.new.numbers (last_rank c.args.walk.now.table.now c.args.walk.now.depth c.args.walk.now.notes.now c.args.id.0 c.args.walked.now c.args.numbers.now (bits_left c.args.reader.now) c.loop-rest.walked c.loop-rest.numbers (bits_left c.loop-rest.reader) (get_or c.loop-rest.rest.now (length c.loop-rest.rest.now - 1) (record { 0 = 0 })) (take (length c.loop-rest.rest.now - 1) c.loop-rest.rest.now) c.loop-rest.rest.now last c.loop-rest.invariant.left) c.in_default-walk_parts.ensures.outer);
-      start = c.in_default-walk_parts.ensures.start ∙ c.loop-rest.invariant.start;
-      begun = c.in_default-walk_parts.ensures.begun;
+      root = c.in_ok-walk_parts.ensures.calm;
+      outer = keeps_then c.args.walk.now.table.now c.args.walk.now.notes.now c.args.id.0 c.args.numbers.now c.loop-rest.numbers c.walk_parts.new.numbers c.loop-rest.invariant.outer (keeps_other c.args.walk.now.table.now c.args.walk.now.notes.now (get_or c.loop-rest.rest.now (length c.loop-rest.rest.now - 1) (record { 0 = 0 })).0 c.args.id.0 c.loop-rest.numbers c.walk_parts.new.numbers (last_rank c.args.walk.now.table.now c.args.walk.now.depth c.args.walk.now.notes.now c.args.id.0 c.args.walked.now c.args.numbers.now (bits_left c.args.reader.now) c.loop-rest.walked c.loop-rest.numbers (bits_left c.loop-rest.reader) (get_or c.loop-rest.rest.now (length c.loop-rest.rest.now - 1) (record { 0 = 0 })) (take (length c.loop-rest.rest.now - 1) c.loop-rest.rest.now) c.loop-rest.rest.now last c.loop-rest.invariant.left) c.in_ok-walk_parts.ensures.outer);
+      start = c.in_ok-walk_parts.ensures.start ∙ c.loop-rest.invariant.start;
+      begun = c.in_ok-walk_parts.ensures.begun;
       left = left_before c.args.walk.now.table.now c.args.walk.now.depth c.args.walk.now.notes.now c.args.id.0 c.args.walked.now c.args.numbers.now (bits_left c.args.reader.now) c.loop-rest.walked c.loop-rest.numbers (bits_left c.loop-rest.reader) (get_or c.loop-rest.rest.now (length c.loop-rest.rest.now - 1) (record { 0 = 0 })) (take (length c.loop-rest.rest.now - 1) c.loop-rest.rest.now) c.loop-rest.rest.now last c.loop-rest.invariant.left;
-      at = trailers_goes c.args.walk.now.table.now c.args.walk.now.depth c.args.walk.now.notes.now c.args.id.0 c.args.walked.now c.args.numbers.now (bits_left c.args.reader.now) c.loop-rest.walked c.loop-rest.numbers (bits_left c.loop-rest.reader) (get_or c.loop-rest.rest.now (length c.loop-rest.rest.now - 1) (record { 0 = 0 })) (take (length c.loop-rest.rest.now - 1) c.loop-rest.rest.now) c.loop-rest.rest.now last c.loop-rest.invariant.left c.loop-rest.invariant.at c.entries_of.result.now c.trailers_of-trailers.result.now c.entries_of.ensures.value c.trailers_of-trailers.ensures.value c.walk_parts.new.walked c.walk_parts.new.numbers (bits_left c.walk_parts.new.reader) c.in_default-walk_parts.ensures.passed;
+      at = trailers_goes c.args.walk.now.table.now c.args.walk.now.depth c.args.walk.now.notes.now c.args.id.0 c.args.walked.now c.args.numbers.now (bits_left c.args.reader.now) c.loop-rest.walked c.loop-rest.numbers (bits_left c.loop-rest.reader) (get_or c.loop-rest.rest.now (length c.loop-rest.rest.now - 1) (record { 0 = 0 })) (take (length c.loop-rest.rest.now - 1) c.loop-rest.rest.now) c.loop-rest.rest.now last c.loop-rest.invariant.left c.loop-rest.invariant.at c.entries_of.result.now c.trailers_of-trailers.result.now c.entries_of.ensures.value c.trailers_of-trailers.ensures.value c.walk_parts.new.walked c.walk_parts.new.numbers (bits_left c.walk_parts.new.reader) c.in_ok-walk_parts.ensures.passed;
     }
 
 pub walk_trailers-returns-clause-passed : goal.walk_trailers-returns-clause-passed
 walk_trailers-returns-clause-passed t c = trailers_passed c.args.walk.now.table.now c.args.walk.now.depth c.args.walk.now.notes.now c.args.id.0 c.args.walked.now c.args.numbers.now (bits_left c.args.reader.now) c.loop-rest.walked c.loop-rest.numbers (bits_left c.loop-rest.reader) c.loop-rest.rest.now (no_items c.loop-rest.rest.now c.in_default.len_below) c.loop-rest.invariant.at
 
-pub walk_trailers-returns-in-Err-clause-fault : goal.walk_trailers-returns-in-Err-clause-fault
-walk_trailers-returns-in-Err-clause-fault t c =
+pub walk_trailers-returns-in_err-walk_parts-clause-fault : goal.walk_trailers-returns-in_err-walk_parts-clause-fault
+walk_trailers-returns-in_err-walk_parts-clause-fault t c =
+    let p = err_from_is_err_and c.from_residual.result c.from_residual.ensures.1 in
     let last = last_item c.loop-rest.rest.now (record { 0 = 0 }) (omega (arith, c.in-len1-up.len_at_least)) in
-    trailers_fault c.args.walk.now.table.now c.args.walk.now.depth c.args.walk.now.notes.now c.args.id.0 c.args.walked.now c.args.numbers.now (bits_left c.args.reader.now) c.loop-rest.walked c.loop-rest.numbers (bits_left c.loop-rest.reader) (get_or c.loop-rest.rest.now (length c.loop-rest.rest.now - 1) (record { 0 = 0 })) (take (length c.loop-rest.rest.now - 1) c.loop-rest.rest.now) c.loop-rest.rest.now last c.loop-rest.invariant.left c.loop-rest.invariant.at c.entries_of.result.now c.trailers_of-trailers.result.now c.entries_of.ensures.value c.trailers_of-trailers.ensures.value (fault_at c.in-Err.reason c.walk_parts.new.path) c.in-Err.ensures.fault
+    rw (p.1, p.2) (trailers_fault c.args.walk.now.table.now c.args.walk.now.depth c.args.walk.now.notes.now c.args.id.0 c.args.walked.now c.args.numbers.now (bits_left c.args.reader.now) c.loop-rest.walked c.loop-rest.numbers (bits_left c.loop-rest.reader) (get_or c.loop-rest.rest.now (length c.loop-rest.rest.now - 1) (record { 0 = 0 })) (take (length c.loop-rest.rest.now - 1) c.loop-rest.rest.now) c.loop-rest.rest.now last c.loop-rest.invariant.left c.loop-rest.invariant.at c.entries_of.result.now c.trailers_of-trailers.result.now c.entries_of.ensures.value c.trailers_of-trailers.ensures.value (fault_at c.in_err-walk_parts.field-0.0 c.walk_parts.new.path) c.in_err-walk_parts.ensures.fault)
 
-pub walk_trailers-returns-in-Err-clause-outer : goal.walk_trailers-returns-in-Err-clause-outer
-walk_trailers-returns-in-Err-clause-outer t c =
+pub walk_trailers-returns-in_err-walk_parts-clause-outer : goal.walk_trailers-returns-in_err-walk_parts-clause-outer
+walk_trailers-returns-in_err-walk_parts-clause-outer t c =
     let last = last_item c.loop-rest.rest.now (record { 0 = 0 }) (omega (arith, c.in-len1-up.len_at_least)) in
-    keeps_then c.args.walk.now.table.now c.args.walk.now.notes.now c.args.id.0 c.args.numbers.now c.loop-rest.numbers c.walk_parts.new.numbers c.loop-rest.invariant.outer (keeps_other c.args.walk.now.table.now c.args.walk.now.notes.now (get_or c.loop-rest.rest.now (length c.loop-rest.rest.now - 1) (record { 0 = 0 })).0 c.args.id.0 c.loop-rest.numbers c.walk_parts.new.numbers (last_rank c.args.walk.now.table.now c.args.walk.now.depth c.args.walk.now.notes.now c.args.id.0 c.args.walked.now c.args.numbers.now (bits_left c.args.reader.now) c.loop-rest.walked c.loop-rest.numbers (bits_left c.loop-rest.reader) (get_or c.loop-rest.rest.now (length c.loop-rest.rest.now - 1) (record { 0 = 0 })) (take (length c.loop-rest.rest.now - 1) c.loop-rest.rest.now) c.loop-rest.rest.now last c.loop-rest.invariant.left) c.in-Err.ensures.outer)
+    keeps_then c.args.walk.now.table.now c.args.walk.now.notes.now c.args.id.0 c.args.numbers.now c.loop-rest.numbers c.walk_parts.new.numbers c.loop-rest.invariant.outer (keeps_other c.args.walk.now.table.now c.args.walk.now.notes.now (get_or c.loop-rest.rest.now (length c.loop-rest.rest.now - 1) (record { 0 = 0 })).0 c.args.id.0 c.loop-rest.numbers c.walk_parts.new.numbers (last_rank c.args.walk.now.table.now c.args.walk.now.depth c.args.walk.now.notes.now c.args.id.0 c.args.walked.now c.args.numbers.now (bits_left c.args.reader.now) c.loop-rest.walked c.loop-rest.numbers (bits_left c.loop-rest.reader) (get_or c.loop-rest.rest.now (length c.loop-rest.rest.now - 1) (record { 0 = 0 })) (take (length c.loop-rest.rest.now - 1) c.loop-rest.rest.now) c.loop-rest.rest.now last c.loop-rest.invariant.left) c.in_err-walk_parts.ensures.outer)
 
 pub walk_trailers-walk_parts-requires : goal.walk_trailers-walk_parts-requires
 walk_trailers-walk_parts-requires t c =
@@ -346,33 +352,35 @@ pub walk_under-walk_trailers-requires : goal.walk_under-walk_trailers-requires
 walk_under-walk_trailers-requires t c =
     (omega arith, (c.requires.notes, (omega (arith, c.requires.room, c.loop.invariant.outer.long), (c.loop.invariant.low, (numbers_are c.as_slice-chain.result.now (chain c.args.walk.now.table.now c.loop.at.0) (c.as_slice-chain.ensures.value ∙ c.chain_of-chain.ensures), (c.requires.few, (c.loop.invariant.begun, (subst (λ r. length (bits_left r) ≤ 524288) (sym c.loop.invariant.start) c.requires.short, c.loop.invariant.root))))))))
 
-pub walk_under-returns-in-Err-clause-fault : goal.walk_under-returns-in-Err-clause-fault
-walk_under-returns-in-Err-clause-fault t c = λ s at.
-    let h = c.loop.invariant.at s at in
-    walk_stay_fails c.args.walk.now.table.now c.requires.low.rules c.args.walk.now.notes.now c.requires.notes (read_within c.args.walk.now.depth c.args.walk.now.table.now) c.loop.counter c.args.id.0 c.loop.at.0 c.loop.walked c.loop.numbers (bits_left c.loop.reader) c.loop.invariant.under (omega (arith, c.loop-test.true)) h.0 h.1 _ h.2 c.in-Stay.ensures _ c.in-Err.ensures.fault
+pub walk_under-returns-in_err-walk_trailers-in-Stay-clause-fault : goal.walk_under-returns-in_err-walk_trailers-in-Stay-clause-fault
+walk_under-returns-in_err-walk_trailers-in-Stay-clause-fault t c =
+    let p = err_from_is_err_and c.from_residual.result c.from_residual.ensures.1 in
+    rw (p.1, p.2) (λ s at.
+    (let h = c.loop.invariant.at s at in
+    walk_stay_fails c.args.walk.now.table.now c.requires.low.rules c.args.walk.now.notes.now c.requires.notes (read_within c.args.walk.now.depth c.args.walk.now.table.now) c.loop.counter c.args.id.0 c.loop.at.0 c.loop.walked c.loop.numbers (bits_left c.loop.reader) c.loop.invariant.under (omega (arith, c.loop-test.true)) h.0 h.1 _ h.2 c.in-Stay.ensures _ c.in_err-walk_trailers-in-Stay.ensures.fault))
 
-pub walk_under-returns-in-Err-clause-outer : goal.walk_under-returns-in-Err-clause-outer
-walk_under-returns-in-Err-clause-outer t c =
-    keeps_both c.args.walk.now.table.now c.args.walk.now.notes.now c.loop.at.0 c.args.id.0 _ _ _ (λ rs. sym (rank_of_chain c.args.walk.now.table.now rs c.loop.at.0 c.args.id.0 c.loop.invariant.under)) c.loop.invariant.outer c.in-Err.ensures.outer
+pub walk_under-returns-in_err-walk_trailers-in-Stay-clause-outer : goal.walk_under-returns-in_err-walk_trailers-in-Stay-clause-outer
+walk_under-returns-in_err-walk_trailers-in-Stay-clause-outer t c =
+    keeps_both c.args.walk.now.table.now c.args.walk.now.notes.now c.loop.at.0 c.args.id.0 _ _ _ (λ rs. sym (rank_of_chain c.args.walk.now.table.now rs c.loop.at.0 c.args.id.0 c.loop.invariant.under)) c.loop.invariant.outer c.in_err-walk_trailers-in-Stay.ensures.outer
 
 pub walk_under-returns-then-is_told_size-clause-passed : goal.walk_under-returns-then-is_told_size-clause-passed
 walk_under-returns-then-is_told_size-clause-passed t c = λ s at.
     let h = c.loop.invariant.at s at in
-    walk_stay_ends c.args.walk.now.table.now c.requires.low.rules c.args.walk.now.notes.now c.requires.notes (read_within c.args.walk.now.depth c.args.walk.now.table.now) c.loop.counter c.args.id.0 c.loop.at.0 c.loop.walked c.loop.numbers (bits_left c.loop.reader) c.loop.invariant.under (omega (arith, c.loop-test.true)) h.0 h.1 _ h.2 c.in-Stay.ensures c.walk_trailers.new.walked c.walk_trailers.new.numbers (bits_left c.walk_trailers.new.reader) c.in_default.ensures.passed c.loop.at refl c.if-is_told_size.ensures
+    walk_stay_ends c.args.walk.now.table.now c.requires.low.rules c.args.walk.now.notes.now c.requires.notes (read_within c.args.walk.now.depth c.args.walk.now.table.now) c.loop.counter c.args.id.0 c.loop.at.0 c.loop.walked c.loop.numbers (bits_left c.loop.reader) c.loop.invariant.under (omega (arith, c.loop-test.true)) h.0 h.1 _ h.2 c.in-Stay.ensures c.walk_trailers.new.walked c.walk_trailers.new.numbers (bits_left c.walk_trailers.new.reader) c.in_ok-walk_trailers-in-Stay.ensures.passed c.loop.at refl c.if-is_told_size.ensures
 
 pub walk_under-returns-then-is_told_size-clause-outer : goal.walk_under-returns-then-is_told_size-clause-outer
 walk_under-returns-then-is_told_size-clause-outer t c =
-    keeps_both c.args.walk.now.table.now c.args.walk.now.notes.now c.loop.at.0 c.args.id.0 _ _ _ (λ rs. sym (rank_of_chain c.args.walk.now.table.now rs c.loop.at.0 c.args.id.0 c.loop.invariant.under)) c.loop.invariant.outer c.in_default.ensures.outer
+    keeps_both c.args.walk.now.table.now c.args.walk.now.notes.now c.loop.at.0 c.args.id.0 _ _ _ (λ rs. sym (rank_of_chain c.args.walk.now.table.now rs c.loop.at.0 c.args.id.0 c.loop.invariant.under)) c.loop.invariant.outer c.in_ok-walk_trailers-in-Stay.ensures.outer
 
 pub walk_under-returns-in-Stay-clause-fault : goal.walk_under-returns-in-Stay-clause-fault
 walk_under-returns-in-Stay-clause-fault t c = λ s at.
     let h = c.loop.invariant.at s at in
-    walk_stay_compares c.args.walk.now.table.now c.requires.low.rules c.args.walk.now.notes.now c.requires.notes (read_within c.args.walk.now.depth c.args.walk.now.table.now) c.loop.counter c.args.id.0 c.loop.at.0 c.loop.walked c.loop.numbers (bits_left c.loop.reader) c.loop.invariant.under (omega (arith, c.loop-test.true)) h.0 h.1 _ h.2 c.in-Stay.ensures c.walk_trailers.new.walked c.walk_trailers.new.numbers (bits_left c.walk_trailers.new.reader) c.in_default.ensures.passed false c.if-is_told_size.ensures
+    walk_stay_compares c.args.walk.now.table.now c.requires.low.rules c.args.walk.now.notes.now c.requires.notes (read_within c.args.walk.now.depth c.args.walk.now.table.now) c.loop.counter c.args.id.0 c.loop.at.0 c.loop.walked c.loop.numbers (bits_left c.loop.reader) c.loop.invariant.under (omega (arith, c.loop-test.true)) h.0 h.1 _ h.2 c.in-Stay.ensures c.walk_trailers.new.walked c.walk_trailers.new.numbers (bits_left c.walk_trailers.new.reader) c.in_ok-walk_trailers-in-Stay.ensures.passed false c.if-is_told_size.ensures
     ∙ ap (λ p. Err (fault_at LengthDiffers p)) (sym c.tell_length.ensures.value)
 
 pub walk_under-returns-in-Stay-clause-outer : goal.walk_under-returns-in-Stay-clause-outer
 walk_under-returns-in-Stay-clause-outer t c =
-    keeps_both c.args.walk.now.table.now c.args.walk.now.notes.now c.loop.at.0 c.args.id.0 _ _ _ (λ rs. sym (rank_of_chain c.args.walk.now.table.now rs c.loop.at.0 c.args.id.0 c.loop.invariant.under)) c.loop.invariant.outer c.in_default.ensures.outer
+    keeps_both c.args.walk.now.table.now c.args.walk.now.notes.now c.loop.at.0 c.args.id.0 _ _ _ (λ rs. sym (rank_of_chain c.args.walk.now.table.now rs c.loop.at.0 c.args.id.0 c.loop.invariant.under)) c.loop.invariant.outer c.in_ok-walk_trailers-in-Stay.ensures.outer
 
 pub walk_under-walk_parts-requires : goal.walk_under-walk_parts-requires
 walk_under-walk_parts-requires t c =
@@ -381,29 +389,31 @@ walk_under-walk_parts-requires t c =
     let low = child_is_low c.args.walk.now.table.now c.loop.invariant.low.rules (c.args.walk.now.depth + 1) c.loop.at.0 c.in-Under.child.0 (u.0).fields c.loop.invariant.low.low goes in
     (omega arith, (c.requires.notes, (omega (arith, c.requires.room, c.loop.invariant.outer.long), (low, (subst (AllByRecursion (PartIsRead c.args.walk.now.table.now c.args.walk.now.depth)) (sym c.entries_of-entries.ensures.value) (entries_low c.args.walk.now.table.now c.args.walk.now.depth c.in-Under.child.0 low), (subst (λ es. AllByRecursion (Stands c.args.walk.now.table.now) (placed_from c.in-Under.child.0 0 es)) (sym c.entries_of-entries.ensures.value) (entries_placed c.args.walk.now.table.now c.in-Under.child.0), (omega (arith, c.entries_of-entries.ensures.few), (c.requires.few, (c.loop.invariant.begun, (subst (λ r. length (bits_left r) ≤ 524288) (sym c.loop.invariant.start) c.requires.short, c.loop.invariant.root))))))))))
 
-pub walk_under-returns-in-Err-walk_parts-clause-fault : goal.walk_under-returns-in-Err-walk_parts-clause-fault
-walk_under-returns-in-Err-walk_parts-clause-fault t c = λ s at.
-    let h = c.loop.invariant.at s at in
-    walk_under_fails c.args.walk.now.table.now c.requires.low.rules c.args.walk.now.notes.now c.requires.notes (read_within c.args.walk.now.depth c.args.walk.now.table.now) c.loop.counter c.args.id.0 c.loop.at.0 c.loop.walked c.loop.numbers (bits_left c.loop.reader) c.loop.invariant.under (omega (arith, c.loop-test.true)) h.0 h.1 _ h.2 c.in-Under.child.0 c.in-Under.ensures c.entries_of-entries.result.now c.entries_of-entries.ensures.value _ c.in-Err-walk_parts.ensures.fault
+pub walk_under-returns-in_err-walk_parts-in-Under-clause-fault : goal.walk_under-returns-in_err-walk_parts-in-Under-clause-fault
+walk_under-returns-in_err-walk_parts-in-Under-clause-fault t c =
+    let p = err_from_is_err_and c.from_residual-in_err-walk_parts-in-Under.result c.from_residual-in_err-walk_parts-in-Under.ensures.1 in
+    rw (p.1, p.2) (λ s at.
+    (let h = c.loop.invariant.at s at in
+    walk_under_fails c.args.walk.now.table.now c.requires.low.rules c.args.walk.now.notes.now c.requires.notes (read_within c.args.walk.now.depth c.args.walk.now.table.now) c.loop.counter c.args.id.0 c.loop.at.0 c.loop.walked c.loop.numbers (bits_left c.loop.reader) c.loop.invariant.under (omega (arith, c.loop-test.true)) h.0 h.1 _ h.2 c.in-Under.child.0 c.in-Under.ensures c.entries_of-entries.result.now c.entries_of-entries.ensures.value _ c.in_err-walk_parts-in-Under.ensures.fault))
 
-pub walk_under-returns-in-Err-walk_parts-clause-outer : goal.walk_under-returns-in-Err-walk_parts-clause-outer
-walk_under-returns-in-Err-walk_parts-clause-outer t c =
+pub walk_under-returns-in_err-walk_parts-in-Under-clause-outer : goal.walk_under-returns-in_err-walk_parts-in-Under-clause-outer
+walk_under-returns-in_err-walk_parts-in-Under-clause-outer t c =
     let u = c.loop.invariant.at c.requires.at.0 c.requires.at.1 in
-    keeps_both c.args.walk.now.table.now c.args.walk.now.notes.now c.in-Under.child.0 c.args.id.0 _ _ _ (child_rank_back c.args.walk.now.table.now c.requires.low.rules c.args.walk.now.notes.now c.requires.notes (read_within c.args.walk.now.depth c.args.walk.now.table.now) c.loop.counter c.args.id.0 c.loop.at.0 c.loop.walked c.loop.numbers (bits_left c.loop.reader) c.loop.invariant.under u.0 u.1 c.in-Under.child.0 c.in-Under.ensures) c.loop.invariant.outer c.in-Err-walk_parts.ensures.outer
+    keeps_both c.args.walk.now.table.now c.args.walk.now.notes.now c.in-Under.child.0 c.args.id.0 _ _ _ (child_rank_back c.args.walk.now.table.now c.requires.low.rules c.args.walk.now.notes.now c.requires.notes (read_within c.args.walk.now.depth c.args.walk.now.table.now) c.loop.counter c.args.id.0 c.loop.at.0 c.loop.walked c.loop.numbers (bits_left c.loop.reader) c.loop.invariant.under u.0 u.1 c.in-Under.child.0 c.in-Under.ensures) c.loop.invariant.outer c.in_err-walk_parts-in-Under.ensures.outer
 
 pub walk_under-loop-preserved : goal.walk_under-loop-preserved
 walk_under-loop-preserved t c =
     let u = c.loop.invariant.at c.requires.at.0 c.requires.at.1 in
     let goes = chosen c.args.walk.now.table.now c.requires.low.rules c.args.walk.now.notes.now c.requires.notes (read_within c.args.walk.now.depth c.args.walk.now.table.now) c.loop.counter c.args.id.0 c.loop.at.0 c.loop.walked c.loop.numbers (bits_left c.loop.reader) (under c.in-Under.child.0) u.0 u.1 c.in-Under.ensures in
     record {
-      root = c.in_default-walk_parts.ensures.calm;
-      outer = keeps_both c.args.walk.now.table.now c.args.walk.now.notes.now c.in-Under.child.0 c.args.id.0 _ _ _ (child_rank_back c.args.walk.now.table.now c.requires.low.rules c.args.walk.now.notes.now c.requires.notes (read_within c.args.walk.now.depth c.args.walk.now.table.now) c.loop.counter c.args.id.0 c.loop.at.0 c.loop.walked c.loop.numbers (bits_left c.loop.reader) c.loop.invariant.under u.0 u.1 c.in-Under.child.0 c.in-Under.ensures) c.loop.invariant.outer c.in_default-walk_parts.ensures.outer;
-      start = c.in_default-walk_parts.ensures.start ∙ c.loop.invariant.start;
-      begun = c.in_default-walk_parts.ensures.begun;
+      root = c.in_ok-walk_parts-in-Under.ensures.calm;
+      outer = keeps_both c.args.walk.now.table.now c.args.walk.now.notes.now c.in-Under.child.0 c.args.id.0 _ _ _ (child_rank_back c.args.walk.now.table.now c.requires.low.rules c.args.walk.now.notes.now c.requires.notes (read_within c.args.walk.now.depth c.args.walk.now.table.now) c.loop.counter c.args.id.0 c.loop.at.0 c.loop.walked c.loop.numbers (bits_left c.loop.reader) c.loop.invariant.under u.0 u.1 c.in-Under.child.0 c.in-Under.ensures) c.loop.invariant.outer c.in_ok-walk_parts-in-Under.ensures.outer;
+      start = c.in_ok-walk_parts-in-Under.ensures.start ∙ c.loop.invariant.start;
+      begun = c.in_ok-walk_parts-in-Under.ensures.begun;
       low = child_is_low c.args.walk.now.table.now c.loop.invariant.low.rules (c.args.walk.now.depth + 1) c.loop.at.0 c.in-Under.child.0 (u.0).fields c.loop.invariant.low.low goes;
       under = child_has c.args.walk.now.table.now c.requires.low.rules c.args.walk.now.notes.now c.requires.notes (read_within c.args.walk.now.depth c.args.walk.now.table.now) c.loop.counter c.args.id.0 c.loop.at.0 c.loop.walked c.loop.numbers (bits_left c.loop.reader) c.loop.invariant.under u.0 u.1 c.in-Under.child.0 c.in-Under.ensures;
       at = λ s at. (let h = c.loop.invariant.at s at in
-          walk_under_goes c.args.walk.now.table.now c.requires.low.rules c.args.walk.now.notes.now c.requires.notes (read_within c.args.walk.now.depth c.args.walk.now.table.now) c.loop.counter c.args.id.0 c.loop.at.0 c.loop.walked c.loop.numbers (bits_left c.loop.reader) c.loop.invariant.under (omega (arith, c.loop-test.true)) h.0 h.1 _ h.2 c.in-Under.child.0 c.in-Under.ensures c.entries_of-entries.result.now c.entries_of-entries.ensures.value c.walk_parts.new.walked c.walk_parts.new.numbers (bits_left c.walk_parts.new.reader) c.in_default-walk_parts.ensures.passed);
+          walk_under_goes c.args.walk.now.table.now c.requires.low.rules c.args.walk.now.notes.now c.requires.notes (read_within c.args.walk.now.depth c.args.walk.now.table.now) c.loop.counter c.args.id.0 c.loop.at.0 c.loop.walked c.loop.numbers (bits_left c.loop.reader) c.loop.invariant.under (omega (arith, c.loop-test.true)) h.0 h.1 _ h.2 c.in-Under.child.0 c.in-Under.ensures c.entries_of-entries.result.now c.entries_of-entries.ensures.value c.walk_parts.new.walked c.walk_parts.new.numbers (bits_left c.walk_parts.new.reader) c.in_ok-walk_parts-in-Under.ensures.passed);
     }
 
 pub walk_under-returns-clause-fault : goal.walk_under-returns-clause-fault
@@ -423,9 +433,9 @@ walk_container-walk_chain-requires t c =
 
 pub walk_container-walk_under-requires : goal.walk_container-walk_under-requires
 walk_container-walk_under-requires t c =
-    (omega arith, (c.requires.notes, (omega (arith, c.requires.room, c.in_default.ensures.outer.long), (c.requires.low, (c.requires.few, (c.in_default.ensures.begun, (subst (λ r. length (bits_left r) ≤ 524288) (sym c.in_default.ensures.start) c.requires.short, ((c.in_default.ensures.passed.state, c.in_default.ensures.passed.at), c.in_default.ensures.calm))))))))
+    (omega arith, (c.requires.notes, (omega (arith, c.requires.room, c.in_ok-walk_chain.ensures.outer.long), (c.requires.low, (c.requires.few, (c.in_ok-walk_chain.ensures.begun, (subst (λ r. length (bits_left r) ≤ 524288) (sym c.in_ok-walk_chain.ensures.start) c.requires.short, ((c.in_ok-walk_chain.ensures.passed.state, c.in_ok-walk_chain.ensures.passed.at), c.in_ok-walk_chain.ensures.calm))))))))
 
-pub walk_container-returns-in-Ok-clause-passed : goal.walk_container-returns-in-Ok-clause-passed
-walk_container-returns-in-Ok-clause-passed t c =
+pub walk_container-returns-clause-passed : goal.walk_container-returns-clause-passed
+walk_container-returns-clause-passed t c =
     let fits : SFits w128 c.from.result = search rules in
-    container_passed c.args.walk.now.table.now c.requires.low.rules c.args.walk.now.notes.now (read_within c.args.walk.now.depth c.args.walk.now.table.now) c.args.id.0 (bits_left c.args.reader.now) c.walk_under.new.walked c.walk_under.new.numbers (bits_left c.walk_under.new.reader) c.in_default.ensures.passed.state (bits_left c.walk_chain.new.reader) (record { found = c.in-Ok.found; number = Some (to_z w128 (of_z w128 c.from.result)) }) c.in_default.ensures.passed.is (c.in-Ok.ensures.passed c.in_default.ensures.passed.state c.in_default.ensures.passed.at) (ap Some (to_z-of_z w128 c.from.result fits ∙ c.from.ensures))
+    container_passed c.args.walk.now.table.now c.requires.low.rules c.args.walk.now.notes.now (read_within c.args.walk.now.depth c.args.walk.now.table.now) c.args.id.0 (bits_left c.args.reader.now) c.walk_under.new.walked c.walk_under.new.numbers (bits_left c.walk_under.new.reader) c.in_ok-walk_chain.ensures.passed.state (bits_left c.walk_chain.new.reader) (record { found = c.in_ok-found.found; number = Some (to_z w128 (of_z w128 c.from.result)) }) c.in_ok-walk_chain.ensures.passed.is (c.in_ok-found.ensures.passed c.in_ok-walk_chain.ensures.passed.state c.in_ok-walk_chain.ensures.passed.at) (ap Some (to_z-of_z w128 c.from.result fits ∙ c.from.ensures))

@@ -1,4 +1,4 @@
-use Rattle.std.proofs.Common.{◌≡◌, ℕ, ◌+◌, ◌-◌, ◌*◌, ◌≤◌, List, [], ◌++◌, length, reverse}
+use Rattle.std.proofs.Common.{◌≡◌, ℕ, ◌+◌, ◌-◌, ◌*◌, ◌≤◌, List, [], ◌++◌, length, reverse, drop}
 use Rattle.std.specs.List.{AllByRecursion, flat_map}
 use Rattle.eds_bits.specs.Lists.{Has}
 use Rattle.eds_bits.specs.Reader.{bits_left}
@@ -57,35 +57,29 @@ invariant-walk_items-loop-id l = record {
 abbrev pub decreases-walk_items-loop-id : goal.decreases-walk_items-loop-id
 decreases-walk_items-loop-id l = l.count - l.place
 
-abbrev pub invariant-walk_parts-loop-rest : goal.invariant-walk_parts-loop-rest
-invariant-walk_parts-loop-rest l = record {
+abbrev pub invariant-walk_parts-loop-part : goal.invariant-walk_parts-loop-part
+invariant-walk_parts-loop-part l = record {
   root : l.path ≡ [];
   outer : KeepsOuter l.walk.table.now l.walk.notes.now l.container.0 l.fn.numbers l.numbers;
   start : l.walked.start ≡ l.fn.walked.start;
   begun : IsWalking l.walked (bits_left l.reader);
-  many : l.place + length l.rest ≤ 65534;
-  inner : AllByRecursion (PartIsRead l.walk.table.now l.walk.depth) l.rest;
-  stands : AllByRecursion (Stands l.walk.table.now) (placed_from l.container.0 l.place l.rest);
+  many : l.place ≡ l.first + l.part-index;
+  inner : AllByRecursion (PartIsRead l.walk.table.now l.walk.depth) (drop l.part-index l.parts);
+  stands : AllByRecursion (Stands l.walk.table.now) (placed_from l.container.0 l.place (drop l.part-index l.parts));
   at : (done : List Placed) (s : Progress) → IsAt l.walk.table.now l.walk.notes.now l.container.0 l.fn.walked l.fn.numbers (bits_left l.fn.reader) done s → IsFront l.walk.table.now (done ++ placed_from l.container.0 l.first l.parts)
-      → (front : List Placed) × (u : Progress) × (placed_from l.container.0 l.first l.parts ≡ front ++ placed_from l.container.0 l.place l.rest) × IsAt l.walk.table.now l.walk.notes.now l.container.0 l.walked l.numbers (bits_left l.reader) (done ++ front) u
-      × (read_parts l.walk.table.now (read_within l.walk.depth l.walk.table.now) (placed_from l.container.0 l.place l.rest) u (bits_left l.reader) ≡ read_parts l.walk.table.now (read_within l.walk.depth l.walk.table.now) (placed_from l.container.0 l.first l.parts) s (bits_left l.fn.reader));
+      → (front : List Placed) × (u : Progress) × (placed_from l.container.0 l.first l.parts ≡ front ++ placed_from l.container.0 l.place (drop l.part-index l.parts)) × IsAt l.walk.table.now l.walk.notes.now l.container.0 l.walked l.numbers (bits_left l.reader) (done ++ front) u
+      × (read_parts l.walk.table.now (read_within l.walk.depth l.walk.table.now) (placed_from l.container.0 l.place (drop l.part-index l.parts)) u (bits_left l.reader) ≡ read_parts l.walk.table.now (read_within l.walk.depth l.walk.table.now) (placed_from l.container.0 l.first l.parts) s (bits_left l.fn.reader));
 }
 
-abbrev pub decreases-walk_parts-loop-rest : goal.decreases-walk_parts-loop-rest
-decreases-walk_parts-loop-rest l = length l.rest
-
-abbrev pub invariant-walk_chain-loop-rest : goal.invariant-walk_chain-loop-rest
-invariant-walk_chain-loop-rest l = record {
+abbrev pub invariant-walk_chain-loop-one : goal.invariant-walk_chain-loop-one
+invariant-walk_chain-loop-one l = record {
   root : l.path ≡ [];
   outer : KeepsOuter l.walk.table.now l.walk.notes.now l.fn.id.0 l.fn.numbers l.numbers;
   start : l.walked.start ≡ l.fn.walked.start;
   begun : IsWalking l.walked (bits_left l.reader);
-  at : (front : List ℕ) × (s : Progress) × (chain l.walk.table.now l.fn.id.0 ≡ front ++ numbers_of l.rest) × IsAt l.walk.table.now l.walk.notes.now l.fn.id.0 l.walked l.numbers (bits_left l.reader) (flat_map (placed_entries l.walk.table.now) front) s
-      × (read_chain l.walk.table.now (read_within l.walk.depth l.walk.table.now) (numbers_of l.rest) s (bits_left l.reader) ≡ read_chain l.walk.table.now (read_within l.walk.depth l.walk.table.now) (chain l.walk.table.now l.fn.id.0) started (bits_left l.fn.reader));
+  at : (front : List ℕ) × (s : Progress) × (chain l.walk.table.now l.fn.id.0 ≡ front ++ numbers_of (drop l.one-index l.chain)) × IsAt l.walk.table.now l.walk.notes.now l.fn.id.0 l.walked l.numbers (bits_left l.reader) (flat_map (placed_entries l.walk.table.now) front) s
+      × (read_chain l.walk.table.now (read_within l.walk.depth l.walk.table.now) (numbers_of (drop l.one-index l.chain)) s (bits_left l.reader) ≡ read_chain l.walk.table.now (read_within l.walk.depth l.walk.table.now) (chain l.walk.table.now l.fn.id.0) started (bits_left l.fn.reader));
 }
-
-abbrev pub decreases-walk_chain-loop-rest : goal.decreases-walk_chain-loop-rest
-decreases-walk_chain-loop-rest l = length l.rest
 
 abbrev pub invariant-walk_trailers-loop-rest : goal.invariant-walk_trailers-loop-rest
 invariant-walk_trailers-loop-rest l = record {

@@ -1,11 +1,8 @@
-use Rattle.std.proofs.Common.{◌≡◌, length}
+use Rattle.std.proofs.Common.{◌≡◌, drop}
 use Rattle.std.specs.List.{flat_map}
 use Rattle.eds_unpack.specs.Asked.{asked_by}
 use Rattle.eds_unpack.specs.Index.{with_paths}
 use Rattle.eds_unpack.proofs.notes.Notes.with_constraints.Given as goal
 
-abbrev pub invariant-loop-rest : goal.invariant-loop-rest
-invariant-loop-rest l = with_paths l.notes (flat_map asked_by l.rest) ≡ with_paths l.initial.notes (flat_map asked_by l.constraints)
-
-abbrev pub decreases-loop-rest : goal.decreases-loop-rest
-decreases-loop-rest l = length l.rest
+abbrev pub invariant-loop-constraint : goal.invariant-loop-constraint
+invariant-loop-constraint l = with_paths l.notes (flat_map asked_by (drop l.constraint-index l.constraints)) ≡ with_paths l.initial.notes (flat_map asked_by l.constraints)
