@@ -10,7 +10,7 @@ use eds_bits::BitView;
 use eds_io::{Shelf, read_whole};
 use eds_sheet::{Sheet, compile};
 use eds_types::{TypeTable, Value};
-use eds_unpack::{Program, Scratch, unpack};
+use eds_unpack::{Program, Scratch};
 use std::alloc::Global;
 
 const SHEET_OCTETS: u64 = 4_194_304;
@@ -87,9 +87,11 @@ fn sum_of_turns(
     requires clear { IsClear table.now id.0 }
     requires few { length frame.now ≤ FRAME_OCTETS }
 {
+    let program = Program::build(alloc, table, id)?;
+    let mut scratch = Scratch::for_program(alloc, &program)?;
     let mut sum = 0u64;
     for _ in 0..turns {
-        let (value, bits) = unpack(alloc, table, id, BitView::new(frame))?;
+        let (value, bits) = program.read(alloc, &mut scratch, BitView::new(frame))?;
         sum = sum
             .wrapping_add(u64::from(bits))
             .wrapping_add(weight(&value));

@@ -13,6 +13,9 @@ pub mod Reaches
 pub mod Levels
 pub mod Steps
 pub mod StraightReads
+pub mod Meanings
+pub mod SegmentReads
+pub mod SegmentPasses
 pub mod Tails
 pub mod Fronts
 pub mod Cutting

@@ -27,7 +27,7 @@ unfolding bits_by
 bits_short n b h = ap (bits_by n b) (lt-ltb (length b) n h)
 
 -- the pattern of the number that was taken
-pattern : (n : ℕ) (b : Bits) → n ≤ length b → low_bits n (unsigned_of (take n b)) ≡ take n b
+pub pattern : (n : ℕ) (b : Bits) → n ≤ length b → low_bits n (unsigned_of (take n b)) ≡ take n b
 pattern n b h = ap (λ k. low_bits k (unsigned_of (take n b))) (sym (length-take-le n b h)) ∙ low-unsigned (take n b)
 
 pub number_taken : (form : IntForm) (b : Bits) (raw : ℕ) (o : Option ℤ) → form.bits ≤ length b → raw ≡ unsigned_of (take form.bits b) → o ≡ number_of form (low_bits form.bits raw)

@@ -137,7 +137,7 @@ module _ (t : Table) (x : ℕ) (h : is_straight t x ≡ true) where
   facts : (is_concrete t x ≡ true) × (is_only x (family t x) ≡ true) × (is_only x (chain t x) ≡ true) × ((length (constraints_of t x) == 0) ≡ true) × ((length (trailers_of t x) == 0) ≡ true) × (list_all (is_straight_entry t) (entries_of t x) ≡ true)
   facts = all_six (is_concrete t x) (is_only x (family t x)) (is_only x (chain t x)) (length (constraints_of t x) == 0) (length (trailers_of t x) == 0) (list_all (is_straight_entry t) (entries_of t x)) h
 
-  concrete : is_concrete t x ≡ true
+  pub concrete : is_concrete t x ≡ true
   concrete = facts.0
 
   family_is : family t x ≡ x ∷ []

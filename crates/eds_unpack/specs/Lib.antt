@@ -16,3 +16,4 @@ pub mod Index
 pub mod Noted
 pub mod Walks
 pub mod Programs
+pub mod Segments

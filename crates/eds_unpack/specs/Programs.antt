@@ -10,7 +10,9 @@ pub record TypeIn : Type 0 where
   pub table : Table
   pub id : ℕ
 
--- the type is there, and the notes are what the constraints and lists of the table ask for, each once
-pub record IsReady (t : Table) (id : ℕ) (notes : List Steps) : Type 0 where
+-- the type is there, the notes are what the constraints and lists of the table ask for, each once, and the segments are those
+-- of its containers
+pub record IsReady (t : Table) (id : ℕ) (notes : List Steps) (segmented : Table) : Type 0 where
   pub there : id < length t
   pub noted : notes ≡ each_once (asked t)
+  pub segments : segmented ≡ t

@@ -17,7 +17,8 @@ ghost use Rattle.eds_unpack.specs.Walks.{type_of};
 use crate::notes::Notes;
 use crate::recognise::recognise_front;
 use crate::scratch::Scratch;
-use crate::whole::unpack;
+use crate::segments::Segments;
+use crate::whole::unpack_by;
 use eds_base::{Fail, Fault, Memory, TypeId};
 use eds_bits::BitView;
 use eds_overlap::law::reading_is_exact;
@@ -32,6 +33,8 @@ pub struct Program<'a> {
     id: TypeId,
     // the numbers that constraints and lists of the table ask for
     notes: Notes,
+    // how containers are read whose entries are scalars at fixed places
+    segments: Segments<'a>,
 }
 
 impl<'a> Model for Program<'a> {
@@ -45,17 +48,24 @@ impl<'a> Model for Program<'a> {
 
     ghost view = { λ p. record { table = p.table.now; id = p.id.0 } };
 
-    ghost invariant = { λ p. IsReady p.table.now p.id.0 p.notes };
+    ghost invariant = { λ p. IsReady p.table.now p.id.0 p.notes p.segments };
 }
 
 impl<'a> Program<'a> {
-    /// The program of a type: what the constraints and lists of its whole table ask for is gathered once.
+    /// The program of a type: what the constraints and lists of its whole table ask for is gathered once, and how its
+    /// containers are read whose entries are scalars at fixed places.
     pub fn build(alloc: Global, table: &'a TypeTable, id: TypeId) -> Result<Program<'a>, Memory>
         requires { id.0 < length table.now }
         ensures { IfOk result (λ p. p ≡ record { table = table.now; id = id.0 }) }
     {
         let notes = Notes::of(alloc, table)?;
-        Ok(Program { table, id, notes })
+        let segments = Segments::of(alloc, table)?;
+        Ok(Program {
+            table,
+            id,
+            notes,
+            segments,
+        })
     }
 
     /// That its type is one of its table, which keeps the rules on types.
@@ -123,6 +133,7 @@ impl<'a> Program<'a> {
         reading_is_exact();
         recognise_front(
             self.table,
+            &self.segments,
             &self.notes,
             self.id,
             scratch.numbers.as_mut_slice(),
@@ -141,6 +152,6 @@ impl<'a> Program<'a> {
         ensures only_fault { (g : Fault) → FailsAt self.now.table self.now.id (view_bits view.entry) g → IsFault g result }
         ensures reason { IfFault (λ (g : Fault). IsOfReading g.reason) result }
     {
-        unpack(alloc, self.table, self.id, view)
+        unpack_by(alloc, self.table, &self.segments, self.id, view)
     }
 }

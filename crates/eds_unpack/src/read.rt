@@ -21,21 +21,26 @@ use crate::fields::{count_at, values_of};
 use crate::octets::{read_octets, read_string, skip_padding};
 use crate::progress::{FEW, Reached, begin, has_told_size, keep_field};
 use crate::scalar::{read_integer, read_label, read_truth};
+use crate::segments::Segments;
 use crate::straight::{is_straight, type_of};
 use crate::sum::sum_before;
 use crate::tail::{open_bits, read_tail, tell_length};
 use crate::told::keep_told;
+use crate::values::read_by_segment;
 use eds_base::{Fail, Memory, Path, Reason, Step, TypeId};
 use eds_bits::BitReader;
 use eds_types::{Kind, Part, TypeRow, TypeTable, Value};
 use std::alloc::Global;
 
-/// What values are read by: where memory comes from, the table, and how many types are nested in each other at most.
+/// What values are read by: where memory comes from, the table, the segments of its containers, and how many types are nested
+/// in each other at most.
 #[derive(Drop)]
 pub(crate) struct Level<'a> {
     pub alloc: Global,
     pub table: &'a TypeTable,
+    pub segments: &'a Segments<'a>,
     pub depth: u32,
+    pub ghost right: { segments.now ≡ table.now },
 }
 
 /// The most containers of a chain.
@@ -61,6 +66,7 @@ pub(crate) fn read_value(
     let inner = Level {
         alloc: level.alloc,
         table: level.table,
+        segments: level.segments,
         depth: level.depth - 1,
     };
     read_row(&inner, id, level.table.row(id), path, reader)
@@ -96,7 +102,7 @@ fn read_row(
             let items = read_items(level, *item, u128::from(*count), path, reader)?;
             Ok(Value::Items(items))
         }
-        Kind::Con(_) => read_container(level, id, path, reader),
+        Kind::Con(_) => read_fields(level, id, path, reader),
     }
 }
 
@@ -459,4 +465,27 @@ fn read_container(
     let found = read_under(level, id, &mut reached, path, reader)?;
     let values = values_of(level.alloc, reached.fields)?;
     Ok(Value::Fields(found, values))
+}
+
+/// Reads the fields of a container, by its segment, where that tells them.
+#[cycle(read)]
+#[inline(always)]
+fn read_fields(
+    level: &Level<'_>,
+    id: TypeId,
+    path: &mut Path,
+    reader: &mut BitReader,
+) -> Result<Value, Fail<Reason>>
+    requires inner { IsLow level.now.table.now (level.now.depth + 1) id.0 }
+    requires few { level.now.depth < 32 }
+    requires root { path.old ≡ [] }
+    ensures gives { Gives (λ v. (plain v, bits_left reader.new)) (with_path path.new result) (ended level.now.table.now (read_within level.now.depth level.now.table.now) (read_to_end level.now.table.now (read_within level.now.depth level.now.table.now) id.0 (bits_left reader.old))) }
+    ensures near { length path.new ≤ 2 * level.now.depth + 2 }
+    ensures calm { OnOk result (path.new ≡ []) }
+    ensures reason { IfErr result StopsReading }
+{
+    match read_by_segment(level.alloc, level.table, level.segments, id, reader)? {
+        Some(values) => Ok(Value::Fields(id, values)),
+        None => read_container(level, id, path, reader),
+    }
 }

@@ -13,6 +13,8 @@ ghost use Rattle.eds_unpack.specs.Readers.{sized};
 ghost use Rattle.eds_unpack.specs.Walks.{type_of};
 
 use crate::notes::Notes;
+use crate::passing::pass_by_segment;
+use crate::segments::Segments;
 use crate::walk::{Walk, walk_value};
 use crate::whole::NESTING;
 use eds_base::{Fault, Path, TypeId};
@@ -24,11 +26,13 @@ use eds_types::TypeTable;
 /// container, and how many bits the value takes.
 pub(crate) fn recognise_front(
     table: &TypeTable,
+    segments: &Segments<'_>,
     notes: &Notes,
     id: TypeId,
     numbers: &mut [Option<i128>],
     view: BitView,
 ) -> Result<(TypeId, u32), Fault>
+    requires segments { segments.now ≡ table.now }
     requires known { id.0 < length table.now }
     requires notes { notes.now ≡ each_once (asked table.now) }
     requires room { length notes.now ≤ length numbers.old }
@@ -41,6 +45,9 @@ pub(crate) fn recognise_front(
 {
     table.keeps_rules();
     reading_is_exact();
+    if let Some(bits) = pass_by_segment(table, segments, id, view) {
+        return Ok((id, bits));
+    }
     let mut reader = BitReader::new(view);
     let all = reader.left();
     let mut path = Path::root();

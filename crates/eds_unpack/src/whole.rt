@@ -14,6 +14,7 @@ ghost use Rattle.eds_unpack.specs.Readers.{Gives, sized};
 
 use crate::fault::stop_at;
 use crate::read::{Level, read_value};
+use crate::segments::Segments;
 use eds_base::{Fail, Fault, Path, TypeId};
 use eds_bits::{BitReader, BitView};
 use eds_overlap::law::reading_is_exact;
@@ -27,9 +28,11 @@ pub(crate) const NESTING: u32 = 32;
 fn read_front(
     alloc: Global,
     table: &TypeTable,
+    segments: &Segments<'_>,
     id: TypeId,
     view: BitView,
 ) -> Result<(Value, u32), Fail<Fault>>
+    requires segments { segments.now ≡ table.now }
     requires known { id.0 < length table.now }
     requires clear { IsClear table.now id.0 }
     requires most { length (view_bits view) ≤ 524288 }
@@ -44,6 +47,7 @@ fn read_front(
     let level = Level {
         alloc,
         table,
+        segments,
         depth: NESTING,
     };
     match read_value(&level, id, &mut path, &mut reader) {
@@ -54,6 +58,30 @@ fn read_front(
         }
         Err(stop) => Err(stop_at(path, stop)),
     }
+}
+
+/// The value as `unpack` gives it, with the segments of containers of the table.
+pub(crate) fn unpack_by(
+    alloc: Global,
+    table: &TypeTable,
+    segments: &Segments<'_>,
+    id: TypeId,
+    view: BitView,
+) -> Result<(Value, u32), Fail<Fault>>
+    requires segments { segments.now ≡ table.now }
+    requires known { id.0 < length table.now }
+    requires clear { IsClear table.now id.0 }
+    requires most { length (view_bits view) ≤ 524288 }
+    ensures size { IfOk result (λ x. x.1 ≤ length (view_bits view.entry)) }
+    ensures value { IfOk result (λ x. Spells table.now id.0 (plain x.0) (take x.1 (view_bits view.entry))) }
+    ensures only_value { (v : Plain) (c rest : Bits) → view_bits view.entry ≡ c ++ rest → Spells table.now id.0 v c → IsValue v (length c) result }
+    ensures fault { IfFault (FailsAt table.now id.0 (view_bits view.entry)) result }
+    ensures only_fault { (g : Fault) → FailsAt table.now id.0 (view_bits view.entry) g → IsFault g result }
+    ensures reason { IfFault (λ (g : Fault). IsOfReading g.reason) result }
+{
+    table.keeps_rules();
+    reading_is_exact();
+    read_front(alloc, table, segments, id, view)
 }
 
 /// The value of a type that the bits of a view begin with, and how many bits it takes: it is exactly the one that they
@@ -75,7 +103,6 @@ pub fn unpack(
     ensures only_fault { (g : Fault) → FailsAt table.now id.0 (view_bits view.entry) g → IsFault g result }
     ensures reason { IfFault (λ (g : Fault). IsOfReading g.reason) result }
 {
-    table.keeps_rules();
-    reading_is_exact();
-    read_front(alloc, table, id, view)
+    let segments = Segments::none(alloc, table);
+    unpack_by(alloc, table, &segments, id, view)
 }

@@ -47,7 +47,10 @@ abbrev pub decreases-read_container : goal.decreases-read_container
 decreases-read_container l = 16 * l.level.now.depth + 7
 
 abbrev pub decreases-read_row : goal.decreases-read_row
-decreases-read_row l = 16 * l.level.now.depth + 8
+decreases-read_row l = 16 * l.level.now.depth + 9
+
+abbrev pub decreases-read_fields : goal.decreases-read_fields
+decreases-read_fields l = 16 * l.level.now.depth + 8
 
 abbrev pub invariant-read_items-loop-id : goal.invariant-read_items-loop-id
 invariant-read_items-loop-id l = record {

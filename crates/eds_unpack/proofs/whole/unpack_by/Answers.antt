@@ -1,6 +1,6 @@
 use Rattle.eds_bits.specs.Reader.{view_bits}
 use Rattle.eds_unpack.proofs.Fronts.{readable, fits_size, is_spelled, only_value, is_fault, only_fault}
-use Rattle.eds_unpack.proofs.whole.unpack.Goals as goal
+use Rattle.eds_unpack.proofs.whole.unpack_by.Goals as goal
 
 pub returns-clause-size : goal.returns-clause-size
 returns-clause-size c = fits_size c.reading_is_exact.ensures c.args.table.now c.args.id.0 (readable c.args.table.now c.args.id.0 c.keeps_rules.ensures c.requires.clear c.requires.known) (view_bits c.args.view) c.read_front.result c.read_front.ensures.gives

@@ -1,0 +1,211 @@
+-- What operations make of bits is what the kinds of their types say.
+use Rattle.std.proofs.Common.{◌≡◌, ℕ, ◌+◌, ◌-◌, ◌/◌, ◌%◌, ◌^◌, ◌<◌, ◌≤◌, ℤ, pos, ◌-ℤ◌, ◌+ℤ◌, Bool, true, false, cond, eqb, not, List, [], ◌∷◌, ◌++◌, length, map, Option, Some, None, Ok, Err, refl, sym, ap, subst, ◌∙◌, arith, rules, inl, inr}
+use Rattle.std.specs.Prelude.{◌≤ℤ◌, Result, IfSome, slice_get}
+use Rattle.std.specs.Bool.{OnTrue}
+use mathlib.Core.Bool.{beq}
+use Rattle.std.proofs.lemmas.Bool.{cases_lt, le-ltb, lt-ltb}
+use Rattle.std.proofs.lemmas.Int.{ints}
+use Rattle.std.proofs.lemmas.List.{map-append}
+use Rattle.std.proofs.lemmas.Nat.{shr_below}
+use Rattle.std.specs.Int.{w64, swap_bytes}
+use Rattle.eds_base.specs.declared.fault.Fault.{Fault}
+use Rattle.eds_base.specs.declared.fault.Reason.TheVariants.{OutOfRange}
+use Rattle.eds_base.specs.declared.spans.Span.{Span}
+use Rattle.eds_bits.specs.declared.forms.BoolForm.{BoolForm}
+use Rattle.eds_bits.specs.declared.forms.ByteOrder.{ByteOrder}
+use Rattle.eds_bits.specs.declared.forms.ByteOrder.TheVariants.{Big, Little}
+use Rattle.eds_bits.specs.declared.forms.Encoding.TheVariants.{Unsigned, TwosComplement, OnesComplement}
+use Rattle.eds_bits.specs.declared.forms.IntForm.{IntForm}
+use Rattle.eds_bits.specs.Bits.{Bits, low_bits, unsigned_of}
+use Rattle.eds_bits.specs.Encodings.{number_by, order_bits, ordered}
+use Rattle.eds_bits.specs.IntForms.{number_of}
+use Rattle.eds_bits.proofs.BitLaws.{length-low, low-unsigned, unsigned-lt, unsigned_small}
+use Rattle.eds_bits.proofs.Groups.{little-swapped}
+use Rattle.eds_bits.proofs.Patterns.{unsigned_pattern, twos_positive, twos_negative, ones_positive, ones_negative}
+use Rattle.eds_codec.proofs.Booleans.{is_zero_number}
+use Rattle.eds_types.specs.Failing.{fault_here}
+use Rattle.eds_types.specs.declared.value.Value.{Value, the_lemmas}
+use Rattle.eds_types.specs.declared.value.Value.TheVariants.{rolls-Label}
+use Rattle.eds_types.specs.declared.value.Value.TheVariants as value
+use Rattle.eds_types.specs.declared.value.Value.TheOpen.{Value-F}
+use Rattle.eds_types.specs.declared.value.Value.TheFolds.{fold-roll-Value}
+use Rattle.eds_types.specs.Plain.{Plain, plain, plain_step, num, label, truth}
+use Rattle.eds_types.specs.Reading.{is_within, ranged, label_of, label_as, named, truth_of}
+use Rattle.eds_types.proofs.ReadingTests.{within_in}
+use Rattle.eds_base.specs.declared.ids.TypeId.{TypeId}
+use Rattle.eds_types.specs.declared.row.Part.{Part}
+use Rattle.eds_types.specs.declared.row.TypeRow.{TypeRow}
+use Rattle.eds_types.specs.Fields.{type_by}
+use Rattle.eds_types.specs.Rows.{Table}
+use Rattle.eds_unpack.specs.declared.segment.Meaning.{Meaning}
+use Rattle.eds_unpack.specs.declared.segment.Meaning.TheVariants as meaning
+use Rattle.eds_unpack.specs.declared.segment.Numbers.{Numbers}
+use Rattle.eds_unpack.specs.declared.segment.Operation.{Operation}
+use Rattle.eds_unpack.specs.Segments.{scalar_bits, scalar_of, bits_in, value_in, in_order, signed, made, truth_by, Agrees, IsOperationOf, IsPut, IsSure}
+
+-- ---- numbers
+
+signed_below : (half less x : ℕ) → x < half → signed half less x ≡ pos x
+signed_below half less x h = ap (λ b. cond b (pos x) (pos x -ℤ pos less)) (lt-ltb x half h)
+
+signed_above : (half less x : ℕ) → half ≤ x → signed half less x ≡ pos x -ℤ pos less
+signed_above half less x h = ap (λ b. cond b (pos x) (pos x -ℤ pos less)) (le-ltb x half h)
+
+-- what a result says that computes it by cases
+pub signed_is : (half less x : ℕ) (z : ℤ) → x < half → z ≡ pos x → z ≡ signed half less x
+signed_is half less x z h e = e ∙ sym (signed_below half less x h)
+
+pub less_is : (half less x : ℕ) (z : ℤ) → half ≤ x → z ≡ pos x -ℤ pos less → z ≡ signed half less x
+less_is half less x z h e = e ∙ sym (signed_above half less x h)
+
+pub unsigned_numbers : (n half less : ℕ) → half ≡ 2 ^ n → (x : ℕ) → x < 2 ^ n → number_by Unsigned (low_bits n x) ≡ Some (signed half less x)
+unsigned_numbers n half less e x h =
+    let below : x < half = omega arith in
+    unsigned_pattern n x (signed half less x) h (sym (signed_below half less x below))
+
+pub twos_numbers : (n half less : ℕ) → 1 ≤ n → half ≡ 2 ^ (n - 1) → less ≡ 2 ^ n → (x : ℕ) → x < 2 ^ n → number_by TwosComplement (low_bits n x) ≡ Some (signed half less x)
+twos_numbers n half less some e f x h = elim (cases_lt x half) [
+  | inl below ↦ let small : x < 2 ^ (n - 1) = omega arith in twos_positive n x (signed half less x) some small (sym (signed_below half less x below))
+  | inr above ↦ let large : 2 ^ (n - 1) ≤ x = omega arith in twos_negative n x (signed half less x) some large h (ap (λ m. pos x -ℤ pos m) (sym f) ∙ sym (signed_above half less x above))
+]
+
+pub ones_numbers : (n half less : ℕ) → 1 ≤ n → half ≡ 2 ^ (n - 1) → less ≡ 2 ^ n - 1 → (x : ℕ) → x < 2 ^ n → number_by OnesComplement (low_bits n x) ≡ Some (signed half less x)
+ones_numbers n half less some e f x h = elim (cases_lt x half) [
+  | inl below ↦ let small : x < 2 ^ (n - 1) = omega arith in ones_positive n x (signed half less x) some small (sym (signed_below half less x below))
+  | inr above ↦ let large : 2 ^ (n - 1) ≤ x = omega arith in ones_negative n x (signed half less x) some large h (ap (λ m. pos x -ℤ pos m) (sym f) ∙ sym (signed_above half less x above))
+]
+
+-- ---- the order of octets
+
+module _ (n x : ℕ) (whole : n % 8 ≡ 0) (few : n ≤ 64) where
+  turned_length : length (ordered Little (low_bits n x)) ≡ n
+  turned_length = ap length (sym (little-swapped n x whole few)) ∙ length-low n (swap_bytes w64 x / 2 ^ (64 - n))
+
+  turned_bits : low_bits n (unsigned_of (ordered Little (low_bits n x))) ≡ ordered Little (low_bits n x)
+  turned_bits = ap (λ k. low_bits k (unsigned_of (ordered Little (low_bits n x)))) (sym turned_length) ∙ low-unsigned (ordered Little (low_bits n x))
+
+  turned_small : unsigned_of (ordered Little (low_bits n x)) < 2 ^ n
+  turned_small = subst (λ k. unsigned_of (ordered Little (low_bits n x)) < 2 ^ k) turned_length (unsigned-lt (ordered Little (low_bits n x)))
+
+  swapped_small : swap_bytes w64 x < 2 ^ 64 → swap_bytes w64 x / 2 ^ (64 - n) < 2 ^ n
+  swapped_small h = let all : n + (64 - n) ≡ 64 = omega arith in shr_below (swap_bytes w64 x) n (64 - n) (rw all h)
+
+  -- the number with its octets in the other order
+  pub swapped_is : (y : ℕ) → y ≡ swap_bytes w64 x → y < 2 ^ 64 → (y / 2 ^ (64 - n) ≡ unsigned_of (ordered Little (low_bits n x))) × (y / 2 ^ (64 - n) < 2 ^ n)
+  swapped_is y e h =
+      let small : swap_bytes w64 x / 2 ^ (64 - n) < 2 ^ n = swapped_small (subst (λ z. z < 2 ^ 64) e h) in
+      let is : swap_bytes w64 x / 2 ^ (64 - n) ≡ unsigned_of (ordered Little (low_bits n x)) = sym (unsigned_small n (swap_bytes w64 x / 2 ^ (64 - n)) small) ∙ ap unsigned_of (little-swapped n x whole few) in
+      (ap (λ z. z / 2 ^ (64 - n)) e ∙ is, subst (λ z. z / 2 ^ (64 - n) < 2 ^ n) (sym e) small)
+
+in_order_small : (little : Bool) (n x : ℕ) → (little ≡ true → n % 8 ≡ 0) → n ≤ 64 → x < 2 ^ n → in_order little n x < 2 ^ n
+in_order_small true n x whole few h = turned_small n x (whole refl) few
+in_order_small false n x whole few h = h
+
+in_order_bits : (little : Bool) (order : ByteOrder) (n x : ℕ) → (little ≡ true → order ≡ Little) → (little ≡ false → order ≡ Big) → (little ≡ true → n % 8 ≡ 0) → n ≤ 64 → ordered order (low_bits n x) ≡ low_bits n (in_order little n x)
+in_order_bits true order n x l b whole few = ap (λ r. ordered r (low_bits n x)) (l refl) ∙ sym (turned_bits n x (whole refl) few)
+in_order_bits false order n x l b whole few = ap (λ r. ordered r (low_bits n x)) (b refl)
+
+-- ---- domains
+
+pub one_interval : (spans : List Span) (s : Span) (low high : ℤ) → spans ≡ s ∷ [] → low ≡ s.low → high ≡ s.high → (n : ℤ) → low ≤ℤ n → n ≤ℤ high → is_within spans n ≡ true
+one_interval spans s low high e p q n h k = ap (λ ss. is_within ss n) e ∙ within_in (s ∷ []) n (inl (subst (λ m. m ≤ℤ n) p h, subst (λ m. n ≤ℤ m) q k))
+
+pub ranged_is : (spans : List Span) (o : Option ℤ) (n : ℤ) → o ≡ Some n → is_within spans n ≡ true → ranged spans o ≡ Ok (num n)
+ranged_is spans o n e h = ap (ranged spans) e ∙ ap (λ b. cond b (Ok (num n)) (Err (fault_here OutOfRange))) h
+
+pub number_agrees : (form : IntForm) (spans : List Span) (r : Numbers) → form.bits ≤ 62 → (r.little ≡ true → form.order ≡ Little) → (r.little ≡ false → form.order ≡ Big)
+    → ((x : ℕ) → x < 2 ^ form.bits → number_by form.encoding (low_bits form.bits x) ≡ Some (signed r.half r.less x)) → ((n : ℤ) → r.low ≤ℤ n → n ≤ℤ r.high → is_within spans n ≡ true)
+    → Agrees (λ c. ranged spans (number_of form c)) form.bits (meaning.Number r)
+number_agrees form spans r few little big numbers within =
+    let n = form.bits in
+    let small : form.bits ≤ 64 = omega arith in
+    let whole = λ (e : r.little ≡ true). ap (λ order. form.bits % order_bits order) (sym (little e)) ∙ form.valid.whole_octets in (
+      few,
+      whole,
+      λ x h low high.
+          ranged_is spans (number_of form (low_bits form.bits x)) (made r form.bits x)
+          (ap (number_by form.encoding) (in_order_bits r.little form.order form.bits x little big whole small) ∙ numbers (in_order r.little form.bits x) (in_order_small r.little form.bits x whole small h))
+          (within (made r form.bits x) low high),
+    )
+
+-- ---- labels
+
+pub named_is : (listing : List (List ℕ × ℤ)) (o : Option ℤ) (n : ℤ) (l : List ℕ) → o ≡ Some n → label_of listing listing n ≡ Some l → named listing o ≡ Ok (label l)
+named_is listing o n l e f = ap (named listing) e ∙ ap label_as f
+
+-- ---- truth values
+
+pub truth_agrees : (form : BoolForm) → Agrees (λ c. Ok (truth (truth_of form c))) form.bits (meaning.Truth form.zero_is_false)
+truth_agrees form = λ x h. ap (λ z. Ok (truth (cond z (not form.zero_is_false) form.zero_is_false))) (is_zero_number (low_bits form.bits x) ∙ ap (λ n. eqb n 0) (unsigned_small form.bits x h))
+
+-- ---- what has a value whatever the bits
+
+signed_from : (half less x : ℕ) (low : ℤ) → low ≤ℤ pos 0 → low ≤ℤ (pos half -ℤ pos less) → low ≤ℤ signed half less x
+signed_from half less x low h k = elim (cases_lt x half) [
+  | inl below ↦ subst (λ m. low ≤ℤ m) (sym (signed_below half less x below)) (let m : low ≤ℤ pos x = omega (arith, ints) in m)
+  | inr above ↦ subst (λ m. low ≤ℤ m) (sym (signed_above half less x above)) (let m : low ≤ℤ (pos x -ℤ pos less) = omega (arith, ints) in m)
+]
+
+signed_to : (half less n x : ℕ) (high : ℤ) → x < 2 ^ n → pos half ≤ℤ (high +ℤ pos 1) → (pos (2 ^ n) -ℤ pos less) ≤ℤ (high +ℤ pos 1) → signed half less x ≤ℤ high
+signed_to half less n x high h k l = elim (cases_lt x half) [
+  | inl below ↦ subst (λ m. m ≤ℤ high) (sym (signed_below half less x below)) (let m : pos x ≤ℤ high = omega (arith, ints) in m)
+  | inr above ↦ subst (λ m. m ≤ℤ high) (sym (signed_above half less x above)) (let m : (pos x -ℤ pos less) ≤ℤ high = omega (arith, ints) in m)
+]
+
+pub number_is_sure : (value : Bits → Result Plain Fault) (n : ℕ) (r : Numbers) → Agrees value n (meaning.Number r) → r.low ≤ℤ pos 0 → r.low ≤ℤ (pos r.half -ℤ pos r.less) → pos r.half ≤ℤ (r.high +ℤ pos 1) → (pos (2 ^ n) -ℤ pos r.less) ≤ℤ (r.high +ℤ pos 1) → IsSure value n
+number_is_sure value n r agrees zero low high last =
+    let few = agrees.0 in
+    let small : n ≤ 64 = omega arith in
+    λ x h. (num (made r n x), agrees.2 x h
+        (signed_from r.half r.less (in_order r.little n x) r.low zero low)
+        (signed_to r.half r.less n (in_order r.little n x) r.high (in_order_small r.little n x agrees.1 small h) high last))
+
+pub truth_is_sure : (value : Bits → Result Plain Fault) (n : ℕ) (zero_is_false : Bool) → Agrees value n (meaning.Truth zero_is_false) → IsSure value n
+truth_is_sure value n zero_is_false agrees = λ x h. (truth (truth_by zero_is_false x), agrees x h)
+
+-- ---- values that are put last
+
+pub plain_label : (l : List ℕ) → plain (value.Label l) ≡ label l
+plain_label l = ap plain (sym (rolls-Label l)) ∙ fold-roll-Value Plain plain_step (Value-F.Label l)
+
+pub plain_truth : (b : Bool) → plain (value.Bool b) ≡ truth b
+plain_truth b = search (rules, the_lemmas)
+
+pub put_last : (found : Result Plain Fault) (old new : List Value) (x : Value) (v : Plain) → new ≡ old ++ x ∷ [] → plain x ≡ v → found ≡ Ok v → IsPut found old new
+put_last found old new x v e p f = record { value = v; is = f; last = ap (map plain) e ∙ map-append plain old (x ∷ []) ∙ ap (λ w. map plain old ++ w ∷ []) p }
+
+-- the truth value that a test of the number gives
+pub truth_is : (zero_is_false : Bool) (x : ℕ) → beq (not (eqb x 0)) zero_is_false ≡ truth_by zero_is_false x
+truth_is zero_is_false x = cases (eqb x 0) zero_is_false
+  where
+    cases : (zero zif : Bool) → beq (not zero) zif ≡ cond zero (not zif) zif
+    cases true true = refl
+    cases true false = refl
+    cases false true = refl
+    cases false false = refl
+
+-- ---- operations
+
+-- the operation that was made is that of the entry
+pub operation_is : (t : Table) (p : Part) (id : TypeId) (row : TypeRow) (n : ℕ) (m : Meaning) (o : Option Operation) → type_by (Some p) ≡ Some id.0 → slice_get t id.0 ≡ Some row → scalar_bits row.kind ≡ Some n → Agrees (scalar_of row.kind) n m
+    → IfSome o (λ x. x.id ≡ id) → IfSome o (λ x. x.bits ≡ n) → IfSome o (λ x. x.meaning ≡ m) → ((value : Bits → Result Plain Fault) → Agrees value n m → IfSome o (λ x. x.sure ≡ true → IsSure value n)) → IfSome o (IsOperationOf t p)
+operation_is t p id row n m None h e s g a b c f = tt
+operation_is t p id row n m (Some x) h e s g a b c f =
+    let here : Agrees (value_in (slice_get t id.0)) n m = subst (λ (r : Option TypeRow). Agrees (value_in r) n m) (sym e) g in
+    let same : id.0 ≡ x.id.0 = ap (λ (i : TypeId). i.0) (sym a) in
+    record {
+      typed = h ∙ ap Some same;
+      is = record {
+        size = sym (ap (λ i. bits_in (slice_get t i)) same) ∙ ap bits_in e ∙ s ∙ ap Some (sym b);
+        agrees = subst (λ i. Agrees (value_in (slice_get t i)) x.bits x.meaning) same (subst (λ k. Agrees (value_in (slice_get t id.0)) k x.meaning) (sym b) (subst (Agrees (value_in (slice_get t id.0)) n) (sym c) here));
+        sure = λ k. subst (λ i. IsSure (value_in (slice_get t i)) x.bits) same (subst (IsSure (value_in (slice_get t id.0))) (sym b) (f (value_in (slice_get t id.0)) here k));
+      };
+    }
+
+pub on_true : {P : Type 0} (b : Bool) → OnTrue b P → b ≡ true → P
+on_true true h e = h
+on_true false h e = absurd cc
+
+pub some_weaker : {A : Type 0} (P Q : A → Type 0) (o : Option A) → ((x : A) → P x → Q x) → IfSome o P → IfSome o Q
+some_weaker P Q None f h = tt
+some_weaker P Q (Some x) f h = f x h

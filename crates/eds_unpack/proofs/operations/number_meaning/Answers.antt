@@ -1,0 +1,17 @@
+use Rattle.std.proofs.Common.{subst, to_z, of_z, rules}
+use Rattle.std.specs.Prelude.{◌≤ℤ◌}
+use Rattle.std.proofs.lemmas.Int.{to_z-of_z}
+use mir.Syntax.{w64}
+use mir.Val.{SFits}
+use Rattle.eds_unpack.proofs.Meanings.{number_agrees}
+use Rattle.eds_unpack.proofs.operations.number_meaning.Goals as goal
+
+pub returns : goal.returns
+returns c =
+    let low = c.in-Some-ends_of.low in
+    let high = c.in-Some-ends_of.high in
+    let low_fits : SFits w64 c.in-Some-ends_of.low = search rules in
+    let high_fits : SFits w64 c.in-Some-ends_of.high = search rules in
+    number_agrees c.args.form c.args.spans.now (record { little = c.is_little.result; half = c.in-Some.half; less = c.in-Some.less; low = to_z w64 (of_z w64 c.in-Some-ends_of.low); high = to_z w64 (of_z w64 c.in-Some-ends_of.high); few = c.in-Some.ensures.few })
+    c.if-form-gt62.false c.is_little.ensures.little c.is_little.ensures.big c.in-Some.ensures.numbers
+    (λ n h k. c.in-Some-ends_of.ensures n (subst (λ m. m ≤ℤ n) (to_z-of_z w64 low low_fits) h) (subst (λ m. n ≤ℤ m) (to_z-of_z w64 high high_fits) k))

@@ -1,0 +1,134 @@
+-- Containers as operations: entries at fixed places, which are read one after another.
+use Rattle.std.specs.Prelude.{◌≡◌, ℕ, ◌+◌, ◌%◌, ◌^◌, ◌<◌, ◌≤◌, ℤ, pos, ◌-ℤ◌, ◌≤ℤ◌, List, [], ◌∷◌, ◌++◌, map, Bool, true, not, ◌==◌, Option, Some, None, Result, Ok, Err, slice_get, nat_lt, take, drop, if◌then◌else◌}
+use Rattle.eds_base.specs.declared.fault.Fault.{Fault}
+use Rattle.eds_base.specs.declared.fault.Reason.TheVariants.{Short}
+use Rattle.eds_bits.specs.declared.forms.ByteOrder.TheVariants.{Little}
+use Rattle.eds_bits.specs.Bits.{Bits, low_bits, unsigned_of}
+use Rattle.eds_bits.specs.Encodings.{ordered}
+use Rattle.eds_bits.specs.IntForms.{number_of}
+use Rattle.eds_types.specs.declared.row.Kind.{Kind}
+use Rattle.eds_types.specs.declared.row.Kind.TheVariants as kind
+use Rattle.eds_types.specs.declared.row.Part.{Part}
+use Rattle.eds_types.specs.declared.row.TypeRow.{TypeRow}
+use Rattle.eds_types.specs.declared.value.Value.{Value}
+use Rattle.eds_types.specs.Failing.{fault_here}
+use Rattle.eds_types.specs.Fields.{type_by}
+use Rattle.eds_types.specs.Plain.{Plain, plain, num, truth}
+use Rattle.eds_types.specs.Reading.{ranged, named, truth_of, read_within, read_to_end, ended}
+use Rattle.eds_types.specs.Rows.{Table, entries_of}
+use Rattle.eds_unpack.specs.declared.segment.Meaning.{Meaning}
+use Rattle.eds_unpack.specs.declared.segment.Meaning.TheVariants as meaning
+use Rattle.eds_unpack.specs.declared.segment.Numbers.{Numbers}
+use Rattle.eds_unpack.specs.declared.segment.Operation.{Operation}
+use Rattle.eds_unpack.specs.declared.segment.Segment.{Segment}
+use Rattle.eds_unpack.specs.Entries.{IsLow}
+use Rattle.eds_unpack.specs.Straight.{is_straight}
+
+-- ---- scalars
+
+-- how many bits a scalar has; other types are none
+abbrev pub scalar_bits : Kind → Option ℕ
+scalar_bits (kind.Int form spans) = Some form.bits
+scalar_bits (kind.Enum form listing) = Some form.bits
+scalar_bits (kind.Bool form) = Some form.bits
+scalar_bits (kind.Str form) = None
+scalar_bits (kind.Bin n free) = None
+scalar_bits (kind.Arr item n) = None
+scalar_bits (kind.Con c) = None
+
+-- the value of these bits, if they have one
+abbrev pub scalar_of : Kind → Bits → Result Plain Fault
+scalar_of (kind.Int form spans) c = ranged spans (number_of form c)
+scalar_of (kind.Enum form listing) c = named listing (number_of form c)
+scalar_of (kind.Bool form) c = Ok (truth (truth_of form c))
+scalar_of (kind.Str form) c = Err (fault_here Short)
+scalar_of (kind.Bin n free) c = Err (fault_here Short)
+scalar_of (kind.Arr item n) c = Err (fault_here Short)
+scalar_of (kind.Con container) c = Err (fault_here Short)
+
+-- the same of a row, if it is there
+abbrev pub bits_in : Option TypeRow → Option ℕ
+bits_in None = None
+bits_in (Some row) = scalar_bits row.kind
+
+-- the value of these bits by a row, if it is there
+abbrev pub value_in : Option TypeRow → Bits → Result Plain Fault
+value_in None c = Err (fault_here Short)
+value_in (Some row) c = scalar_of row.kind c
+
+-- ---- operations
+
+-- the number of n bits whose number is x, where the octet that counts least may come first
+abbrev pub in_order : Bool → ℕ → ℕ → ℕ
+in_order little n x = if little then unsigned_of (ordered Little (low_bits n x)) else x
+
+-- what a number stands for, where those from half on count less
+abbrev pub signed : ℕ → ℕ → ℕ → ℤ
+signed half less x = if nat_lt x half then pos x else pos x -ℤ pos less
+
+-- what the number x of n bits stands for
+abbrev pub made : Numbers → ℕ → ℕ → ℤ
+made r n x = signed r.half r.less (in_order r.little n x)
+
+-- the truth value that the number x stands for
+abbrev pub truth_by : Bool → ℕ → Bool
+truth_by zero_is_false x = if x == 0 then not zero_is_false else zero_is_false
+
+-- what an operation makes of n bits is their value
+abbrev pub Agrees : (Bits → Result Plain Fault) → ℕ → Meaning → Type 0
+Agrees value n (meaning.Number r) = (n ≤ 62) × (r.little ≡ true → n % 8 ≡ 0) × ((x : ℕ) → x < 2 ^ n → r.low ≤ℤ made r n x → made r n x ≤ℤ r.high → value (low_bits n x) ≡ Ok (num (made r n x)))
+Agrees value n (meaning.Truth zero_is_false) = (x : ℕ) → x < 2 ^ n → value (low_bits n x) ≡ Ok (truth (truth_by zero_is_false x))
+Agrees value n meaning.Told = Unit {0}
+
+-- all patterns of n bits have a value
+abbrev pub IsSure : (Bits → Result Plain Fault) → ℕ → Type 0
+IsSure value n = (x : ℕ) → x < 2 ^ n → (v : Plain) × (value (low_bits n x) ≡ Ok v)
+
+-- an operation has the bits of its type, makes the type's value of them, and says of none without reason that it has a value
+pub record IsOperation (t : Table) (o : Operation) : Type 0 where
+  pub size : bits_in (slice_get t o.id.0) ≡ Some o.bits
+  pub agrees : Agrees (value_in (slice_get t o.id.0)) o.bits o.meaning
+  pub sure : o.sure ≡ true → IsSure (value_in (slice_get t o.id.0)) o.bits
+
+-- it is that of an entry
+pub record IsOperationOf (t : Table) (p : Part) (o : Operation) : Type 0 where
+  pub typed : type_by (Some p) ≡ Some o.id.0
+  pub is : IsOperation t o
+
+-- operations are those of entries, from one bit on up to another, each right behind the one before it
+abbrev pub AreOperationsOf : Table → ℕ → ℕ → List Part → List Operation → Type 0
+AreOperationsOf t at last [] [] = at ≡ last
+AreOperationsOf t at last [] (o ∷ os) = ⊥
+AreOperationsOf t at last (p ∷ ps) [] = ⊥
+AreOperationsOf t at last (p ∷ ps) (o ∷ os) = (o.at ≡ at) × IsOperationOf t p o × AreOperationsOf t (at + o.bits) last ps os
+
+-- ---- segments
+
+-- a segment is that of a container, whose value is that of its entries alone
+pub record IsSegmentOf (t : Table) (id : ℕ) (s : Segment) : Type 0 where
+  pub straight : is_straight t id ≡ true
+  pub operations : AreOperationsOf t 0 s.bits (entries_of t id) s.operations.items
+
+-- each segment is that of the container whose number is its place
+abbrev pub AreSegments : Table → List (Option Segment) → Type 0
+AreSegments t each = (id : ℕ) (s : Segment) → slice_get each id ≡ Some (Some s) → IsSegmentOf t id s
+
+-- ---- values
+
+-- the value of an operation, in the bits of its container
+abbrev pub Says : Table → Bits → Operation → Plain → Type 0
+Says t b o v = value_in (slice_get t o.id.0) (take o.bits (drop o.at b)) ≡ Ok v
+
+-- there is such a value
+abbrev pub HasValue : Table → Bits → Operation → Type 0
+HasValue t b o = (v : Plain) × Says t b o v
+
+-- the value that was found was put last
+pub record IsPut (found : Result Plain Fault) (old new : List Value) : Type 0 where
+  pub value : Plain
+  pub is : found ≡ Ok value
+  pub last : map plain new ≡ map plain old ++ value ∷ []
+
+-- the container is read as this value, before the rest, wherever it is nested
+abbrev pub ReadsAs : Table → ℕ → Bits → Plain → Bits → Type 0
+ReadsAs t id b v rest = (n : ℕ) → IsLow t (n + 1) id → ended t (read_within n t) (read_to_end t (read_within n t) id b) ≡ Ok (v, rest)

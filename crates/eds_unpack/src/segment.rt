@@ -1,0 +1,56 @@
+//! Containers as operations: entries at fixed places, which are read one after another.
+
+ghost use Rattle.std.specs.Prelude.{◌≡◌, ◌+◌, ◌-◌, ◌*◌, ◌^◌, ◌≤◌};
+
+use eds_base::TypeId;
+
+/// What numbers of at most 62 bits stand for: where the octet that counts least comes first, octets change places; a number
+/// from `half` on stands for one that is `less` less, as those do whose first bit is a sign; and the numbers from `low` to
+/// `high` are of the domain.
+#[derive(Clone, Copy)]
+pub(crate) struct Numbers {
+    pub little: bool,
+    pub half: u64,
+    pub less: u64,
+    pub low: i64,
+    pub high: i64,
+    pub ghost few: { less ≤ 2 ^ 62 },
+}
+
+/// How the bits of an entry make its value.
+#[derive(Clone, Copy)]
+pub(crate) enum Meaning {
+    /// They are a number.
+    Number(Numbers),
+    /// They are a truth value: whether all bits zero are false.
+    Truth(bool),
+    /// The row of the type tells.
+    Told,
+}
+
+/// An entry of a number, label or truth value: its type, the place of its first bit in the container, and how many bits it has.
+/// All of them lie in the eight octets from octet `first` on, and `pad` bits of these follow them.
+#[derive(Clone, Copy)]
+pub(crate) struct Operation {
+    pub id: TypeId,
+    pub at: u32,
+    pub bits: u32,
+    pub first: u32,
+    pub pad: u32,
+    /// The greatest number of so many bits.
+    pub mask: u64,
+    pub meaning: Meaning,
+    /// Whether all patterns of the bits have a value.
+    pub sure: bool,
+    pub ghost some: { 1 ≤ bits },
+    pub ghost start: { 8 * first ≤ at },
+    pub ghost end: { at + bits + pad ≡ 8 * first + 64 },
+    pub ghost greatest: { mask ≡ 2 ^ bits - 1 },
+}
+
+/// The operations of a container, and how many bits it has.
+#[derive(Drop)]
+pub(crate) struct Segment {
+    pub operations: Vec<Operation>,
+    pub bits: u32,
+}

@@ -1,0 +1,77 @@
+//! The segments of the containers of a table.
+
+ghost use Rattle.std.specs.Prelude.{◌≡◌, Some, slice_get, IfOk, IfSome};
+ghost use Rattle.eds_unpack.specs.Segments.{IsSegmentOf};
+
+use crate::operations::segment_of;
+use crate::segment::Segment;
+use eds_base::{Memory, TypeId};
+use eds_types::TypeTable;
+use std::alloc::Global;
+use std::marker::Model;
+
+/// The segment at the number of a type, if there is one.
+#[inline(always)]
+fn segment_at(each: &[Option<Segment>], id: TypeId) -> Option<&Segment>
+    ensures { IfSome result (λ s. slice_get each.now id.0 ≡ Some (Some s.now)) }
+{
+    match each.get(id.0 as usize) {
+        Some(Some(segment)) => Some(segment),
+        _ => None,
+    }
+}
+
+/// The segments of a table's containers, each at the number of its type. Not every container has one.
+#[derive(Drop)]
+pub(crate) struct Segments<'a> {
+    table: &'a TypeTable,
+    each: Vec<Option<Segment>>,
+}
+
+impl<'a> Model for Segments<'a> {
+    ghost use Rattle.std.specs.Prelude.{List};
+    ghost use Rattle.eds_types.specs.declared.row.TypeRow.{TypeRow};
+    ghost use Rattle.eds_types.specs.contracts.value.Value as value;
+    ghost use Rattle.eds_unpack.specs.Segments.{AreSegments};
+    ghost use Rattle.std.specs.Coded.{codes};
+
+    ghost Value = { List TypeRow };
+
+    ghost coded = { Prim.hlevel (codes, value.the_row.coded) };
+
+    ghost view = { λ s. s.table.now };
+
+    ghost invariant = { λ s. AreSegments s.table.now s.each.items };
+}
+
+impl<'a> Segments<'a> {
+    /// None at all.
+    pub(crate) fn none(alloc: Global, table: &'a TypeTable) -> Segments<'a>
+        ensures { result ≡ table.now }
+    {
+        Segments {
+            table,
+            each: Vec::new(alloc),
+        }
+    }
+
+    /// Those of all containers of a table that have one.
+    pub(crate) fn of(alloc: Global, table: &'a TypeTable) -> Result<Segments<'a>, Memory>
+        ensures { IfOk result (λ s. s ≡ table.now) }
+    {
+        let mut each = Vec::with_capacity(alloc, table.len() as usize)?;
+        for number in 0..table.len() {
+            let segment = segment_of(alloc, table, TypeId(number))?;
+            each.push(segment)?;
+        }
+        Ok(Segments { table, each })
+    }
+
+    /// The segment of a type, if it has one.
+    #[inline(always)]
+    pub(crate) fn find(&self, id: TypeId) -> Option<&Segment>
+        ensures { IfSome result (λ s. IsSegmentOf self.now id.0 s.now) }
+    {
+        segment_at(self.each.as_slice(), id)
+    }
+}

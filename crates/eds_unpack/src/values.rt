@@ -1,0 +1,279 @@
+//! Reading the values of a container by its segment.
+
+ghost use Rattle.std.specs.Prelude.{◌≡◌, ◌+◌, ◌*◌, ◌%◌, ◌^◌, ◌<◌, ◌≤◌, ℕ, List, Some, true, length, map, take, drop, slice_get, IfOk, IfSome, IfNone};
+ghost use Rattle.std.specs.Bool.{OnTrue};
+ghost use Rattle.std.specs.List.{All, AllByRecursion, AllZip};
+ghost use Rattle.eds_bits.specs.Bits.{bits_of, low_bits, unsigned_of};
+ghost use Rattle.eds_bits.specs.IntForms.{number_of};
+ghost use Rattle.eds_bits.specs.Reader.{bits_left};
+ghost use Rattle.eds_types.specs.Fields.{listed};
+ghost use Rattle.eds_types.specs.Plain.{plain, fields, plains_of};
+ghost use Rattle.eds_types.specs.Reading.{named, ranged};
+ghost use Rattle.eds_types.specs.Rules.{KindKeeps};
+ghost use Rattle.eds_unpack.specs.Segments.{IsOperation, IsPut, IsSegmentOf, ReadsAs, Says, in_order, made, scalar_bits, scalar_of, value_in};
+
+use crate::segment::{Meaning, Numbers, Operation, Segment};
+use crate::segments::Segments;
+use crate::skim::label_of;
+use eds_base::{Memory, Spans, Text, TypeId};
+use eds_bits::{BitReader, IntForm, decode_int};
+use eds_types::{Kind, Listing, TypeTable, Value};
+use std::alloc::Global;
+
+/// The unsigned number of eight octets, the most significant first.
+#[inline(always)]
+fn word_of(octets: &[u8]) -> u64
+    requires { length octets.now ≡ 8 }
+    ensures { result ≡ unsigned_of (bits_of octets.now) }
+{
+    u64::from_be_bytes([
+        octets[0], octets[1], octets[2], octets[3], octets[4], octets[5], octets[6], octets[7],
+    ])
+}
+
+/// The number of an operation's bits, in the eight octets that hold them.
+#[inline(always)]
+fn number_in_word(operation: &Operation, octets: &[u8]) -> u64
+    requires { operation.now.first + 8 ≤ length octets.now }
+    ensures value { result ≡ unsigned_of (take operation.now.bits (drop operation.now.at (bits_of octets.now))) }
+    ensures bound { result < 2 ^ operation.now.bits }
+{
+    let first = operation.first as usize;
+    let word = word_of(&octets[first..first + 8]);
+    word >> operation.pad & operation.mask
+}
+
+/// The number of an operation's bits, wherever they stand.
+fn number_ahead(operation: &Operation, reader: &BitReader<'_>) -> u64
+    requires { operation.now.at + operation.now.bits ≤ length (bits_left reader.now) }
+    ensures value { result ≡ unsigned_of (take operation.now.bits (drop operation.now.at (bits_left reader.now))) }
+    ensures bound { result < 2 ^ operation.now.bits }
+{
+    let mut ahead = *reader;
+    ahead.skip(u64::from(operation.at));
+    match ahead.take(operation.bits) {
+        Some(number) => number,
+        None => 0,
+    }
+}
+
+/// The octets that are left, or fewer than eight where the reader stands within an octet.
+#[inline(always)]
+pub(crate) fn octets_left<'a>(reader: &BitReader<'a>) -> &'a [u8]
+    ensures { 8 ≤ length result.now → bits_left reader.now ≡ bits_of result.now }
+{
+    match reader.octets() {
+        Some(octets) => octets,
+        None => &[],
+    }
+}
+
+/// The number of an operation's bits.
+#[inline(always)]
+pub(crate) fn number_of_bits(operation: &Operation, octets: &[u8], reader: &BitReader<'_>) -> u64
+    requires octets { 8 ≤ length octets.now → bits_left reader.now ≡ bits_of octets.now }
+    requires enough { operation.now.at + operation.now.bits ≤ length (bits_left reader.now) }
+    ensures value { result ≡ unsigned_of (take operation.now.bits (drop operation.now.at (bits_left reader.now))) }
+    ensures bound { result < 2 ^ operation.now.bits }
+{
+    if operation.first as usize + 8 <= octets.len() {
+        number_in_word(operation, octets)
+    } else {
+        number_ahead(operation, reader)
+    }
+}
+
+/// The number of so many bits whose number this is, where the octet that counts least may come first.
+#[inline(always)]
+fn in_order(little: bool, bits: u32, number: u64) -> u64
+    requires some { 1 ≤ bits }
+    requires few { bits ≤ 62 }
+    requires whole { little ≡ true → bits % 8 ≡ 0 }
+    requires bound { number < 2 ^ bits }
+    ensures value { result ≡ in_order little bits number }
+    ensures bound { result < 2 ^ bits }
+{
+    if little {
+        number.swap_bytes() >> (64 - bits)
+    } else {
+        number
+    }
+}
+
+/// What the number of so many bits stands for.
+#[inline(always)]
+pub(crate) fn made(numbers: Numbers, bits: u32, number: u64) -> i64
+    requires some { 1 ≤ bits }
+    requires few { bits ≤ 62 }
+    requires whole { numbers.little ≡ true → bits % 8 ≡ 0 }
+    requires bound { number < 2 ^ bits }
+    ensures { result ≡ made numbers bits number }
+{
+    let number = in_order(numbers.little, bits, number);
+    if number < numbers.half {
+        number as i64
+    } else {
+        number as i64 - numbers.less as i64
+    }
+}
+
+/// Puts the number of an integer type last, if these bits have one in its domain.
+fn put_integer(
+    form: IntForm,
+    spans: &Spans,
+    number: u64,
+    values: &mut Vec<Value>,
+) -> Result<bool, Memory>
+    requires { number < 2 ^ form.bits }
+    ensures { IfOk result (λ put. OnTrue put (IsPut (ranged spans.now (number_of form (low_bits form.bits number))) values.old.items values.new.items)) }
+{
+    let Some(found) = decode_int(form, number) else {
+        return Ok(false);
+    };
+    if !spans.holds(found) {
+        return Ok(false);
+    }
+    values.push(Value::Num(found))?;
+    Ok(true)
+}
+
+/// Puts the label of an enumerated type last, in which each label is listed once, if these bits have one.
+fn put_label(
+    alloc: Global,
+    form: IntForm,
+    listing: &Listing,
+    number: u64,
+    values: &mut Vec<Value>,
+) -> Result<bool, Memory>
+    requires bound { number < 2 ^ form.bits }
+    requires once { AllByRecursion (λ e. listed listing.now e.0 ≡ Some e.1) listing.now }
+    ensures { IfOk result (λ put. OnTrue put (IsPut (named listing.now (number_of form (low_bits form.bits number))) values.old.items values.new.items)) }
+{
+    let Some(found) = decode_int(form, number) else {
+        return Ok(false);
+    };
+    match label_of(listing, found) {
+        Some(label) => {
+            values.push(Value::Label(Text::of(alloc, label.as_str())?))?;
+            Ok(true)
+        }
+        None => Ok(false),
+    }
+}
+
+/// Puts the value of a number or label last, as its kind tells, if these bits have one. Other kinds have none.
+fn put_told(
+    alloc: Global,
+    kind: &Kind,
+    number: u64,
+    values: &mut Vec<Value>,
+) -> Result<bool, Memory>
+    requires keeps { KindKeeps kind.now }
+    requires bound { (n : ℕ) → scalar_bits kind.now ≡ Some n → number < 2 ^ n }
+    ensures { (n : ℕ) → scalar_bits kind.now ≡ Some n → IfOk result (λ put. OnTrue put (IsPut (scalar_of kind.now (low_bits n number)) values.old.items values.new.items)) }
+{
+    match kind {
+        Kind::Int(form, spans) => put_integer(*form, spans, number, values),
+        Kind::Enum(form, listing) => put_label(alloc, *form, listing, number, values),
+        _ => Ok(false),
+    }
+}
+
+/// Puts the value of an operation last, if its bits have one.
+#[inline(always)]
+fn put_value(
+    alloc: Global,
+    table: &TypeTable,
+    operation: &Operation,
+    number: u64,
+    values: &mut Vec<Value>,
+) -> Result<bool, Memory>
+    requires is { IsOperation table.now operation.now }
+    requires bound { number < 2 ^ operation.now.bits }
+    ensures { IfOk result (λ put. OnTrue put (IsPut (value_in (slice_get table.now operation.now.id.0) (low_bits operation.now.bits number)) values.old.items values.new.items)) }
+{
+    match operation.meaning {
+        Meaning::Number(numbers) => {
+            let found = made(numbers, operation.bits, number);
+            if found < numbers.low || numbers.high < found {
+                return Ok(false);
+            }
+            values.push(Value::Num(i128::from(found)))?;
+            Ok(true)
+        }
+        Meaning::Truth(zero_is_false) => {
+            values.push(Value::Bool((number != 0) == zero_is_false))?;
+            Ok(true)
+        }
+        Meaning::Told => {
+            table.keeps_rules();
+            put_told(alloc, &table.row(operation.id).kind, number, values)
+        }
+    }
+}
+
+/// The values of operations, if the bits of each have one.
+fn values_of(
+    alloc: Global,
+    table: &TypeTable,
+    operations: &[Operation],
+    reader: &BitReader<'_>,
+) -> Result<Option<Vec<Value>>, Memory>
+    requires are { All (IsOperation table.now) operations.now }
+    requires within { All (λ o. o.at + o.bits ≤ length (bits_left reader.now)) operations.now }
+    ensures { IfOk result (λ o. IfSome o (λ vs. AllZip (Says table.now (bits_left reader.now)) operations.now (map plain vs.items))) }
+{
+    let octets = octets_left(reader);
+    let mut values = Vec::with_capacity(alloc, operations.len())?;
+    for operation in operations {
+        let number = number_of_bits(operation, octets, reader);
+        if !put_value(alloc, table, operation, number, &mut values)? {
+            return Ok(None);
+        }
+    }
+    Ok(Some(values))
+}
+
+/// Reads the values of a container by its segment. None, where it doesn't tell them: then the reader stays where it is.
+fn read_segment(
+    alloc: Global,
+    table: &TypeTable,
+    segment: &Segment,
+    container: TypeId,
+    reader: &mut BitReader,
+) -> Result<Option<Vec<Value>>, Memory>
+    requires { IsSegmentOf table.now container.0 segment.now }
+    ensures read { IfOk result (λ o. IfSome o (λ vs. ReadsAs table.now container.0 (bits_left reader.old) (fields container.0 (plains_of (map plain vs.items))) (bits_left reader.new))) }
+    ensures same { IfOk result (λ o. IfNone o (bits_left reader.new ≡ bits_left reader.old)) }
+{
+    if reader.left() < u64::from(segment.bits) {
+        return Ok(None);
+    }
+    match values_of(alloc, table, segment.operations.as_slice(), reader)? {
+        Some(values) => {
+            reader.skip(u64::from(segment.bits));
+            Ok(Some(values))
+        }
+        None => Ok(None),
+    }
+}
+
+/// Reads the values of a container that has a segment. None, where it has none, or the segment doesn't tell them: then the
+/// reader stays where it is.
+#[inline(always)]
+pub(crate) fn read_by_segment(
+    alloc: Global,
+    table: &TypeTable,
+    segments: &Segments<'_>,
+    container: TypeId,
+    reader: &mut BitReader,
+) -> Result<Option<Vec<Value>>, Memory>
+    requires { segments.now ≡ table.now }
+    ensures read { IfOk result (λ o. IfSome o (λ vs. ReadsAs table.now container.0 (bits_left reader.old) (fields container.0 (plains_of (map plain vs.items))) (bits_left reader.new))) }
+    ensures same { IfOk result (λ o. IfNone o (bits_left reader.new ≡ bits_left reader.old)) }
+{
+    match segments.find(container) {
+        Some(segment) => read_segment(alloc, table, segment, container, reader),
+        None => Ok(None),
+    }
+}
