@@ -12,13 +12,13 @@ use Rattle.eds_names.specs.declared.declared.Declared.{Declared}
 use Rattle.eds_names.specs.LookUp.{or_else, entry_named, item_named, first_found, candidates, fronts, longest}
 use Rattle.eds_names.specs.Standings.{joined}
 
-pub or_else-none : (o : Option Item) → or_else o None ≡ o
+pub or_else-none : {A : Type 0} (o : Option A) → or_else o None ≡ o
 or_else-none None = refl
-or_else-none (Some i) = refl
+or_else-none (Some x) = refl
 
-none_of : (o : Option Item) → is_some o ≡ false → o ≡ None
+pub none_of : {A : Type 0} (o : Option A) → is_some o ≡ false → o ≡ None
 none_of None h = refl
-none_of (Some i) h = cc
+none_of (Some x) h = cc
 
 pub bytes_eq-sym : (x y : List ℕ) → bytes_eq x y ≡ bytes_eq y x
 bytes_eq-sym x y = one_answer {P = x ≡ y} (bytes_eq x y) (bytes_eq y x) (bytes_eq-Decides x y) (λ h. sym ((bytes_eq-Decides y x).0 h), λ p. (bytes_eq-Decides y x).1 (sym p))

@@ -6,18 +6,11 @@ use Rattle.std.specs.Str.{bytes_eq}
 use Rattle.std.proofs.lemmas.Slice.Eq.{bytes_eq-Decides}
 use Rattle.eds_base.specs.Reading.{same}
 use Rattle.eds_names.specs.Positions.{place_from, place_among, or_else, entry_at}
-
-or_else-none : (o : Option ℕ) → or_else o None ≡ o
-or_else-none None = refl
-or_else-none (Some k) = refl
+use Rattle.eds_names.proofs.LookUpLemmas.{or_else-none, none_of}
 
 or_else-assoc : (a b c : Option ℕ) → or_else (or_else a b) c ≡ or_else a (or_else b c)
 or_else-assoc None b c = refl
 or_else-assoc (Some k) b c = refl
-
-none_of : (o : Option ℕ) → is_some o ≡ false → o ≡ None
-none_of None h = refl
-none_of (Some k) h = cc
 
 over-some : (o other : Option ℕ) → is_some o ≡ true → o ≡ or_else o other
 over-some None other h = cc

@@ -1,5 +1,6 @@
 -- The names of a sheet, and what a reference finds.
 use Rattle.std.specs.Prelude.{◌≡◌, ℕ, false, List, [], ◌∷◌, ◌++◌, map, if◌then◌else◌, nat_eq, count_by, Bool, Option, Some, None, slice_get, unwrap_or, IsSomeAnd, Result, Ok, Err}
+pub use Rattle.std.specs.Option.{option_or as or_else}
 use Rattle.eds_base.specs.Reading.{same}
 use Rattle.eds_base.specs.declared.ids.Place.{Place}
 use Rattle.eds_base.specs.declared.refusal.Refusal.{Refusal}
@@ -53,11 +54,6 @@ candidates None text = text ∷ []
 candidates (Some around) text = map (λ front. joined front text) (around ∷ fronts around) ++ text ∷ []
 
 -- ---- what is found
-
--- the first of two items that is there
-abbrev pub or_else : Option Item → Option Item → Option Item
-or_else None other = other
-or_else (Some i) other = Some i
 
 -- a declared item, where this is its name
 abbrev pub entry_named : Declared → List ℕ → Option Item

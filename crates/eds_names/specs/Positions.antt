@@ -1,5 +1,6 @@
 -- Names by their positions in a list.
 use Rattle.std.specs.Prelude.{ℕ, ◌+◌, List, [], ◌∷◌, Option, Some, None, if◌then◌else◌}
+pub use Rattle.std.specs.Option.{option_or as or_else}
 use Rattle.eds_base.specs.Reading.{same}
 
 -- the position of a name among some, of which the first has the number k; of several of one name the first counts
@@ -12,11 +13,6 @@ abbrev pub place_among : List (List ℕ) → List ℕ → Option ℕ
 place_among names name = place_from 0 names name
 
 -- ---- what an index of names holds
-
--- the first of two, where it is there
-abbrev pub or_else : Option ℕ → Option ℕ → Option ℕ
-or_else None other = other
-or_else (Some k) other = Some k
 
 -- what one name adds that stands at a position
 abbrev pub entry_at : ℕ → (one name : List ℕ) → Option ℕ

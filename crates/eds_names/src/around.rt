@@ -34,10 +34,8 @@ impl Around {
         ensures { option_map (λ a. a.now) result ≡ name_at self.now node }
     {
         let position = self.table.get(node as usize).copied()??;
-        match self.names.get(position as usize) {
-            Some(name) => Some(name.as_str()),
-            None => None,
-        }
+        let name = self.names.get(position as usize)?;
+        Some(name.as_str())
     }
 }
 

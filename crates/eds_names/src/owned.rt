@@ -87,12 +87,10 @@ fn ownerships() -> &'static [Ownership]
 fn is_among(names: &'static [&'static str], name: &str) -> bool
     ensures { result ≡ among (map (λ n. n.now) names.now) name.now }
 {
-    let mut rest = names;
-    while let [first, after @ ..] = rest {
-        if name == *first {
+    for one in names {
+        if name == *one {
             return true;
         }
-        rest = after;
     }
     false
 }

@@ -96,10 +96,8 @@ fn shorter(name: &str) -> Option<&str>
     ensures longest { option_map (λ f. f.now) result ≡ longest (fronts name.now) }
     ensures text { IfSome result (λ f. IsUtf8 f.now) }
 {
-    match name.rsplit_once('/') {
-        Some((front, _)) => Some(front),
-        None => None,
-    }
+    let (front, _) = name.rsplit_once('/')?;
+    Some(front)
 }
 
 // What is read of the files so far.
@@ -268,10 +266,7 @@ impl Space {
     fn is_depth(&self, depth: usize) -> bool
         ensures { (q : List ℕ) → result ≡ false → slashes_of q ≡ depth → item_named self.now.declared q ≡ None }
     {
-        match self.depths.get(depth) {
-            Some(is_depth) => *is_depth,
-            None => false,
-        }
+        self.depths.get(depth).copied().unwrap_or(false)
     }
 
     // The item of a reference below a name, where both with a slash between them have so many slashes.
