@@ -37,12 +37,10 @@ pub(crate) fn first_failing<T: RowTest>(
     ensures { option_map (λ w. w.now) result ≡ first_from (option_map (λ w. w.now) before.entry) (failing (T.fails attributes.now) (map attribute_of rows.now)) }
 {
     let mut found = before;
-    let mut rest = rows;
-    while let [row, after @ ..] = rest {
+    for row in rows {
         if T::fails(row, attributes) {
             found = first_of(found, row.name);
         }
-        rest = after;
     }
     found
 }
@@ -77,10 +75,7 @@ impl RowTest for Lacks {
 fn is_malformed(row: &'static Attribute, text: Option<&str>) -> bool
     ensures { result ≡ malformed (attribute_of row.now) (option_map (λ t. t.now) text.entry) }
 {
-    match text {
-        None => false,
-        Some(text) => !has_form(row.form, text),
-    }
+    text.is_some_and(|text| !has_form(row.form, text))
 }
 
 /// An attribute is there, and its text has not the form that the table asks for.
@@ -99,10 +94,7 @@ impl RowTest for Malformed {
 fn is_misnamed(row: &'static Attribute, text: Option<&str>) -> bool
     ensures { result ≡ misnamed (attribute_of row.now) (option_map (λ t. t.now) text.entry) }
 {
-    match text {
-        None => false,
-        Some(text) => !has_name_form(row.form, text),
-    }
+    text.is_some_and(|text| !has_name_form(row.form, text))
 }
 
 /// An attribute is there that should be a name, and its text is none.

@@ -39,12 +39,10 @@ fn is_child_or_text(value: &Value) -> bool
 fn are_children_or_texts(items: &[Value]) -> bool
     ensures { result ≡ only_children_or_texts (items_view items.now) }
 {
-    let mut rest = items;
-    while let [item, after @ ..] = rest {
+    for item in items {
         if !is_child_or_text(item) {
             return false;
         }
-        rest = after;
     }
     true
 }
@@ -115,10 +113,7 @@ fn judge_items(items: &Vec<Value>, at: u32) -> Result<u32, u32>
 {
     let mut next = at;
     for item in items {
-        match judge(item, next) {
-            Ok(after) => next = after,
-            Err(place) => return Err(place),
-        }
+        next = judge(item, next)?;
     }
     Ok(next)
 }

@@ -31,10 +31,8 @@ pub(crate) fn find_among(parts: &[&'static [Row]], count: usize, name: &str) -> 
     let mut high = count;
     while low < high {
         let middle = low + (high - low) / 2;
-        let here = match row_among(parts, middle) {
-            Some(row) => row.name,
-            None => return None,
-        };
+        let row = row_among(parts, middle)?;
+        let here = row.name;
         if here == name {
             return Some(middle);
         }

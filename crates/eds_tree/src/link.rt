@@ -48,12 +48,10 @@ pub(crate) fn attributes_at(nodes: &[Node], at: u32) -> &[(Text, Text)]
 pub(crate) fn text_among<'a>(attributes: &'a [(Text, Text)], name: &str) -> Option<&'a str>
     ensures { option_map (λ t. t.now) result ≡ text_in attributes.now name.now }
 {
-    let mut rest = attributes;
-    while let [first, after @ ..] = rest {
-        if first.0.as_str() == name {
-            return Some(first.1.as_str());
+    for attribute in attributes {
+        if attribute.0.as_str() == name {
+            return Some(attribute.1.as_str());
         }
-        rest = after;
     }
     None
 }

@@ -30,14 +30,12 @@ fn tree_of(alloc: Global, file: u16, value: &Value) -> Result<Tree, Fail<Refusal
     if !value.is_array() {
         return Err(Fail::Named(refusal(Rule::NotElement, file, 0)));
     }
-    match judge(value, 0) {
-        Ok(_) => {
-            let mut nodes = Vec::new(alloc);
-            grow(alloc, &mut nodes, "", value)?;
-            Ok(Tree::of(Items::from_vec(nodes)))
-        }
-        Err(place) => Err(Fail::Named(refusal(Rule::NotElement, file, place))),
+    if let Err(place) = judge(value, 0) {
+        return Err(Fail::Named(refusal(Rule::NotElement, file, place)));
     }
+    let mut nodes = Vec::new(alloc);
+    grow(alloc, &mut nodes, "", value)?;
+    Ok(Tree::of(Items::from_vec(nodes)))
 }
 
 /// The elements of a file, or the rule that its text breaks.

@@ -49,9 +49,7 @@ impl<const N: usize> Rows<N> {
     pub fn named(&self, name: &str) -> Option<&'static Row>
         ensures { option_map (λ r. row_of r.now) result ≡ row_named self.now name.now }
     {
-        match self.find(name) {
-            Some(i) => self.get(i),
-            None => None,
-        }
+        let i = self.find(name)?;
+        self.get(i)
     }
 }

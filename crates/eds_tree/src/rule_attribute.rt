@@ -16,10 +16,7 @@ use std::alloc::Global;
 fn bad_attribute(shape: Option<&'static Shape>, attributes: &[(Text, Text)]) -> Option<&'static str>
     ensures { option_map (λ w. w.now) result ≡ bad_attribute_of (option_map (λ s. shape_of s.now) shape.entry) attributes.now }
 {
-    match shape {
-        None => None,
-        Some(shape) => first_failing_in::<Malformed>(shape, attributes),
-    }
+    first_failing_in::<Malformed>(shape?, attributes)
 }
 
 /// The text of an attribute has the form that the table asks for.

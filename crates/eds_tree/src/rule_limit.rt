@@ -28,15 +28,13 @@ fn count_in(nodes: &[Node], links: &[Link], parent: &str, row: &str, most: u32) 
     ensures { result ≡ count_links (filter (stands_below nodes.now parent.now row.now) links.now) most }
 {
     let mut left = most;
-    let mut rest = links;
-    while let [link, after @ ..] = rest {
+    for link in links {
         if stands_under(nodes, parent, row, *link) {
             if left == 0 {
                 return Err(link.node);
             }
             left -= 1;
         }
-        rest = after;
     }
     Ok(left)
 }

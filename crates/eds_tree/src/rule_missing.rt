@@ -72,12 +72,10 @@ fn first_asked(
     ensures { option_map (λ w. w.now) result ≡ first_from (option_map (λ w. w.now) before.entry) (filter (λ a. not (has attributes.now a)) (map (λ w. w.now) names.now)) }
 {
     let mut found = before;
-    let mut rest = names;
-    while let [name, after @ ..] = rest {
+    for name in names {
         if !has_attribute(attributes, name) {
             found = first_of(found, name);
         }
-        rest = after;
     }
     found
 }
@@ -112,8 +110,7 @@ fn has_fewer(nodes: &[Node], parent: u32, row: &str, than: u8) -> bool
     ensures { result ≡ nat_lt (length (members_of nodes.now row.now (children_of nodes.now parent))) than }
 {
     let mut left = than;
-    let mut rest = children_at(nodes, parent);
-    while let [child, after @ ..] = rest {
+    for child in children_at(nodes, parent) {
         if left == 0 {
             return false;
         }
@@ -123,7 +120,6 @@ fn has_fewer(nodes: &[Node], parent: u32, row: &str, than: u8) -> bool
                 left -= 1;
             }
         }
-        rest = after;
     }
     left > 0
 }
@@ -139,12 +135,10 @@ fn first_lacking(nodes: &[Node], parent: u32, rows: &'static [Child]) -> Option<
     ensures { option_map (λ w. w.now) result ≡ first_in_order (map child_name (filter (lacks_row nodes.now (children_of nodes.now parent)) (map child_of rows.now))) }
 {
     let mut found = None;
-    let mut rest = rows;
-    while let [row, after @ ..] = rest {
+    for row in rows {
         if lacks(nodes, parent, row) {
             found = first_of(found, row.name);
         }
-        rest = after;
     }
     found
 }
@@ -152,17 +146,13 @@ fn first_lacking(nodes: &[Node], parent: u32, rows: &'static [Child]) -> Option<
 fn missing(nodes: &[Node], link: Link, shape: Option<&'static Shape>) -> Option<&'static str>
     ensures { option_map (λ w. w.now) result ≡ missing_in nodes.now link (option_map (λ s. shape_of s.now) shape.entry) }
 {
-    match shape {
-        None => None,
-        Some(shape) => match missing_attribute(
-            name_at(nodes, link.node),
-            shape,
-            attributes_at(nodes, link.node),
-        ) {
-            Some(name) => Some(name),
-            None => first_lacking(nodes, link.node, shape.children),
-        },
-    }
+    let shape = shape?;
+    missing_attribute(
+        name_at(nodes, link.node),
+        shape,
+        attributes_at(nodes, link.node),
+    )
+    .or_else(|| first_lacking(nodes, link.node, shape.children))
 }
 
 /// An element has each attribute and each child that it needs.

@@ -16,13 +16,8 @@ use std::alloc::Global;
 fn bad_name<'a>(shape: Option<&'static Shape>, attributes: &'a [(Text, Text)]) -> Option<&'a str>
     ensures { option_map (λ w. w.now) result ≡ bad_name_of (option_map (λ s. shape_of s.now) shape.entry) attributes.now }
 {
-    match shape {
-        None => None,
-        Some(shape) => match first_failing_in::<Misnamed>(shape, attributes) {
-            None => None,
-            Some(name) => text_among(attributes, name),
-        },
-    }
+    let name = first_failing_in::<Misnamed>(shape?, attributes)?;
+    text_among(attributes, name)
 }
 
 /// An attribute that should be a name is one.

@@ -39,12 +39,10 @@ fn unknown_root(nodes: &[Node], link: Link) -> Option<&str>
 fn is_listed(rows: &'static [Child], name: &str) -> bool
     ensures { result ≡ listed (map child_of rows.now) name.now }
 {
-    let mut rest = rows;
-    while let [row, after @ ..] = rest {
+    for row in rows {
         if is_member(row.name, name) {
             return true;
         }
-        rest = after;
     }
     false
 }
@@ -75,8 +73,7 @@ fn first_unlisted(nodes: &[Node], parent: u32, rows: &'static [Child]) -> Option
     ensures { result ≡ lowest_from None (filter (supported nodes.now parent) (unlisted nodes.now (map child_of rows.now) (children_of nodes.now parent))) }
 {
     let mut found = None;
-    let mut rest = children_at(nodes, parent);
-    while let [child, after @ ..] = rest {
+    for child in children_at(nodes, parent) {
         let name = name_at(nodes, *child);
         if !is_passed_over(name) {
             if !is_listed(rows, name) {
@@ -85,7 +82,6 @@ fn first_unlisted(nodes: &[Node], parent: u32, rows: &'static [Child]) -> Option
                 }
             }
         }
-        rest = after;
     }
     found
 }
@@ -130,8 +126,7 @@ fn first_supported(
     ensures { result ≡ lowest_from before (filter (supported nodes.now parent) (members_of nodes.now row.now (counted nodes.now children.now))) }
 {
     let mut found = before;
-    let mut rest = children;
-    while let [child, after @ ..] = rest {
+    for child in children {
         let name = name_at(nodes, *child);
         if !is_passed_over(name) {
             if is_member(row, name) {
@@ -140,7 +135,6 @@ fn first_supported(
                 }
             }
         }
-        rest = after;
     }
     found
 }
@@ -176,13 +170,9 @@ fn first_too_many(
 fn first_unknown(nodes: &[Node], link: Link, shape: Option<&'static Shape>) -> Option<u32>
     ensures { result ≡ lowest_from None (unknown_children nodes.now link (option_map (λ s. shape_of s.now) shape.entry)) }
 {
-    match shape {
-        None => None,
-        Some(shape) => {
-            let found = first_unlisted(nodes, link.node, shape.children);
-            first_too_many(nodes, link.node, found, shape.children)
-        }
-    }
+    let shape = shape?;
+    let found = first_unlisted(nodes, link.node, shape.children);
+    first_too_many(nodes, link.node, found, shape.children)
 }
 
 // The refusal of a child, where there is one.

@@ -36,28 +36,19 @@ fn is_named_unsupported(parent: &str, name: &str) -> bool
 fn is_zero_or_one(number: Option<i128>) -> bool
     ensures { result ≡ zero_or_one number }
 {
-    match number {
-        None => false,
-        Some(n) => n == 0 || n == 1,
-    }
+    number.is_some_and(|n| n == 0 || n == 1)
 }
 
 fn is_other_exponent(text: Option<&str>) -> bool
     ensures { result ≡ other_exponent (option_map (λ t. t.now) text.entry) }
 {
-    match text {
-        None => false,
-        Some(text) => !is_zero_or_one(whole_number(text)),
-    }
+    text.is_some_and(|text| !is_zero_or_one(whole_number(text)))
 }
 
 fn is_fractional(text: Option<&str>) -> bool
     ensures { result ≡ fractional (option_map (λ t. t.now) text.entry) }
 {
-    match text {
-        None => false,
-        Some(text) => is_decimal_fraction(text),
-    }
+    text.is_some_and(|text| is_decimal_fraction(text))
 }
 
 fn is_other_word(words: &'static [&'static str], text: Option<&str>) -> bool
@@ -93,13 +84,7 @@ fn has_unsupported_text(name: &str, attributes: &[(Text, Text)]) -> bool
 fn spells_flag(wanted: bool, text: Option<&str>) -> bool
     ensures { result ≡ flag_spelled wanted (option_map (λ t. t.now) text.entry) }
 {
-    match text {
-        None => false,
-        Some(text) => match flag_value(text) {
-            None => false,
-            Some(flag) => { if wanted { flag } else { !flag } }
-        },
-    }
+    text.is_some_and(|text| flag_value(text) == Some(wanted))
 }
 
 fn has_failed(name: &str, attributes: &[(Text, Text)]) -> bool

@@ -14,12 +14,10 @@ use crate::tree::Node;
 pub fn is_among(names: &'static [&'static str], name: &str) -> bool
     ensures { result ≡ names_in (map (λ p. p.now) names.now) name.now }
 {
-    let mut rest = names;
-    while let [first, after @ ..] = rest {
-        if *first == name {
+    for one in names {
+        if *one == name {
             return true;
         }
-        rest = after;
     }
     false
 }
@@ -36,12 +34,10 @@ fn fits_under(parents: &'static [&'static str], parent: &str) -> bool
 fn shape_for(shapes: &'static [Shape], parent: &str) -> Option<&'static Shape>
     ensures { option_map (λ s. shape_of s.now) result ≡ shape_among (map shape_of shapes.now) parent.now }
 {
-    let mut rest = shapes;
-    while let [shape, after @ ..] = rest {
+    for shape in shapes {
         if fits_under(shape.parents, parent) {
             return Some(shape);
         }
-        rest = after;
     }
     None
 }
@@ -72,12 +68,10 @@ pub(crate) fn shape_at(nodes: &[Node], link: Link) -> Option<&'static Shape>
 fn is_listed(rows: &'static [Attribute], name: &str) -> bool
     ensures { result ≡ list_any (is_attribute name.now) (map attribute_of rows.now) }
 {
-    let mut rest = rows;
-    while let [row, after @ ..] = rest {
+    for row in rows {
         if row.name == name {
             return true;
         }
-        rest = after;
     }
     false
 }
@@ -86,8 +80,7 @@ fn is_listed(rows: &'static [Attribute], name: &str) -> bool
 pub(crate) fn lists(shape: Option<&'static Shape>, name: &str) -> bool
     ensures { result ≡ shape_lists (option_map (λ s. shape_of s.now) shape.entry) name.now }
 {
-    match shape {
-        None => false,
-        Some(shape) => is_listed(shape.required, name) || is_listed(shape.optional, name),
-    }
+    shape.is_some_and(|shape| {
+        is_listed(shape.required, name) || is_listed(shape.optional, name)
+    })
 }

@@ -62,19 +62,13 @@ fn are_names(octets: &[u8], separator: u8) -> bool
 fn is_at_least(low: u32, number: Option<i128>) -> bool
     ensures { result ≡ at_least low number }
 {
-    match number {
-        None => false,
-        Some(n) => n >= low as i128,
-    }
+    number.is_some_and(|n| n >= low as i128)
 }
 
 fn is_between(low: u32, high: u32, number: Option<i128>) -> bool
     ensures { result ≡ between low high number }
 {
-    match number {
-        None => false,
-        Some(n) => n >= low as i128 && n <= high as i128,
-    }
+    number.is_some_and(|n| n >= low as i128 && n <= high as i128)
 }
 
 /// Whether a text has the form that the table asks for; names are judged by a rule of their own.

@@ -1,9 +1,6 @@
-use Rattle.std.proofs.Common.{◌≡◌, length, map}
+use Rattle.std.proofs.Common.{◌≡◌, drop, map}
 use Rattle.eds_tree.specs.Shapes.{is_among}
 use Rattle.eds_tree.proofs.shape.is_among.Given as goal
 
-abbrev pub invariant-loop-rest : goal.invariant-loop-rest
-invariant-loop-rest l = is_among (map (λ p. p.now) l.rest) l.name ≡ is_among (map (λ p. p.now) l.names) l.name
-
-abbrev pub decreases-loop-rest : goal.decreases-loop-rest
-decreases-loop-rest l = length l.rest
+abbrev pub invariant-loop-one : goal.invariant-loop-one
+invariant-loop-one l = is_among (map (λ p. p.now) (drop l.one-index l.names)) l.name ≡ is_among (map (λ p. p.now) l.names) l.name
