@@ -2,6 +2,7 @@
 use Rattle.std.proofs.Common.{◌≡◌, ℕ, zero, suc, ◌+◌, ◌-◌, ◌≤◌, ◌<◌, ◌^◌, min, true, false, cond, List, [], ◌∷◌, ◌++◌, length, get_or, take, drop, map, Result, Ok, Err, Some, refl, sym, ap, ◌∙◌, append_assoc, arith}
 use Rattle.std.specs.Prelude.{slice_get}
 use Rattle.std.specs.List.{AllByRecursion, flat_map}
+use Rattle.std.proofs.lemmas.List.{drop_more}
 use Rattle.eds_base.specs.declared.fault.Step.{Step}
 use Rattle.eds_types.specs.declared.reason.PackReason.{PackReason}
 use Rattle.eds_types.specs.declared.reason.PackReason.TheVariants as reason
@@ -16,7 +17,6 @@ use Rattle.eds_types.specs.Reading.{holds}
 use Rattle.eds_types.specs.Rows.{Table, Placed, constraints_of, placed_entries}
 use Rattle.eds_types.proofs.AllOf.{All-both}
 use Rattle.eds_pack.specs.Counting.{capped, added}
-use Rattle.eds_types.proofs.Paths.{rest_is}
 
 -- ---- numbers
 
@@ -174,18 +174,17 @@ module _ (t : Table) (size : ℕ → Plain → Size) (fs : List Field) (k : ℕ)
   pub stations_stop : (ss rs : List Station) (total : ℕ) (g : PackFault) (whole : Size) → ◌≡◌ {A = Counted} (Err g) (added total (Goes 0 ss)) → added total (Goes 0 (ss ++ rs)) ≡ whole → ◌≡◌ {A = Counted} (Err g) whole
   stations_stop ss rs total g whole e inv = sym (ap (added total) (goes_both ss rs 0 ∙ ap (λ r. after r (λ m. Goes m rs)) (added_err total g (Goes 0 ss) e))) ∙ inv
 
-  -- the first of some constraints holds, or it doesn't
-  pub condition_holds : (y : ℕ) (cs : List Constraint) (d : Constraint) → 0 < length cs → d ≡ get_or cs 0 d → true ≡ holds t fs d → Goes 0 (map (condition y) (take (length cs - 1) (drop 1 cs))) ≡ Goes 0 (map (condition y) cs)
-  condition_holds y [] d lt is h = absurd (omega arith)
-  condition_holds y (c ∷ cs) d lt is h =
-      ap (λ xs. Goes 0 (map (condition y) xs)) (rest_is (c ∷ cs))
-      ∙ sym (ap (λ b. after (cond b (Ok 0) (Err (pack_fault_at reason.Constraint (path_steps c.path)))) (λ n. Goes (0 + n) (map (condition y) cs))) (ap (holds t fs) (sym is) ∙ sym h))
+  -- the constraint at a place holds, or it doesn't
+  pub condition_holds : (y : ℕ) (cs : List Constraint) (i : ℕ) (d : Constraint) → i < length cs → d ≡ get_or cs i d → true ≡ holds t fs d → Goes 0 (map (condition y) (drop (i + 1) cs)) ≡ Goes 0 (map (condition y) (drop i cs))
+  condition_holds y cs i d lt is h =
+      sym (ap (λ b. after (cond b (Ok 0) (Err (pack_fault_at reason.Constraint (path_steps (get_or cs i d).path)))) (λ n. Goes (0 + n) (map (condition y) (drop (i + 1) cs)))) (ap (holds t fs) (sym is) ∙ sym h))
+      ∙ ap (λ xs. Goes 0 (map (condition y) xs)) (sym (drop_more cs i d lt))
 
-  pub condition_fails : (y : ℕ) (cs : List Constraint) (d : Constraint) (path : List Step) → 0 < length cs → d ≡ get_or cs 0 d → false ≡ holds t fs d → path ≡ path_steps d.path → ◌≡◌ {A = Counted} (Err (pack_fault_at reason.Constraint path)) (Goes 0 (map (condition y) cs))
-  condition_fails y [] d path lt is h e = absurd (omega arith)
-  condition_fails y (c ∷ cs) d path lt is h e =
+  pub condition_fails : (y : ℕ) (cs : List Constraint) (i : ℕ) (d : Constraint) (path : List Step) → i < length cs → d ≡ get_or cs i d → false ≡ holds t fs d → path ≡ path_steps d.path → ◌≡◌ {A = Counted} (Err (pack_fault_at reason.Constraint path)) (Goes 0 (map (condition y) (drop i cs)))
+  condition_fails y cs i d path lt is h e =
       ap (λ (p : List Step). Err (pack_fault_at reason.Constraint p)) (e ∙ ap (λ (x : Constraint). path_steps x.path) is)
-      ∙ sym (ap (λ b. after (cond b (Ok 0) (Err (pack_fault_at reason.Constraint (path_steps c.path)))) (λ n. Goes (0 + n) (map (condition y) cs))) (ap (holds t fs) (sym is) ∙ sym h))
+      ∙ sym (ap (λ b. after (cond b (Ok 0) (Err (pack_fault_at reason.Constraint (path_steps (get_or cs i d).path)))) (λ n. Goes (0 + n) (map (condition y) (drop (i + 1) cs)))) (ap (holds t fs) (sym is) ∙ sym h))
+      ∙ ap (λ xs. Goes 0 (map (condition y) xs)) (sym (drop_more cs i d lt))
 
   -- constraints add none
   pub conditions_next : (cs es rs : List Station) (total : ℕ) (whole : Size) → ◌≡◌ {A = Counted} (Ok 0) (Goes 0 cs) → added total (Goes 0 ((cs ++ es) ++ rs)) ≡ whole → added total (Goes 0 (es ++ rs)) ≡ whole

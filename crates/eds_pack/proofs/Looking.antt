@@ -18,8 +18,7 @@ use Rattle.eds_types.proofs.DistinctParts.{Apart, Pairwise, sequence_apart}
 use Rattle.eds_types.proofs.RuleFacts.{table_of}
 use Rattle.eds_types.specs.Seeking.{seek, nth, entries_in_turn, trailers_in_turn}
 use Rattle.eds_types.proofs.FieldsOf.{found}
-use Rattle.eds_types.proofs.Paths.{rest_is}
-use Rattle.eds_types.proofs.Seeking.{by_number}
+use Rattle.eds_types.proofs.Seeking.{along, by_number}
 use Rattle.eds_pack.specs.Seeking.{AreNext, values_in}
 use Rattle.eds_types.proofs.SameValues.{list_of-plains_of}
 
@@ -78,17 +77,15 @@ counted_values t k ids e =
     let d = valued_both (flat_map (placed_entries t) ks) (flat_map (placed_trailers t) (reverse ks)) in
     omega arith
 
--- the parts of the first of some containers, and those of the others
-pub counted_rest : (t : Table) (rest : List TypeId) (d : TypeId) → 0 < length rest
-    → valued (entries_in_turn t rest) + valued (trailers_in_turn t rest) ≡ values_in (entries_of t (get_or rest 0 d).0) + values_in (trailers_of t (get_or rest 0 d).0) + (valued (entries_in_turn t (take (length rest - 1) (drop 1 rest))) + valued (trailers_in_turn t (take (length rest - 1) (drop 1 rest))))
-counted_rest t [] d lt = absurd (omega arith)
-counted_rest t (id ∷ ids) d lt =
-    let a = valued_both (placed_entries t id.0) (entries_in_turn t ids) in
-    let b = valued_both (placed_trailers t id.0) (trailers_in_turn t ids) in
-    let c = valued_is id.0 0 (entries_of t id.0) in
-    let e = valued_is id.0 (length (entries_of t id.0)) (trailers_of t id.0) in
-    let f = ap (λ xs. valued (entries_in_turn t xs)) (rest_is (id ∷ ids)) in
-    let g = ap (λ xs. valued (trailers_in_turn t xs)) (rest_is (id ∷ ids)) in
+-- the parts of the container at a place, and those of the containers behind it
+pub counted_rest : (t : Table) (ids : List TypeId) (i : ℕ) (d : TypeId) → i < length ids
+    → valued (entries_in_turn t (drop i ids)) + valued (trailers_in_turn t (drop i ids)) ≡ values_in (entries_of t (get_or ids i d).0) + values_in (trailers_of t (get_or ids i d).0) + (valued (entries_in_turn t (drop (i + 1) ids)) + valued (trailers_in_turn t (drop (i + 1) ids)))
+counted_rest t ids i d lt =
+    let here = (get_or ids i d).0 in
+    let a = ap valued (along (λ (id : TypeId). placed_entries t id.0) ids i d lt) ∙ valued_both (placed_entries t here) (entries_in_turn t (drop (i + 1) ids)) in
+    let b = ap valued (along (λ (id : TypeId). placed_trailers t id.0) ids i d lt) ∙ valued_both (placed_trailers t here) (trailers_in_turn t (drop (i + 1) ids)) in
+    let c = valued_is here 0 (entries_of t here) in
+    let e = valued_is here (length (entries_of t here)) (trailers_of t here) in
     omega arith
 
 -- ---- parts one after another

@@ -15,7 +15,6 @@ use Rattle.eds_types.specs.Rules.{KeepsRules, IsNested, ConstraintKeeps, Follows
 use Rattle.eds_types.proofs.AllOf.{All-weaker, All-both, All-front, All-back, All-at}
 use Rattle.eds_types.proofs.ReadingTests.{has_from}
 use Rattle.eds_types.specs.Choices.{IsNear}
-use Rattle.eds_types.proofs.Paths.{rest_is}
 use Rattle.eds_pack.specs.Nesting.{IsLow, PartNests}
 
 at_place : {A : Type 0} (P : A → Type 0) (xs : List A) (i : ℕ) (x : A) → AllByRecursion P xs → slice_get xs i ≡ Some x → P x
@@ -27,13 +26,10 @@ unplaced : (P : Part → Type 0) (y i : ℕ) (ps : List Part) → AllByRecursion
 unplaced P y i [] h = tt
 unplaced P y i (p ∷ ps) h = (h.0, unplaced P y (i + 1) ps h.1)
 
-pub first_near : (n : ℕ) (cs : List Constraint) (d : Constraint) → 0 < length cs → AllByRecursion (IsNear n) cs → length (get_or cs 0 d).path ≤ n
-first_near n [] d lt h = absurd (omega arith)
-first_near n (c ∷ cs) d lt h = h.0
-
-pub later_near : (n : ℕ) (cs : List Constraint) → AllByRecursion (IsNear n) cs → AllByRecursion (IsNear n) (take (length cs - 1) (drop 1 cs))
-later_near n [] h = tt
-later_near n (c ∷ cs) h = subst (AllByRecursion (IsNear n)) (sym (rest_is (c ∷ cs))) h.1
+pub near_at : (n : ℕ) (cs : List Constraint) (i : ℕ) (d : Constraint) → i < length cs → AllByRecursion (IsNear n) cs → length (get_or cs i d).path ≤ n
+near_at n [] i d lt h = absurd (omega arith)
+near_at n (c ∷ cs) zero d lt h = h.0
+near_at n (c ∷ cs) (suc i) d lt h = near_at n cs i d (omega arith) h.1
 
 pub steps_length : (path : List (TypeId × ℕ)) (old : List Step) → length (path_steps path ++ old) ≡ length path + length old
 steps_length [] old = omega arith

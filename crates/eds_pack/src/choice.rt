@@ -34,14 +34,12 @@ fn starts_above(table: &TypeTable, id: TypeId, path: &[(TypeId, u16)]) -> bool
 fn meets_own(fields: &Fields<'_>, constraints: &[Constraint]) -> bool
     ensures { result ≡ list_all (meets fields.now.table.now fields.now.own.0 (fields_of fields.now.table.now fields.now.own.0 fields.now.values.now)) constraints.now }
 {
-    let mut rest = constraints;
-    while let [constraint, after @ ..] = rest {
+    for constraint in constraints {
         if starts_above(fields.table, fields.own, constraint.path.as_slice())
             && !holds(fields, constraint)
         {
             return false;
         }
-        rest = after;
     }
     true
 }
@@ -50,12 +48,10 @@ fn meets_own(fields: &Fields<'_>, constraints: &[Constraint]) -> bool
 fn meets_all(fields: &Fields<'_>, chain: &[TypeId]) -> bool
     ensures { result ≡ list_all (meets fields.now.table.now fields.now.own.0 (fields_of fields.now.table.now fields.now.own.0 fields.now.values.now)) (flat_map (constraints_of fields.now.table.now) (numbers_of chain.now)) }
 {
-    let mut rest = chain;
-    while let [one, after @ ..] = rest {
+    for one in chain {
         if !meets_own(fields, fields.table.constraints_of(*one)) {
             return false;
         }
-        rest = after;
     }
     true
 }
@@ -73,12 +69,10 @@ fn fits_under(fields: &Fields<'_>, under: TypeId) -> bool
 fn first_candidate(fields: &Fields<'_>, family: &[TypeId]) -> Option<TypeId>
     ensures { option_map (λ (l : Id). l.0) result ≡ first_of (fits_choice fields.now.table.now fields.now.own.0 (fields_of fields.now.table.now fields.now.own.0 fields.now.values.now)) (numbers_of family.now) }
 {
-    let mut rest = family;
-    while let [under, after @ ..] = rest {
+    for under in family {
         if under.0 != fields.own.0 && fits_under(fields, *under) {
             return Some(*under);
         }
-        rest = after;
     }
     None
 }

@@ -64,13 +64,11 @@ pub(crate) fn check_constraints(
     ensures near { (n : ℕ) → AllByRecursion (IsNear n) constraints.now → length path.new ≤ n }
     ensures calm { OnOk result (path.new ≡ []) }
 {
-    let mut rest = constraints;
-    while let [constraint, after @ ..] = rest {
+    for constraint in constraints {
         if !holds(fields, constraint) {
             put_steps(path, constraint.path.as_slice());
             return Err(PackReason::Constraint);
         }
-        rest = after;
     }
     Ok(())
 }

@@ -40,10 +40,7 @@ fn zero_value(alloc: Global, count: u32) -> Result<Value, Memory>
 fn numbered(number: Option<i128>) -> Option<Value>
     ensures { option_map plain result ≡ option_map num number }
 {
-    match number {
-        Some(number) => Some(Value::Num(number)),
-        None => None,
-    }
+    Some(Value::Num(number?))
 }
 
 /// The first label of a listing.

@@ -38,8 +38,7 @@ fn length_among(parts: &[Part], id: TypeId, first: u16) -> Option<LengthEntry>
     ensures { result ≡ length_among (placed_from id.0 first parts.now) }
 {
     let mut place = first;
-    let mut rest = parts;
-    while let [part, after @ ..] = rest {
+    for part in parts {
         if let Part::Length(_, length, c0, c1) = part {
             return Some(LengthEntry {
                 container: id,
@@ -50,7 +49,6 @@ fn length_among(parts: &[Part], id: TypeId, first: u16) -> Option<LengthEntry>
             });
         }
         place += 1;
-        rest = after;
     }
     None
 }

@@ -25,12 +25,10 @@ fn valued(parts: &[Part]) -> usize
     ensures few { result ≤ length parts.now }
 {
     let mut count = 0;
-    let mut rest = parts;
-    while let [part, after @ ..] = rest {
+    for part in parts {
         if part.has_value() {
             count += 1;
         }
-        rest = after;
     }
     count
 }
@@ -49,10 +47,8 @@ fn valued_along(table: &TypeTable, chain: &[TypeId]) -> usize
     ensures { result ≡ valued_of (entries_in_turn table.now chain.now) + valued_of (trailers_in_turn table.now chain.now) }
 {
     let mut count = 0;
-    let mut rest = chain;
-    while let [id, after @ ..] = rest {
+    for id in chain {
         count += valued(table.entries_of(*id)) + valued(table.trailers_of(*id));
-        rest = after;
     }
     count
 }

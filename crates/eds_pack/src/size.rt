@@ -279,13 +279,8 @@ fn add_chain(
     table.keeps_rules();
     let mut used = 0;
     for id in chain {
-        if let Err(reason) = check_constraints(fields, table.constraints_of(*id), path) {
-            return Err(reason);
-        }
-        match add_parts(fields, (*id, 0), table.entries_of(*id), used, total, path) {
-            Ok(more) => used = more,
-            Err(reason) => return Err(reason),
-        }
+        check_constraints(fields, table.constraints_of(*id), path)?;
+        used = add_parts(fields, (*id, 0), table.entries_of(*id), used, total, path)?;
     }
     total.keeps_bound();
     Ok(used)
@@ -316,17 +311,14 @@ fn add_trailers(
     let mut rest = chain;
     while let [front @ .., id] = rest {
         let first = table.entries_of(*id).len() as u16;
-        match add_parts(
+        used = add_parts(
             fields,
             (*id, first),
             table.trailers_of(*id),
             used,
             total,
             path,
-        ) {
-            Ok(more) => used = more,
-            Err(reason) => return Err(reason),
-        }
+        )?;
         rest = front;
     }
     total.keeps_bound();
@@ -346,20 +338,11 @@ pub(crate) fn own_size(fields: &Fields<'_>, path: &mut Path) -> Result<Tally, Pa
     fields.table.keeps_rules();
     let chain = fields.table.chain_of(fields.own);
     let mut size = Tally::new();
-    let used = match add_chain(fields, chain.as_slice(), &mut size, path) {
-        Ok(used) => used,
-        Err(reason) => return Err(reason),
-    };
-    if let Err(reason) = check_most_derived(fields, path) {
-        return Err(reason);
-    }
-    if let Err(reason) = add_trailers(fields, chain.as_slice(), used, &mut size, path) {
-        return Err(reason);
-    }
-    match check_length(fields, &size, path) {
-        Ok(()) => Ok(size),
-        Err(reason) => Err(reason),
-    }
+    let used = add_chain(fields, chain.as_slice(), &mut size, path)?;
+    check_most_derived(fields, path)?;
+    add_trailers(fields, chain.as_slice(), used, &mut size, path)?;
+    check_length(fields, &size, path)?;
+    Ok(size)
 }
 
 // Adds the bits of the fields of a container where the type `id` is packed.

@@ -1,13 +1,10 @@
-use Rattle.std.proofs.Common.{◌≡◌, ◌+◌, length}
+use Rattle.std.proofs.Common.{◌≡◌, ◌+◌, drop}
 use Rattle.eds_types.specs.Rows.{placed_from}
 use Rattle.eds_pack.specs.Lengths.{length_among}
 use Rattle.eds_pack.proofs.length.length_among.Given as goal
 
-abbrev pub invariant-loop-rest : goal.invariant-loop-rest
-invariant-loop-rest l = record {
-  few : l.place + length l.rest ≡ l.first + length l.parts;
-  sought : length_among (placed_from l.id.0 l.place l.rest) ≡ length_among (placed_from l.id.0 l.first l.parts);
+abbrev pub invariant-loop-part : goal.invariant-loop-part
+invariant-loop-part l = record {
+  few : l.place ≡ l.first + l.part-index;
+  sought : length_among (placed_from l.id.0 l.place (drop l.part-index l.parts)) ≡ length_among (placed_from l.id.0 l.first l.parts);
 }
-
-abbrev pub decreases-loop-rest : goal.decreases-loop-rest
-decreases-loop-rest l = length l.rest

@@ -1,6 +1,7 @@
 use Rattle.std.proofs.Common.{◌+◌, ◌-◌, ◌<◌, ◌≤◌, [], get_or, sym, ap, subst, ◌∙◌, map, drop, length, refl, arith}
 use Rattle.std.specs.List.{AllByRecursion, flat_map}
 use Rattle.std.proofs.lemmas.List.{length-take}
+use Rattle.std.proofs.lemmas.Result.{err_from_is_err_and}
 use Rattle.eds_base.specs.declared.ids.TypeId.{TypeId}
 use Rattle.std.specs.Prelude.{option_map}
 use Rattle.std.specs.Option.{option_copied}
@@ -105,17 +106,19 @@ add_chain-check_constraints-requires-clause-near t c =
     subst (AllByRecursion (IsNear 32)) (sym c.constraints_of.ensures)
     (nearer (n + 1) 32 (constraints_of table (get_or c.args.chain.now c.loop-id.id-index (record { 0 = 0 })).0) (omega (arith, c.requires.few)) (constraints_near table c.keeps_rules.ensures n (get_or c.args.chain.now c.loop-id.id-index (record { 0 = 0 })).0 (low c.keeps_rules.ensures)))
 
-pub add_chain-returns-in-Err-clause-adds : goal.add_chain-returns-in-Err-clause-adds
-add_chain-returns-in-Err-clause-adds t c =
+pub add_chain-returns-in_err-check_constraints-clause-adds : goal.add_chain-returns-in_err-check_constraints-clause-adds
+add_chain-returns-in_err-check_constraints-clause-adds t c =
     let table = c.args.fields.now.table.now in let size = packed_size_within c.args.fields.now.depth table in let k = c.args.fields.now.own.0 in
-    chain_stops table size (fields_of table k c.args.fields.now.values.now) k c.args.chain.now c.loop-id.id-index (record { 0 = 0 }) (omega arith) c.constraints_of.result.now c.loop-id.total _ _ c.constraints_of.ensures
-    (c.in-Err.ensures.adds size k (get_or c.args.chain.now c.loop-id.id-index (record { 0 = 0 })).0) c.loop-id.invariant.rest
+    let p = err_from_is_err_and c.from_residual.result c.from_residual.ensures.1 in
+    rw (p.1, p.2)
+    (chain_stops table size (fields_of table k c.args.fields.now.values.now) k c.args.chain.now c.loop-id.id-index (record { 0 = 0 }) (omega arith) c.constraints_of.result.now c.loop-id.total _ _ c.constraints_of.ensures
+    (c.in_err-check_constraints.ensures.adds size k (get_or c.args.chain.now c.loop-id.id-index (record { 0 = 0 })).0) c.loop-id.invariant.rest)
 
-pub add_chain-returns-in-Err-clause-near : goal.add_chain-returns-in-Err-clause-near
-add_chain-returns-in-Err-clause-near t c =
+pub add_chain-returns-in_err-check_constraints-clause-near : goal.add_chain-returns-in_err-check_constraints-clause-near
+add_chain-returns-in_err-check_constraints-clause-near t c =
     let table = c.args.fields.now.table.now in let n = c.args.fields.now.depth in
     let low = all_at (λ (id : TypeId). IsLow table (n + 1) id.0) c.args.chain.now c.loop-id.id-index (record { 0 = 0 }) (omega arith) c.requires.low in
-    let near = c.in-Err.ensures.near (n + 1) (subst (AllByRecursion (IsNear (n + 1))) (sym c.constraints_of.ensures) (constraints_near table c.keeps_rules.ensures n (get_or c.args.chain.now c.loop-id.id-index (record { 0 = 0 })).0 (low c.keeps_rules.ensures))) in
+    let near = c.in_err-check_constraints.ensures.near (n + 1) (subst (AllByRecursion (IsNear (n + 1))) (sym c.constraints_of.ensures) (constraints_near table c.keeps_rules.ensures n (get_or c.args.chain.now c.loop-id.id-index (record { 0 = 0 })).0 (low c.keeps_rules.ensures))) in
     omega (arith, near)
 
 pub add_chain-add_parts-requires : goal.add_chain-add_parts-requires
@@ -130,28 +133,30 @@ add_chain-add_parts-requires t c =
           omega (arith, c.entries_of.ensures.few),
           (
             entries_next table size (fields_of table k c.args.fields.now.values.now) k c.args.chain.now c.loop-id.id-index (record { 0 = 0 }) (omega arith) f c.loop-id.used c.entries_of.result.now c.entries_of.ensures.value c.loop-id.invariant.next,
-            (omega (arith, c.loop-id.invariant.few, c.requires.short), (c.requires.few, c.in_default.ensures.calm)),
+            (omega (arith, c.loop-id.invariant.few, c.requires.short), (c.requires.few, c.in_ok-check_constraints.ensures.calm)),
           ),
         ),
       ),
     )
 
-pub add_chain-returns-in-Err-add_parts-clause-adds : goal.add_chain-returns-in-Err-add_parts-clause-adds
-add_chain-returns-in-Err-add_parts-clause-adds t c =
+pub add_chain-returns-in_err-used-clause-adds : goal.add_chain-returns-in_err-used-clause-adds
+add_chain-returns-in_err-used-clause-adds t c =
     let table = c.args.fields.now.table.now in let size = packed_size_within c.args.fields.now.depth table in let k = c.args.fields.now.own.0 in
-    entries_stop table size (fields_of table k c.args.fields.now.values.now) k c.args.chain.now c.loop-id.id-index (record { 0 = 0 }) (omega arith) c.constraints_of.result.now c.entries_of.result.now c.loop-id.total _ _ c.constraints_of.ensures c.entries_of.ensures.value
-    (c.in_default.ensures.adds size k (get_or c.args.chain.now c.loop-id.id-index (record { 0 = 0 })).0) c.in-Err-add_parts.ensures.adds c.loop-id.invariant.rest
+    let p = err_from_is_err_and c.from_residual-in_err-used.result c.from_residual-in_err-used.ensures.1 in
+    rw (p.1, p.2)
+    (entries_stop table size (fields_of table k c.args.fields.now.values.now) k c.args.chain.now c.loop-id.id-index (record { 0 = 0 }) (omega arith) c.constraints_of.result.now c.entries_of.result.now c.loop-id.total _ _ c.constraints_of.ensures c.entries_of.ensures.value
+    (c.in_ok-check_constraints.ensures.adds size k (get_or c.args.chain.now c.loop-id.id-index (record { 0 = 0 })).0) c.in_err-used.ensures.adds c.loop-id.invariant.rest)
 
 pub add_chain-loop-id-preserved : goal.add_chain-loop-id-preserved
 add_chain-loop-id-preserved t c =
     let table = c.args.fields.now.table.now in let size = packed_size_within c.args.fields.now.depth table in let k = c.args.fields.now.own.0 in let fs = fields_of table k c.args.fields.now.values.now in let f = map plain c.args.fields.now.values.now in
     let ids = c.args.chain.now in let i = c.loop-id.id-index in let es = c.entries_of.result.now in
     record {
-      rest = chain_next table size fs k ids i (record { 0 = 0 }) (omega arith) c.constraints_of.result.now es c.loop-id.total c.add_parts.new.total _ c.constraints_of.ensures c.entries_of.ensures.value (c.in_default.ensures.adds size k (get_or ids i (record { 0 = 0 })).0) c.in-Ok.ensures.adds c.loop-id.invariant.rest;
-      next = entries_used table size fs k ids i (record { 0 = 0 }) (omega arith) f c.loop-id.used c.in-Ok.more es c.entries_of.ensures.value c.in-Ok.ensures.used c.loop-id.invariant.next;
-      used = omega (arith, c.loop-id.invariant.used, entries_count table size fs k ids i (record { 0 = 0 }) (omega arith) c.loop-id.used c.in-Ok.more es c.entries_of.ensures.value c.in-Ok.ensures.used);
-      few = omega (arith, c.loop-id.invariant.few, c.in-Ok.ensures.used, values_few es, c.entries_of.ensures.few);
-      root = c.in-Ok.ensures.calm;
+      rest = chain_next table size fs k ids i (record { 0 = 0 }) (omega arith) c.constraints_of.result.now es c.loop-id.total c.add_parts.new.total _ c.constraints_of.ensures c.entries_of.ensures.value (c.in_ok-check_constraints.ensures.adds size k (get_or ids i (record { 0 = 0 })).0) c.in_ok-used.ensures.adds c.loop-id.invariant.rest;
+      next = entries_used table size fs k ids i (record { 0 = 0 }) (omega arith) f c.loop-id.used c.in_ok-used.used es c.entries_of.ensures.value c.in_ok-used.ensures.used c.loop-id.invariant.next;
+      used = omega (arith, c.loop-id.invariant.used, entries_count table size fs k ids i (record { 0 = 0 }) (omega arith) c.loop-id.used c.in_ok-used.used es c.entries_of.ensures.value c.in_ok-used.ensures.used);
+      few = omega (arith, c.loop-id.invariant.few, c.in_ok-used.ensures.used, values_few es, c.entries_of.ensures.few);
+      root = c.in_ok-used.ensures.calm;
     }
 
 pub add_trailers-add_parts-requires : goal.add_trailers-add_parts-requires
@@ -172,10 +177,12 @@ add_trailers-add_parts-requires t c =
       ),
     )
 
-pub add_trailers-returns-in-Err-clause-adds : goal.add_trailers-returns-in-Err-clause-adds
-add_trailers-returns-in-Err-clause-adds t c =
+pub add_trailers-returns-in_err-used-clause-adds : goal.add_trailers-returns-in_err-used-clause-adds
+add_trailers-returns-in_err-used-clause-adds t c =
     let table = c.args.fields.now.table.now in let size = packed_size_within c.args.fields.now.depth table in let k = c.args.fields.now.own.0 in
-    trailers_stop table size (fields_of table k c.args.fields.now.values.now) k c.loop-rest.rest.now (record { 0 = 0 }) (omega arith) c.entries_of.result.now c.trailers_of.result.now c.loop-rest.total _ _ c.entries_of.ensures.value c.trailers_of.ensures.value c.in-Err.ensures.adds c.loop-rest.invariant.rest
+    let p = err_from_is_err_and c.from_residual.result c.from_residual.ensures.1 in
+    rw (p.1, p.2)
+    (trailers_stop table size (fields_of table k c.args.fields.now.values.now) k c.loop-rest.rest.now (record { 0 = 0 }) (omega arith) c.entries_of.result.now c.trailers_of.result.now c.loop-rest.total _ _ c.entries_of.ensures.value c.trailers_of.ensures.value c.in_err-used.ensures.adds c.loop-rest.invariant.rest)
 
 pub add_trailers-loop-rest-preserved : goal.add_trailers-loop-rest-preserved
 add_trailers-loop-rest-preserved t c =
@@ -183,12 +190,12 @@ add_trailers-loop-rest-preserved t c =
     let ids = c.loop-rest.rest.now in let es = c.entries_of.result.now in let ts = c.trailers_of.result.now in
     let shorter = length-take (length ids - 1) ids in
     record {
-      rest = trailers_next table size fs k ids (record { 0 = 0 }) (omega arith) es ts c.loop-rest.total c.add_parts.new.total _ c.entries_of.ensures.value c.trailers_of.ensures.value c.in-Ok.ensures.adds c.loop-rest.invariant.rest;
-      next = above_next table size fs k ids (record { 0 = 0 }) (omega arith) f c.loop-rest.used c.in-Ok.more ts c.trailers_of.ensures.value c.in-Ok.ensures.used c.loop-rest.invariant.next;
+      rest = trailers_next table size fs k ids (record { 0 = 0 }) (omega arith) es ts c.loop-rest.total c.add_parts.new.total _ c.entries_of.ensures.value c.trailers_of.ensures.value c.in_ok-used.ensures.adds c.loop-rest.invariant.rest;
+      next = above_next table size fs k ids (record { 0 = 0 }) (omega arith) f c.loop-rest.used c.in_ok-used.used ts c.trailers_of.ensures.value c.in_ok-used.ensures.used c.loop-rest.invariant.next;
       low = all_take (λ (id : TypeId). IsLow table (n + 1) id.0) (length ids - 1) ids c.loop-rest.invariant.low;
       less = omega (arith, shorter, c.loop-rest.invariant.less);
-      few = omega (arith, shorter, c.loop-rest.invariant.few, c.in-Ok.ensures.used, values_few ts, c.trailers_of.ensures.few);
-      root = c.in-Ok.ensures.calm;
+      few = omega (arith, shorter, c.loop-rest.invariant.few, c.in_ok-used.ensures.used, values_few ts, c.trailers_of.ensures.few);
+      root = c.in_ok-used.ensures.calm;
     }
 
 -- ---- the fields of a container
@@ -200,18 +207,22 @@ own_size-add_chain-requires t c =
     let short : length c.as_slice.result.now ≤ 16 = omega (arith, ap length c.as_slice.ensures.value, c.as_slice.ensures.few) in
     (omega arith, (chain_is_low table (c.args.fields.now.depth + 1) k c.as_slice.result.now c.requires.low is, (short, (first_next table c.keeps_rules.ensures k f c.as_slice.result.now is, (c.requires.few, c.requires.root)))))
 
-pub own_size-returns-in-Err-clause-size : goal.own_size-returns-in-Err-clause-size
-own_size-returns-in-Err-clause-size t c =
+pub own_size-returns-in_err-used-clause-size : goal.own_size-returns-in_err-used-clause-size
+own_size-returns-in_err-used-clause-size t c =
     let table = c.args.fields.now.table.now in let n = c.args.fields.now.depth in let k = c.args.fields.now.own.0 in let f = map plain c.args.fields.now.values.now in
-    first_stops table c.keeps_rules.ensures n k c.requires.low f c.new-size.result _
-    (c.in-Err.ensures.adds ∙ ap (λ ys. added c.new-size.result (stations_size table (packed_size_within n table) (paired (sequence table k) f) k 0 (flat_map (own_stations table) ys))) (numbers_are c.as_slice.result.now (chain table k) (c.as_slice.ensures.value ∙ c.chain_of-chain.ensures)))
+    let p = err_from_is_err_and c.from_residual.result c.from_residual.ensures.1 in
+    rw (p.1, p.2)
+    (first_stops table c.keeps_rules.ensures n k c.requires.low f c.new-size.result _
+    (c.in_err-used.ensures.adds ∙ ap (λ ys. added c.new-size.result (stations_size table (packed_size_within n table) (paired (sequence table k) f) k 0 (flat_map (own_stations table) ys))) (numbers_are c.as_slice.result.now (chain table k) (c.as_slice.ensures.value ∙ c.chain_of-chain.ensures))))
 
-pub own_size-returns-in-Err-check_most_derived-clause-size : goal.own_size-returns-in-Err-check_most_derived-clause-size
-own_size-returns-in-Err-check_most_derived-clause-size t c =
+pub own_size-returns-in_err-check_most_derived-clause-size : goal.own_size-returns-in_err-check_most_derived-clause-size
+own_size-returns-in_err-check_most_derived-clause-size t c =
     let table = c.args.fields.now.table.now in let n = c.args.fields.now.depth in let k = c.args.fields.now.own.0 in let f = map plain c.args.fields.now.values.now in
-    choice_stops table c.keeps_rules.ensures n k c.requires.low f c.new-size.result c.add_chain.new.total _
-    (c.in-Ok.ensures.adds ∙ ap (λ ys. added c.new-size.result (stations_size table (packed_size_within n table) (paired (sequence table k) f) k 0 (flat_map (own_stations table) ys))) (numbers_are c.as_slice.result.now (chain table k) (c.as_slice.ensures.value ∙ c.chain_of-chain.ensures)))
-    (c.in-Err-check_most_derived.ensures.adds (packed_size_within n table))
+    let p = err_from_is_err_and c.from_residual-in_err-check_most_derived.result c.from_residual-in_err-check_most_derived.ensures.1 in
+    rw (p.1, p.2)
+    (choice_stops table c.keeps_rules.ensures n k c.requires.low f c.new-size.result c.add_chain.new.total _
+    (c.in_ok-used.ensures.adds ∙ ap (λ ys. added c.new-size.result (stations_size table (packed_size_within n table) (paired (sequence table k) f) k 0 (flat_map (own_stations table) ys))) (numbers_are c.as_slice.result.now (chain table k) (c.as_slice.ensures.value ∙ c.chain_of-chain.ensures)))
+    (c.in_err-check_most_derived.ensures.adds (packed_size_within n table)))
 
 pub own_size-add_trailers-requires : goal.own_size-add_trailers-requires
 own_size-add_trailers-requires t c =
@@ -223,35 +234,39 @@ own_size-add_trailers-requires t c =
       omega arith,
       (
         chain_is_low table (c.args.fields.now.depth + 1) k c.as_slice-2.result.now c.requires.low again,
-        (short, (last_next table c.keeps_rules.ensures k f c.as_slice.result.now is c.in-Ok.used c.as_slice-2.result.now c.in-Ok.ensures.used.0 again, (omega (arith, first, c.in-Ok.ensures.used.1), (c.requires.few, c.in_default.ensures.calm)))),
+        (short, (last_next table c.keeps_rules.ensures k f c.as_slice.result.now is c.in_ok-used.used c.as_slice-2.result.now c.in_ok-used.ensures.used.0 again, (omega (arith, first, c.in_ok-used.ensures.used.1), (c.requires.few, c.in_ok-check_most_derived.ensures.calm)))),
       ),
     )
 
-pub own_size-returns-in-Err-add_trailers-clause-size : goal.own_size-returns-in-Err-add_trailers-clause-size
-own_size-returns-in-Err-add_trailers-clause-size t c =
+pub own_size-returns-in_err-add_trailers-clause-size : goal.own_size-returns-in_err-add_trailers-clause-size
+own_size-returns-in_err-add_trailers-clause-size t c =
     let table = c.args.fields.now.table.now in let n = c.args.fields.now.depth in let k = c.args.fields.now.own.0 in let f = map plain c.args.fields.now.values.now in
-    others_stop table c.keeps_rules.ensures n k c.requires.low f c.new-size.result c.add_chain.new.total _
-    (c.in-Ok.ensures.adds ∙ ap (λ ys. added c.new-size.result (stations_size table (packed_size_within n table) (paired (sequence table k) f) k 0 (flat_map (own_stations table) ys))) (numbers_are c.as_slice.result.now (chain table k) (c.as_slice.ensures.value ∙ c.chain_of-chain.ensures)))
-    (c.in_default.ensures.adds (packed_size_within n table))
-    (c.in-Err-add_trailers.ensures.adds ∙ ap (λ ps. added c.add_chain.new.total (stations_size table (packed_size_within n table) (paired (sequence table k) f) k 0 (map entry ps))) (trailers_are table k c.as_slice-2.result.now (c.as_slice-2.ensures.value ∙ c.chain_of-chain.ensures)))
+    let p = err_from_is_err_and c.from_residual-in_err-add_trailers.result c.from_residual-in_err-add_trailers.ensures.1 in
+    rw (p.1, p.2)
+    (others_stop table c.keeps_rules.ensures n k c.requires.low f c.new-size.result c.add_chain.new.total _
+    (c.in_ok-used.ensures.adds ∙ ap (λ ys. added c.new-size.result (stations_size table (packed_size_within n table) (paired (sequence table k) f) k 0 (flat_map (own_stations table) ys))) (numbers_are c.as_slice.result.now (chain table k) (c.as_slice.ensures.value ∙ c.chain_of-chain.ensures)))
+    (c.in_ok-check_most_derived.ensures.adds (packed_size_within n table))
+    (c.in_err-add_trailers.ensures.adds ∙ ap (λ ps. added c.add_chain.new.total (stations_size table (packed_size_within n table) (paired (sequence table k) f) k 0 (map entry ps))) (trailers_are table k c.as_slice-2.result.now (c.as_slice-2.ensures.value ∙ c.chain_of-chain.ensures))))
 
-pub own_size-returns-in-Ok-check_length-clause-size : goal.own_size-returns-in-Ok-check_length-clause-size
-own_size-returns-in-Ok-check_length-clause-size t c =
+pub own_size-returns-clause-size : goal.own_size-returns-clause-size
+own_size-returns-clause-size t c =
     let table = c.args.fields.now.table.now in let n = c.args.fields.now.depth in let k = c.args.fields.now.own.0 in let f = map plain c.args.fields.now.values.now in
     all_pass table c.keeps_rules.ensures n k c.requires.low f c.new-size.result c.add_chain.new.total c.add_trailers.new.total c.new-size.ensures
-    (c.in-Ok.ensures.adds ∙ ap (λ ys. added c.new-size.result (stations_size table (packed_size_within n table) (paired (sequence table k) f) k 0 (flat_map (own_stations table) ys))) (numbers_are c.as_slice.result.now (chain table k) (c.as_slice.ensures.value ∙ c.chain_of-chain.ensures)))
-    (c.in_default.ensures.adds (packed_size_within n table))
-    (c.in_default-add_trailers.ensures.adds ∙ ap (λ ps. added c.add_chain.new.total (stations_size table (packed_size_within n table) (paired (sequence table k) f) k 0 (map entry ps))) (trailers_are table k c.as_slice-2.result.now (c.as_slice-2.ensures.value ∙ c.chain_of-chain.ensures)))
-    c.in-Ok-check_length.ensures.adds
+    (c.in_ok-used.ensures.adds ∙ ap (λ ys. added c.new-size.result (stations_size table (packed_size_within n table) (paired (sequence table k) f) k 0 (flat_map (own_stations table) ys))) (numbers_are c.as_slice.result.now (chain table k) (c.as_slice.ensures.value ∙ c.chain_of-chain.ensures)))
+    (c.in_ok-check_most_derived.ensures.adds (packed_size_within n table))
+    (c.in_ok-add_trailers.ensures.adds ∙ ap (λ ps. added c.add_chain.new.total (stations_size table (packed_size_within n table) (paired (sequence table k) f) k 0 (map entry ps))) (trailers_are table k c.as_slice-2.result.now (c.as_slice-2.ensures.value ∙ c.chain_of-chain.ensures)))
+    c.in_ok-check_length.ensures.adds
 
-pub own_size-returns-in-Err-check_length-clause-size : goal.own_size-returns-in-Err-check_length-clause-size
-own_size-returns-in-Err-check_length-clause-size t c =
+pub own_size-returns-in_err-check_length-clause-size : goal.own_size-returns-in_err-check_length-clause-size
+own_size-returns-in_err-check_length-clause-size t c =
     let table = c.args.fields.now.table.now in let n = c.args.fields.now.depth in let k = c.args.fields.now.own.0 in let f = map plain c.args.fields.now.values.now in
-    end_stops table c.keeps_rules.ensures n k c.requires.low f c.new-size.result c.add_chain.new.total c.add_trailers.new.total c.new-size.ensures
-    (c.in-Ok.ensures.adds ∙ ap (λ ys. added c.new-size.result (stations_size table (packed_size_within n table) (paired (sequence table k) f) k 0 (flat_map (own_stations table) ys))) (numbers_are c.as_slice.result.now (chain table k) (c.as_slice.ensures.value ∙ c.chain_of-chain.ensures)))
-    (c.in_default.ensures.adds (packed_size_within n table))
-    (c.in_default-add_trailers.ensures.adds ∙ ap (λ ps. added c.add_chain.new.total (stations_size table (packed_size_within n table) (paired (sequence table k) f) k 0 (map entry ps))) (trailers_are table k c.as_slice-2.result.now (c.as_slice-2.ensures.value ∙ c.chain_of-chain.ensures)))
-    _ c.in-Err-check_length.ensures.adds
+    let p = err_from_is_err_and c.from_residual-in_err-check_length.result c.from_residual-in_err-check_length.ensures.1 in
+    rw (p.1, p.2)
+    (end_stops table c.keeps_rules.ensures n k c.requires.low f c.new-size.result c.add_chain.new.total c.add_trailers.new.total c.new-size.ensures
+    (c.in_ok-used.ensures.adds ∙ ap (λ ys. added c.new-size.result (stations_size table (packed_size_within n table) (paired (sequence table k) f) k 0 (flat_map (own_stations table) ys))) (numbers_are c.as_slice.result.now (chain table k) (c.as_slice.ensures.value ∙ c.chain_of-chain.ensures)))
+    (c.in_ok-check_most_derived.ensures.adds (packed_size_within n table))
+    (c.in_ok-add_trailers.ensures.adds ∙ ap (λ ps. added c.add_chain.new.total (stations_size table (packed_size_within n table) (paired (sequence table k) f) k 0 (map entry ps))) (trailers_are table k c.as_slice-2.result.now (c.as_slice-2.ensures.value ∙ c.chain_of-chain.ensures)))
+    _ c.in_err-check_length.ensures.adds)
 
 pub add_fields-own_size-requires : goal.add_fields-own_size-requires
 add_fields-own_size-requires t c = (omega arith, (under_low c.args.fields.now.table.now (c.args.fields.now.depth + 1) c.args.id.0 c.args.fields.now.own.0 c.requires.low (sym c.is_under.ensures ∙ c.if-not-is_under.false), (c.requires.few, c.requires.root)))
