@@ -14,12 +14,9 @@ use eds_base::{Spans, TypeId};
 fn labelled(row: Option<&TypeRow>, label: &str) -> Option<i128>
     ensures { result ≡ labelled (option_copied row.entry) label.now }
 {
-    match row {
-        Some(row) => match &row.kind {
-            Kind::Enum(_, listing) => number_of_label(listing.as_slice(), label),
-            _ => None,
-        },
-        None => None,
+    match &row?.kind {
+        Kind::Enum(_, listing) => number_of_label(listing.as_slice(), label),
+        _ => None,
     }
 }
 

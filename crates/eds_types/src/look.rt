@@ -20,10 +20,7 @@ pub(crate) fn row_of(rows: &[TypeRow], id: TypeId) -> Option<&TypeRow>
 pub(crate) fn base_of(rows: &[TypeRow], id: TypeId) -> Option<TypeId>
     ensures { result ≡ base_id_in (slice_get rows.now id.0) }
 {
-    match row_of(rows, id) {
-        Some(row) => row.base,
-        None => None,
-    }
+    row_of(rows, id)?.base
 }
 
 /// The container of a kind.
@@ -40,10 +37,7 @@ pub(crate) fn container_by(kind: &Kind) -> Option<&Container>
 pub(crate) fn container_of(rows: &[TypeRow], id: TypeId) -> Option<&Container>
     ensures { option_copied result ≡ container_of rows.now id.0 }
 {
-    match row_of(rows, id) {
-        Some(row) => container_by(&row.kind),
-        None => None,
-    }
+    container_by(&row_of(rows, id)?.kind)
 }
 
 /// The numbers of an integer type or sub-range.
@@ -60,10 +54,7 @@ pub(crate) fn domain_by(kind: &Kind) -> Option<&Spans>
 pub(crate) fn domain_of(rows: &[TypeRow], id: TypeId) -> Option<&Spans>
     ensures { option_copied result ≡ int_domain rows.now id.0 }
 {
-    match row_of(rows, id) {
-        Some(row) => domain_by(&row.kind),
-        None => None,
-    }
+    domain_by(&row_of(rows, id)?.kind)
 }
 
 /// The entries of a container; any other type has none.

@@ -20,12 +20,8 @@ pub(crate) fn push_places(
     requires { first + length parts.now < 2 ^ 16 }
     ensures { OnOk result (sequence.new ≡ sequence.old ++ map address (placed_from id.0 first parts.now)) }
 {
-    let mut place = first;
-    let mut rest = parts;
-    while let [_, after @ ..] = rest {
-        sequence.push((id, place))?;
-        place += 1;
-        rest = after;
+    for (i, _) in parts.iter().enumerate() {
+        sequence.push((id, first + i as u16))?;
     }
     Ok(())
 }

@@ -48,10 +48,8 @@ fn least_number(spans: &Spans) -> u32
     ensures { result ≡ least_number spans.now }
 {
     let mut least = NO_SIZE;
-    let mut rest = spans.as_slice();
-    while let [span, after @ ..] = rest {
+    for span in spans.as_slice() {
         least = least_in(span).min(u128::from(least)) as u32;
-        rest = after;
     }
     least
 }
@@ -160,13 +158,11 @@ fn chain_size(own: &[u32], chain: &[TypeId]) -> u32
 fn lower(families: &mut [u32], chain: &[TypeId], size: u32)
     ensures { EachIndex families.old (λ id. slice_index families.new id ≡ lowered size chain.now id (slice_index families.old id)) }
 {
-    let mut rest = chain;
-    while let [id, after @ ..] = rest {
+    for id in chain {
         let at = id.0 as usize;
         if at < families.len() {
             families[at] = families[at].min(size);
         }
-        rest = after;
     }
 }
 

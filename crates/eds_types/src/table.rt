@@ -162,10 +162,8 @@ impl TypeTable {
     fn push_entries(&self, sequence: &mut Sequence, chain: &[TypeId]) -> Result<(), Memory>
         ensures { OnOk result (sequence.new ≡ sequence.old ++ flat_map (entry_places self.now) chain.now) }
     {
-        let mut rest = chain;
-        while let [id, after @ ..] = rest {
+        for id in chain {
             push_places(sequence, *id, 0, self.entries_of(*id))?;
-            rest = after;
         }
         Ok(())
     }

@@ -34,12 +34,10 @@ fn number_value(spans: &Spans, text: &str) -> Option<Value>
 pub fn number_of_label(listing: &[(Text, i128)], label: &str) -> Option<i128>
     ensures { result ≡ listed listing.now label.now }
 {
-    let mut rest = listing;
-    while let [(name, number), after @ ..] = rest {
+    for (name, number) in listing {
         if name.as_str() == label {
             return Some(*number);
         }
-        rest = after;
     }
     None
 }
@@ -56,10 +54,7 @@ fn label_value(alloc: Global, listing: &Listing, text: &str) -> Result<Option<Va
 fn truth_value(text: &str) -> Option<Value>
     ensures { option_map plain result ≡ truth_value_of text.now }
 {
-    match flag_value(text) {
-        Some(truth) => Some(Value::Bool(truth)),
-        None => None,
-    }
+    Some(Value::Bool(flag_value(text)?))
 }
 
 fn is_coded(ascii: bool, text: &str) -> bool

@@ -10,12 +10,10 @@ use eds_base::TypeId;
 pub fn is_among(ids: &[TypeId], id: TypeId) -> bool
     ensures { result ≡ list_has (numbers_of ids.now) id.0 }
 {
-    let mut rest = ids;
-    while let [first, after @ ..] = rest {
-        if first.0 == id.0 {
+    for one in ids {
+        if one.0 == id.0 {
             return true;
         }
-        rest = after;
     }
     false
 }

@@ -1,9 +1,6 @@
-use Rattle.std.proofs.Common.{◌≡◌, length}
+use Rattle.std.proofs.Common.{◌≡◌, drop}
 use Rattle.eds_types.specs.Fields.{listed}
 use Rattle.eds_types.proofs.texts.number_of_label.Given as goal
 
-abbrev pub invariant-loop-rest : goal.invariant-loop-rest
-invariant-loop-rest l = listed l.rest l.label ≡ listed l.listing l.label
-
-abbrev pub decreases-loop-rest : goal.decreases-loop-rest
-decreases-loop-rest l = length l.rest
+abbrev pub invariant-loop-name : goal.invariant-loop-name
+invariant-loop-name l = listed (drop l.name-index l.listing) l.label ≡ listed l.listing l.label

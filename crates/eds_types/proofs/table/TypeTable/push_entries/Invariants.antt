@@ -1,10 +1,7 @@
-use Rattle.std.proofs.Common.{◌≡◌, ◌++◌, length}
+use Rattle.std.proofs.Common.{◌≡◌, ◌++◌, drop}
 use Rattle.std.specs.List.{flat_map}
 use Rattle.eds_types.specs.Rows.{entry_places}
 use Rattle.eds_types.proofs.table.TypeTable.push_entries.Given as goal
 
-abbrev pub invariant-loop-rest : goal.invariant-loop-rest
-invariant-loop-rest l = l.sequence ++ flat_map (entry_places l.self) l.rest ≡ l.initial.sequence ++ flat_map (entry_places l.self) l.chain
-
-abbrev pub decreases-loop-rest : goal.decreases-loop-rest
-decreases-loop-rest l = length l.rest
+abbrev pub invariant-loop-id : goal.invariant-loop-id
+invariant-loop-id l = l.sequence ++ flat_map (entry_places l.self) (drop l.id-index l.chain) ≡ l.initial.sequence ++ flat_map (entry_places l.self) l.chain
