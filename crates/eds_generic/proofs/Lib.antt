@@ -15,3 +15,6 @@ pub mod Endless
 pub mod ReadingFacts
 pub mod InTurn
 pub mod UseLaws
+pub mod Lists
+pub mod Carried
+pub mod NamedTypes

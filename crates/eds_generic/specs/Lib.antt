@@ -12,3 +12,4 @@ pub mod EachOnce
 pub mod Sameness
 pub mod Sheets
 pub mod Uses
+pub mod NamedTypes
