@@ -73,10 +73,7 @@ fn level_of(sheet: &FaceSheet, id: FaceId) -> Level
 fn planned(ends: &[EndPlan], number: Option<usize>) -> Option<&EndPlan>
     ensures { option_copied result ≡ at_number ends.now number }
 {
-    match number {
-        None => None,
-        Some(number) => ends.get(number),
-    }
+    ends.get(number?)
 }
 
 /// An end, after these of its component.

@@ -111,10 +111,7 @@ fn parameter_among(members: &[Member], name: &str) -> Option<usize>
 fn parameter_of(end: Option<&EndPlan>, name: &str) -> Option<usize>
     ensures { result ≡ parameter_of_end (option_copied end.entry) name.now }
 {
-    match end {
-        None => None,
-        Some(end) => parameter_among(end.instance.members.as_slice(), name),
-    }
+    parameter_among(end?.instance.members.as_slice(), name)
 }
 
 fn mapping_at(held: &Held, tree: &Tree, node: u32) -> Mapping
@@ -122,13 +119,10 @@ fn mapping_at(held: &Held, tree: &Tree, node: u32) -> Mapping
 {
     let face = held.end_names.position(text_of(tree, node, "interface"));
     let parameter = text_of(tree, node, "parameter");
-    let member = match face {
-        None => None,
-        Some(at) => parameter_of(held.ends.get(at), parameter),
-    };
+    let end = face.and_then(|at| held.ends.get(at));
     Mapping {
         face,
-        member,
+        member: parameter_of(end, parameter),
         variable: held
             .variable_names
             .position(text_of(tree, node, "variableRef")),
@@ -178,31 +172,20 @@ fn lacks_write(
 fn end_of<'a>(held: &Held<'a>, mapping: Mapping) -> Option<&'a EndPlan>
     ensures { option_copied result ≡ end_of_mapping held.now.ends.now held.now.variables.now mapping }
 {
-    match mapping.face {
-        None => None,
-        Some(at) => held.ends.get(at),
-    }
+    held.ends.get(mapping.face?)
 }
 
 fn member_of<'a>(held: &Held<'a>, mapping: Mapping) -> Option<&'a Member>
     ensures { option_copied result ≡ member_of_mapping held.now.ends.now held.now.variables.now mapping }
 {
-    match end_of(held, mapping) {
-        None => None,
-        Some(end) => match mapping.member {
-            None => None,
-            Some(at) => end.instance.members.get(at),
-        },
-    }
+    let end = end_of(held, mapping)?;
+    end.instance.members.get(mapping.member?)
 }
 
 fn variable_of<'a>(held: &Held<'a>, mapping: Mapping) -> Option<&'a VariableHead>
     ensures { option_copied result ≡ variable_of_mapping held.now.ends.now held.now.variables.now mapping }
 {
-    match mapping.variable {
-        None => None,
-        Some(at) => held.variables.get(at),
-    }
+    held.variables.get(mapping.variable?)
 }
 
 fn is_bad(held: &Held, second: bool, mapping: Mapping) -> bool
