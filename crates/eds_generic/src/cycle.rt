@@ -36,19 +36,13 @@ fn graph_of(alloc: Global, faces: &[Face]) -> Result<Graph, Memory>
 fn is_circular(courses: &[Course], id: usize) -> bool
     ensures { result ≡ circular_at courses.now id }
 {
-    match courses.get(id) {
-        None => false,
-        Some(course) => course.is_on_circle(),
-    }
+    courses.get(id).is_some_and(|course| course.is_on_circle())
 }
 
 fn is_marked(marks: &[bool], id: usize) -> bool
     ensures { result ≡ marked_at marks.now id }
 {
-    match marks.get(id) {
-        None => false,
-        Some(mark) => *mark,
-    }
+    marks.get(id).copied().unwrap_or(false)
 }
 
 fn cycle_of(at: Place) -> Refusal

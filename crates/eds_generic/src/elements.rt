@@ -111,10 +111,8 @@ pub fn type_found(
 ) -> Result<Option<TypeId>, Memory>
     ensures { IfOk result (λ id. id ≡ type_found_by space.now at text.now) }
 {
-    match space.look_up(alloc, at, text)? {
-        None => Ok(None),
-        Some(item) => Ok(type_of(item)),
-    }
+    let item = space.look_up(alloc, at, text)?;
+    Ok(item.and_then(type_of))
 }
 
 /// The interface that a reference from a place finds.
@@ -126,10 +124,8 @@ pub fn face_found(
 ) -> Result<Option<FaceId>, Memory>
     ensures { IfOk result (λ id. id ≡ face_found_by space.now at text.now) }
 {
-    match space.look_up(alloc, at, text)? {
-        None => Ok(None),
-        Some(item) => Ok(face_of(item)),
-    }
+    let item = space.look_up(alloc, at, text)?;
+    Ok(item.and_then(face_of))
 }
 
 /// Whether an element is read-only.

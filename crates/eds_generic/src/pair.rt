@@ -194,27 +194,15 @@ fn same_types(one: &[Bound], other: &[Bound]) -> bool
 fn is_held(further: &[Further], one: &Further) -> bool
     ensures { result ≡ list_any (is_same_further one.now) further.now }
 {
-    let mut rest = further;
-    while let [other, after @ ..] = rest {
-        if one.name.as_str() == other.name.as_str() && same_bound(one.bound, other.bound) {
-            return true;
-        }
-        rest = after;
-    }
-    false
+    further.iter().any(|other| {
+        one.name.as_str() == other.name.as_str() && same_bound(one.bound, other.bound)
+    })
 }
 
 fn all_within(more: &[Further], less: &[Further]) -> bool
     ensures { result ≡ are_within more.now less.now }
 {
-    let mut rest = less;
-    while let [one, after @ ..] = rest {
-        if !is_held(more, one) {
-            return false;
-        }
-        rest = after;
-    }
-    true
+    less.iter().all(|one| is_held(more, one))
 }
 
 /// Whether two are one interface under one map: the order of a map's names is none of its own.

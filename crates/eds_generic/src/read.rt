@@ -68,10 +68,7 @@ fn generics_of(alloc: Global, file: &File, nodes: &[u32]) -> Result<Vec<Generic>
 fn type_or_zero(id: Option<TypeId>) -> TypeId
     ensures { result ≡ type_or_first id }
 {
-    match id {
-        Some(id) => id,
-        None => TypeId(0),
-    }
+    id.unwrap_or(TypeId(0))
 }
 
 fn source_named(
@@ -102,10 +99,8 @@ fn source_of(alloc: Global, file: &File, own: &NameList, node: u32) -> Result<So
 fn position_in(all: &[NameList], id: FaceId, name: &str) -> Option<usize>
     ensures { result ≡ place_among (names_among all.now id) name.now }
 {
-    match all.get(id.0 as usize) {
-        None => None,
-        Some(names) => names.position(name),
-    }
+    let names = all.get(id.0 as usize)?;
+    names.position(name)
 }
 
 fn mapped_of(

@@ -119,9 +119,8 @@ pub fn instance(alloc: Global, faces: &[Face], used: &FaceUse) -> Result<Instanc
     let given = used.map.as_slice();
     let pair = under(alloc, faces, used.face, given)?;
     let mut left = PLACES;
-    let members = match members(alloc, faces, pair, &mut left) {
-        Ok(members) => members,
-        Err(_) => return Err(Memory),
+    let Ok(members) = members(alloc, faces, pair, &mut left) else {
+        return Err(Memory);
     };
     let map = copied_map(alloc, given)?;
     let shared = Members::new(alloc, Items::from_vec(members))?;
