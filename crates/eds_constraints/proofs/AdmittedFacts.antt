@@ -23,13 +23,13 @@ use Rattle.eds_types.proofs.ReadingTests.{has_from, has_in, within_from}
 use Rattle.eds_types.proofs.Tables.{IsTable}
 use Rattle.eds_constraints.specs.declared.asked.Test.{Test}
 use Rattle.eds_constraints.specs.declared.asked.Test.TheVariants.{Value, Within, Under}
-use Rattle.eds_constraints.specs.declared.range.Range.{Range}
+use Rattle.eds_domains.specs.declared.range.Range.{Range}
 use Rattle.eds_constraints.specs.ConstrainedRows.{is_on_kind}
-use Rattle.eds_constraints.specs.Domains.{narrowed}
+use Rattle.eds_domains.specs.Domains.{narrowed}
 use Rattle.eds_constraints.specs.Paths.{suits, suits_row}
 use Rattle.eds_constraints.specs.Sets.{one_number, truth_number, number_within, value_set, type_set, concrete_under, set_by, set_of}
 use Rattle.eds_constraints.proofs.ConcreteFacts.{is_concrete_at, concrete_within}
-use Rattle.eds_constraints.proofs.DomainFacts.{narrowed_within}
+use Rattle.eds_domains.proofs.DomainFacts.{narrowed_within}
 
 -- ---- one number
 

@@ -29,11 +29,11 @@ use Rattle.eds_constraints.specs.declared.asked.Test.{Test}
 use Rattle.eds_constraints.specs.declared.asked.Test.TheVariants.{Value, Within, Under}
 use Rattle.eds_constraints.specs.Breaks.{Lists, Posed, aim_at, admitted, some_of, left_by, left_behind, left_after, left_on, asked_of, posed_by, posed_of, empties_after, empties_of}
 use Rattle.eds_constraints.specs.ConstrainedRows.{AreRead, IsReadKind}
-use Rattle.eds_constraints.specs.Domains.{narrowed}
+use Rattle.eds_domains.specs.Domains.{narrowed}
 use Rattle.eds_constraints.specs.Lefts.{path_of, every_number_on, left_on_path, posed_over, IsPlaced, IsLeft, IsLeftOf, AreAllLeft, RiseIn, AreRising}
 use Rattle.eds_constraints.specs.Sets.{one_number, all_numbers, met, truth_number, number_within, value_set, type_set, concrete_under, set_by, set_of}
 use Rattle.eds_constraints.proofs.ConcreteFacts.{concrete_rises}
-use Rattle.eds_constraints.proofs.DomainFacts.{narrowed_rises}
+use Rattle.eds_domains.proofs.DomainFacts.{narrowed_rises}
 use Rattle.eds_constraints.proofs.SetFacts.{met_rises, met-assoc, met-none, met-all, all_rise}
 use Rattle.eds_constraints.proofs.ValueFacts.{label_bounds}
 

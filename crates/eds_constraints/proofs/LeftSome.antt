@@ -19,9 +19,9 @@ use Rattle.eds_types.proofs.AllOf.{All-both, All-weaker}
 use Rattle.eds_types.proofs.ChainLaws.{front_same, chain_step}
 use Rattle.eds_types.proofs.RuleFacts.{table_of}
 use Rattle.eds_constraints.specs.declared.asked.Aim.{Aim}
-use Rattle.eds_constraints.specs.declared.range.Range.{Range}
+use Rattle.eds_domains.specs.declared.range.Range.{Range}
 use Rattle.eds_constraints.specs.Breaks.{Lists, Posed, broken, aim_at, admitted, posed_of, target_at, value_at, some_of, left_by, left_behind, left_on, is_emptied, empty_by, empty_at, empties_after, posed_above, empties_of, breaks_over, breaks_target, breaks_value, breaks_empty}
-use Rattle.eds_constraints.specs.Domains.{interval, raised, lowered, narrowed_span, narrowed, has_none}
+use Rattle.eds_domains.specs.Domains.{interval, raised, lowered, narrowed_span, narrowed, has_none}
 use Rattle.eds_constraints.specs.Sets.{all_numbers, between, met}
 use Rattle.eds_constraints.proofs.LeftFacts.{after_last}
 use Rattle.eds_constraints.proofs.SetFacts.{met_within, all_rise}

@@ -1,5 +1,3 @@
-pub mod DomainFacts
-pub mod EndFacts
 pub mod Names
 pub mod Called
 pub mod NamedFacts

@@ -9,11 +9,11 @@ use Rattle.eds_base.specs.declared.spans.Span.{Span}
 use Rattle.eds_base.specs.Spans.{Lies, IsWithin, RisesFrom, Rises, bottom, top}
 use Rattle.eds_base.proofs.SpansLemmas.{rises_lower, within_floor, within_top}
 use Rattle.eds_types.specs.Rows.{Table, is_concrete, chain, list_has, derived, numbers}
-use Rattle.eds_constraints.specs.declared.range.End.TheVariants.{Inclusive}
-use Rattle.eds_constraints.specs.Ranges.{Admits}
-use Rattle.eds_constraints.specs.Domains.{narrowed, narrowed_span, has_none}
+use Rattle.eds_domains.specs.declared.range.End.TheVariants.{Inclusive}
+use Rattle.eds_domains.specs.Ranges.{Admits}
+use Rattle.eds_domains.specs.Domains.{narrowed, narrowed_span, has_none}
 use Rattle.eds_constraints.specs.Sets.{one_number, all_numbers, between, met, put_before, set_of_numbers, concrete_under}
-use Rattle.eds_constraints.proofs.DomainFacts.{one_list, both_within, narrowed_within, narrowed_rises, none-from}
+use Rattle.eds_domains.proofs.DomainFacts.{one_list, both_within, narrowed_within, narrowed_rises, none-from}
 
 -- ---- what two sets have in common
 

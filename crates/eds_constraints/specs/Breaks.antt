@@ -12,7 +12,7 @@ use Rattle.eds_base.specs.declared.spans.Span.{Span}
 use Rattle.eds_types.specs.Rows.{Table, base_of, chain_before, chain_within, numbers}
 use Rattle.eds_constraints.specs.declared.asked.Aim.{Aim}
 use Rattle.eds_constraints.specs.declared.asked.Asked.{Asked}
-use Rattle.eds_constraints.specs.Domains.{has_none}
+use Rattle.eds_domains.specs.Domains.{has_none}
 use Rattle.eds_constraints.specs.Paths.{aim_of}
 use Rattle.eds_constraints.specs.Sets.{all_numbers, met, set_of}
 

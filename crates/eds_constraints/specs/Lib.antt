@@ -1,5 +1,3 @@
-pub mod Ranges
-pub mod Domains
 pub mod Paths
 pub mod Sets
 pub mod Breaks

@@ -14,9 +14,9 @@ use Rattle.eds_types.specs.Reading.{is_within}
 use Rattle.eds_types.specs.Rows.{Table, is_concrete, derived, chain, list_has}
 use Rattle.eds_constraints.specs.declared.asked.Test.{Test}
 use Rattle.eds_constraints.specs.declared.asked.Test.TheVariants.{Value, Within, Under}
-use Rattle.eds_constraints.specs.declared.range.End.TheVariants.{Inclusive}
-use Rattle.eds_constraints.specs.declared.range.Range.{Range}
-use Rattle.eds_constraints.specs.Domains.{narrowed}
+use Rattle.eds_domains.specs.declared.range.End.TheVariants.{Inclusive}
+use Rattle.eds_domains.specs.declared.range.Range.{Range}
+use Rattle.eds_domains.specs.Domains.{narrowed}
 
 -- ---- sets
 

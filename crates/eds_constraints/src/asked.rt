@@ -1,7 +1,7 @@
 //! What constraints ask, as their elements say it.
 
-use crate::Range;
 use eds_base::{Items, Place, Text, TypeId};
+use eds_domains::Range;
 use eds_types::EntryPath;
 
 /// What a constraint compares an entry with.

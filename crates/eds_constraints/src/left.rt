@@ -13,9 +13,9 @@ ghost use Rattle.eds_constraints.specs.Lefts.{path_of, every_number_on, left_on_
 use crate::asked::Asked;
 use crate::asked_rows::AskedRows;
 use crate::breaks::broken;
-use crate::domain::rises;
 use crate::sets::{all_numbers, met};
 use eds_base::{Items, Memory, Refusal, Rule, Spans, Text, TypeId};
+use eds_domains::rises;
 use eds_names::NameList;
 use eds_types::{Kind, TypeRow};
 use std::alloc::Global;

@@ -1,6 +1,5 @@
 //! The constraints of containers (CCSDS 876.0-B, constraints): what they are on and what they ask for, over the rows of types that
-//! have none yet; the rules on them; and the rows with them. Beside them stand the ranges of numbers, and the domains that these
-//! leave of forms and bases.
+//! have none yet; the rules on them; and the rows with them.
 #![tactic(auto)]
 
 mod asked;
@@ -8,11 +7,9 @@ mod asked_rows;
 mod breaks;
 mod broken;
 mod constrain;
-mod domain;
 pub mod law;
 mod left;
 mod paths;
-mod range;
 mod rows;
 mod sets;
 
@@ -21,6 +18,4 @@ pub use asked_rows::AskedRows;
 pub use breaks::{constraint_target, constraint_value};
 pub use broken::broken_containers;
 pub use constrain::{constrained_rows, constraints_of_all};
-pub use domain::{domain_of, is_empty_domain, narrowed};
 pub use left::constraint_empty;
-pub use range::{End, NO_RANGE, Range};

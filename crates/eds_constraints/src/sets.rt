@@ -8,15 +8,14 @@ ghost use Rattle.eds_types.specs.Domains.{int_domain_by};
 ghost use Rattle.eds_types.specs.Reading.{is_within as is_of_domain};
 ghost use Rattle.eds_types.specs.Rows.{chain, chain_within, list_has, numbers};
 ghost use Rattle.eds_constraints.specs.ConstrainedRows.{AreRead};
-ghost use Rattle.eds_constraints.specs.Domains.{narrowed as narrowed_by};
+ghost use Rattle.eds_domains.specs.Domains.{narrowed as narrowed_by};
 ghost use Rattle.eds_constraints.specs.Named.{IsKindOf, number_of_label as number_labelled};
 ghost use Rattle.eds_constraints.specs.Sets.{one_number as one_number_alone, all_numbers as every_number, met as met_sets, concrete_under as concrete_at_or_under, truth_number as truth_as_number, number_within as number_in_domain, value_set as value_set_of, type_set as type_set_of, set_by as set_by_kind, set_of as set_of_test};
 
 use crate::asked::Test;
-use crate::domain::{BOTTOM, TOP, interval, narrowed, rises};
-use crate::range::Range;
 use crate::rows::{NamedRows, base_of, is_concrete, row_of};
 use eds_base::{Items, Memory, Spans, TypeId, flag_value, whole_number};
+use eds_domains::{BOTTOM, Range, TOP, interval, narrowed, rises};
 use eds_types::{Kind, TypeRow};
 use std::alloc::Global;
 

@@ -12,7 +12,7 @@ use Rattle.eds_constraints.specs.Breaks.{Lists, posed_of, target_at, value_at, e
 use Rattle.eds_constraints.specs.Broken.{is_broken}
 use Rattle.eds_graph.specs.Reaching.{mark}
 use Rattle.eds_read_types.specs.ConstraintElements.{asked_lists}
-use Rattle.eds_read_types.specs.TableRows.{table_rows}
+use Rattle.eds_type_rows.specs.TableRows.{table_rows}
 use Rattle.eds_read_types.specs.Kin.{AreMarks}
 use Rattle.eds_read_types.specs.Faults.{is_constraint_broken}
 use Rattle.eds_read_types.proofs.ChainFacts.{each-none}

@@ -6,12 +6,13 @@ use Rattle.std.proofs.lemmas.Bool.Decides.{nat_tests}
 use Rattle.eds_base.specs.declared.ids.Place.{Place}
 use Rattle.eds_base.specs.declared.ids.TypeId.{TypeId}
 use Rattle.eds_base.specs.declared.refusal.Refusal.{Refusal}
-use Rattle.eds_read_types.specs.Bases.{base_at, bases_above, bases_within, is_in_cycle, breaks_over}
+use Rattle.eds_type_rows.specs.Bases.{base_at, bases_above, bases_within, is_in_cycle}
+use Rattle.eds_read_types.specs.Breaks.{breaks_over}
 use Rattle.eds_types.specs.Rows.{Table, number_of_id, base_of, chain_within}
 use Rattle.eds_read_types.specs.LimitChain.{is_long}
 use Rattle.eds_read_types.specs.BaseCycle.{cycle_at}
 use Rattle.eds_read_types.proofs.ChainSteps.{chain_alone, chain_more, chain_none}
-use Rattle.eds_read_types.proofs.NoBreaks.{append-none}
+use Rattle.eds_type_rows.proofs.ListFacts.{append-none}
 
 -- ---- rules that are broken nowhere
 

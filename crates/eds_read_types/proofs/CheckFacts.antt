@@ -11,17 +11,17 @@ use Rattle.eds_bits.specs.declared.forms.CheckKind.{CheckKind}
 use Rattle.eds_bits.specs.Scalars.{check_bits}
 use Rattle.eds_tree.specs.declared.tree.Node.{Node}
 use Rattle.eds_types.specs.Rules.{HoldsCheck}
-use Rattle.eds_read_types.specs.declared.numbers.FormAndDomain.{FormAndDomain}
-use Rattle.eds_read_types.specs.Held.{child_named}
-use Rattle.eds_read_types.specs.Places.{is_element}
-use Rattle.eds_read_types.specs.Forms.{int_form_of}
-use Rattle.eds_constraints.specs.Ranges.{no_range}
-use Rattle.eds_read_types.specs.Ranges.{range_held, range_of}
-use Rattle.eds_read_types.specs.Bases.{base_at}
-use Rattle.eds_read_types.specs.Numbers.{form_or_wide, numbers_with, own_numbers, own_numbers_in, own_numbers_at, numbers_of}
-use Rattle.eds_read_types.specs.ScalarKinds.{is_integer}
+use Rattle.eds_type_rows.specs.declared.numbers.FormAndDomain.{FormAndDomain}
+use Rattle.eds_type_rows.specs.Held.{child_named}
+use Rattle.eds_type_rows.specs.Places.{is_element}
+use Rattle.eds_type_rows.specs.Forms.{int_form_of}
+use Rattle.eds_domains.specs.Ranges.{no_range}
+use Rattle.eds_type_rows.specs.Ranges.{range_held, range_of}
+use Rattle.eds_type_rows.specs.Bases.{base_at}
+use Rattle.eds_type_rows.specs.Numbers.{form_or_wide, numbers_with, own_numbers, own_numbers_in, own_numbers_at, numbers_of}
+use Rattle.eds_type_rows.specs.ScalarKinds.{is_integer}
 use Rattle.eds_read_types.specs.ErrorControl.{is_unsigned, fits_check, holds_check, holds_check_in, holds_check_at}
-use Rattle.eds_constraints.proofs.DomainFacts.{domain_within}
+use Rattle.eds_domains.proofs.DomainFacts.{domain_within}
 use Rattle.eds_read_types.proofs.NumberFacts.{own_within}
 
 unsigned_is : (encoding : Encoding) → is_unsigned encoding ≡ true → encoding ≡ Unsigned

@@ -10,11 +10,11 @@ use Rattle.eds_base.specs.Reading.{◌>>=◌}
 use Rattle.eds_base.specs.declared.ids.Place.{Place}
 use Rattle.eds_base.specs.declared.ids.TypeId.{TypeId}
 use Rattle.eds_base.specs.declared.rule.Rule.TheVariants.{BaseCycle}
-use Rattle.eds_read_types.specs.References.{broken}
+use Rattle.eds_read_types.specs.Breaks.{broken}
 use Rattle.eds_tree.specs.declared.tree.Node.{Node}
 use Rattle.eds_types.specs.Rows.{Table}
 use Rattle.eds_graph.specs.Ways.{is_endless}
-use Rattle.eds_read_types.specs.Bases.{base_at, bases_within, all_bases, is_in_cycle}
+use Rattle.eds_type_rows.specs.Bases.{base_at, bases_within, all_bases, is_in_cycle}
 use Rattle.eds_read_types.specs.Nesting.{course_of}
 use Rattle.eds_read_types.specs.BaseCycle.{cycle_at}
 use Rattle.eds_read_types.specs.LimitChain.{is_long, chain_at}

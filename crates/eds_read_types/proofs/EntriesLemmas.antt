@@ -9,8 +9,8 @@ use Rattle.eds_base.proofs.LeastLaws.{first_assoc, least-append}
 use Rattle.eds_tree.specs.declared.tree.Node.{Node}
 use Rattle.eds_names.specs.Repeats.{is_among}
 use Rattle.eds_names.proofs.RepeatsLemmas.{SameNames}
-use Rattle.eds_read_types.specs.Places.{own_name}
-use Rattle.eds_read_types.specs.References.{broken_with}
+use Rattle.eds_type_rows.specs.Places.{own_name}
+use Rattle.eds_read_types.specs.Breaks.{broken_with}
 use Rattle.eds_read_types.specs.DuplicateEntry.{repeat_of, repeats}
 
 pub repeat_of-present : (before : List (List ℕ)) (at : Place) (name : List ℕ) → is_among before name ≡ true → repeat_of before at name ≡ broken_with DuplicateEntry at name ∷ []

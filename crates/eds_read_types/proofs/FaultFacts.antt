@@ -17,19 +17,18 @@ use Rattle.eds_types.specs.Rows.{Table, container_of}
 use Rattle.eds_graph.specs.Reaching.{mark}
 use Rattle.eds_graph.proofs.Tests.{split}
 use Rattle.eds_nesting.specs.Families.{types_of}
-use Rattle.eds_read_types.specs.Places.{types, type_places}
-use Rattle.eds_read_types.specs.Entries.{own_parts_at}
-use Rattle.eds_read_types.specs.References.{word_place}
-use Rattle.eds_read_types.specs.ReadTypes.{word_type}
-use Rattle.eds_read_types.specs.Bases.{breaks_over}
-use Rattle.eds_read_types.specs.TableRows.{table_rows}
+use Rattle.eds_type_rows.specs.Places.{types, type_places, word_place}
+use Rattle.eds_type_rows.specs.Entries.{own_parts_at}
+use Rattle.eds_type_rows.specs.ReadTypes.{word_type}
+use Rattle.eds_read_types.specs.Breaks.{breaks_over}
+use Rattle.eds_type_rows.specs.TableRows.{table_rows}
 use Rattle.eds_read_types.specs.Parts.{parts_in, judged_part_by, judged_part, judged_parts, at_parts, at_rows}
 use Rattle.eds_read_types.specs.Kin.{AreMarks, passes_near}
 use Rattle.eds_read_types.specs.Emptiness.{item_of, may_be_empty, is_empty_part}
 use Rattle.eds_read_types.specs.Faults.{is_faulty_if, is_faulty, types_at, passes_there, reaches_fault, is_judged, is_unmarked, passes_type}
 use Rattle.eds_read_types.specs.EmptyType.{empty_where, empty_part_at, empty_item_by, empty_item_at, empty_by, empty_word, empties, breaks_empty}
-use Rattle.eds_read_types.proofs.NoBreaks.{append-none}
-use Rattle.eds_read_types.proofs.Limits.{length-rows}
+use Rattle.eds_type_rows.proofs.ListFacts.{append-none}
+use Rattle.eds_type_rows.proofs.Limits.{length-rows}
 use Rattle.eds_read_types.proofs.KinFacts.{marks-as, marks-there, marks-past, any-same}
 
 -- ---- breaks over types

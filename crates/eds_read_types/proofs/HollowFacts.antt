@@ -15,7 +15,7 @@ use Rattle.eds_graph.proofs.Tests.{split}
 use Rattle.eds_read_types.specs.Kin.{is_over, passes_under}
 use Rattle.eds_read_types.specs.Hollow.{is_empty, is_bare, is_void, is_hollow}
 use Rattle.eds_read_types.proofs.KinFacts.{any-none}
-use Rattle.eds_read_types.proofs.SequenceFacts.{has-front, has-back, has-first, has-cases}
+use Rattle.eds_type_rows.proofs.SequenceFacts.{has-front, has-back, has-first, has-cases}
 
 or_true : (b : Bool) → (b || true) ≡ true
 or_true true = refl

@@ -20,19 +20,21 @@ use Rattle.eds_bits.specs.declared.forms.IntForm.{IntForm}
 use Rattle.eds_bits.specs.declared.forms.BoolForm.{BoolForm}
 use Rattle.eds_bits.specs.IntForms.{least, greatest, HasNumber}
 use Rattle.eds_types.specs.Rules.{AreDistinct, IsDomain, IsListing, IsSubRange}
-use Rattle.eds_constraints.specs.declared.range.Range.{Range}
-use Rattle.eds_read_types.specs.Ranges.{range_of}
-use Rattle.eds_constraints.specs.Domains.{interval, raised, lowered, narrowed, domain_of, has_none}
-use Rattle.eds_read_types.specs.Listings.{listing_of, label, value, is_empty, all_differ, has_number, is_entry, is_listing}
+use Rattle.eds_domains.specs.declared.range.Range.{Range}
+use Rattle.eds_type_rows.specs.Ranges.{range_of}
+use Rattle.eds_domains.specs.Domains.{interval, raised, lowered, narrowed, domain_of, has_none}
+use Rattle.eds_type_rows.specs.Listings.{listing_of, label, value, is_empty, all_differ, has_number, is_entry, is_listing}
 use Rattle.eds_tree.specs.declared.tree.Node.{Node}
 use Rattle.eds_tree.specs.Trees.{name_at}
-use Rattle.eds_read_types.specs.Forms.{int_form_of, bool_form_of}
-use Rattle.eds_read_types.specs.ScalarKinds.{is_integer, is_enumerated, is_boolean, broken_where}
-use Rattle.eds_read_types.specs.BadEncoding.{lacks_form, encoding_breaks}
+use Rattle.eds_type_rows.specs.Forms.{int_form_of, bool_form_of}
+use Rattle.eds_type_rows.specs.ScalarKinds.{is_integer, is_enumerated, is_boolean}
+use Rattle.eds_read_types.specs.Breaks.{broken_where}
+use Rattle.eds_type_rows.specs.LackingForms.{lacks_form}
+use Rattle.eds_read_types.specs.BadEncoding.{encoding_breaks}
 use Rattle.eds_read_types.specs.EmptyRange.{lacks_numbers_by, lacks_numbers, range_breaks}
 use Rattle.eds_read_types.specs.BadEnumeration.{misses_listing_by, misses_listing, enumeration_breaks}
 use Rattle.eds_read_types.specs.Unbroken.{HasDomain, HasListing}
-use Rattle.eds_constraints.proofs.DomainFacts.{domain_within, narrowed_within}
+use Rattle.eds_domains.proofs.DomainFacts.{domain_within, narrowed_within}
 
 -- ---- domains
 

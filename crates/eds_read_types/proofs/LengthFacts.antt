@@ -19,16 +19,16 @@ use Rattle.eds_types.specs.declared.row.Kind.{Kind}
 use Rattle.eds_types.specs.declared.row.Kind.TheVariants as kind
 use Rattle.eds_types.specs.Rows.{Table}
 use Rattle.eds_types.specs.Rules.{IsInt, IsIntBy, IsScale, is_length}
-use Rattle.eds_read_types.specs.declared.part_sort.PartSort.{PartSort}
-use Rattle.eds_read_types.specs.declared.part_sort.PartSort.TheVariants as sort
-use Rattle.eds_read_types.specs.declared.seat.Seat.{Seat}
-use Rattle.eds_read_types.specs.PartSorts.{part_sort_of}
-use Rattle.eds_read_types.specs.Places.{element, is_element, children}
-use Rattle.eds_read_types.specs.Entries.{sort_at, parts_held, is_part_list, entries_at, trailers_at, own_parts_at, parts_at}
-use Rattle.eds_read_types.specs.Calibrators.{c0_at, c1_at, is_scale, c0_or_plain, c1_or_plain}
-use Rattle.eds_read_types.specs.PartRows.{part_by, part_at}
+use Rattle.eds_type_rows.specs.declared.part_sort.PartSort.{PartSort}
+use Rattle.eds_type_rows.specs.declared.part_sort.PartSort.TheVariants as sort
+use Rattle.eds_type_rows.specs.declared.seat.Seat.{Seat}
+use Rattle.eds_type_rows.specs.PartSorts.{part_sort_of}
+use Rattle.eds_type_rows.specs.Places.{element, is_element, children}
+use Rattle.eds_type_rows.specs.Entries.{sort_at, parts_held, is_part_list, entries_at, trailers_at, own_parts_at, parts_at}
+use Rattle.eds_type_rows.specs.Calibrators.{c0_at, c1_at, is_scale, c0_or_plain, c1_or_plain}
+use Rattle.eds_type_rows.specs.PartRows.{part_by, part_at}
 use Rattle.eds_read_types.specs.LengthField.{is_int_by, is_int_in, is_int, lengths_at}
-use Rattle.eds_read_types.proofs.NoBreaks.{append-none}
+use Rattle.eds_type_rows.proofs.ListFacts.{append-none}
 
 -- ---- sorts of parts
 

@@ -8,7 +8,7 @@ use Rattle.eds_base.specs.declared.rule.Rule.TheVariants.{LengthField}
 use Rattle.eds_base.specs.Refusals.{first_of, least}
 use Rattle.eds_base.proofs.LeastLaws.{first_assoc}
 use Rattle.eds_types.specs.Rows.{Table, base_of, chain_before, chain_within}
-use Rattle.eds_read_types.specs.References.{broken}
+use Rattle.eds_read_types.specs.Breaks.{broken}
 
 -- `found` stands for what came before, `x` is the element at `i`
 pub next_length : (xs : List Place) (i : ℕ) (x : Place) (found : Option Refusal) (here : Refusal) (next whole : Option Refusal)

@@ -18,7 +18,7 @@ use Rattle.eds_types.specs.Rules.{IsIntBy, IsInt, IsBefore, IsCounted}
 use Rattle.eds_read_types.specs.ListField.{has_negative, counts_by, counts_in, is_count, stands_before, may_tell, is_told}
 use Rattle.eds_read_types.specs.Parts.{parts_in}
 use Rattle.eds_read_types.proofs.PlainRules.{own_placed}
-use Rattle.eds_read_types.proofs.SequenceFacts.{has-first, has-later, has-front, has-back, sequence_step}
+use Rattle.eds_type_rows.proofs.SequenceFacts.{has-first, has-later, has-front, has-back, sequence_step}
 
 -- ---- sequences
 

@@ -8,11 +8,11 @@ use Rattle.eds_bits.specs.Lists.{Has}
 use Rattle.eds_types.specs.declared.row.Part.{Part}
 use Rattle.eds_types.specs.Rows.{Table, base_of, container_of, own_parts, chain, chain_before, Placed, placed_from}
 use Rattle.eds_types.specs.Rules.{AreDistinct, is_length}
-use Rattle.eds_read_types.specs.References.{broken}
+use Rattle.eds_read_types.specs.Breaks.{broken}
 use Rattle.eds_read_types.specs.Parts.{parts_in}
 use Rattle.eds_read_types.specs.LengthField.{has_length, has_length_above, further}
 use Rattle.eds_read_types.proofs.PlainRules.{own_placed}
-use Rattle.eds_read_types.proofs.SequenceFacts.{OwnDiffer, AreDisjoint, length_mark, marked}
+use Rattle.eds_type_rows.proofs.SequenceFacts.{OwnDiffer, AreDisjoint, length_mark, marked}
 
 none_or : (a b : Bool) → (a || b) ≡ false → (a ≡ false) × (b ≡ false)
 none_or true b h = absurd cc

@@ -1,5 +1,5 @@
 -- What a sheet that breaks no rule on types has.
-use Rattle.std.proofs.Common.{◌≡◌, ℕ, ◌<◌, Bool, true, false, ◌||◌, List, [], ◌∷◌, ◌++◌, length, map, filter, Option, Some, None, refl, sym, ap, ◌∙◌, subst, slice_get, is_some, option_map}
+use Rattle.std.proofs.Common.{◌≡◌, ℕ, ◌<◌, Bool, true, false, ◌||◌, List, [], ◌∷◌, length, map, filter, Option, Some, None, refl, sym, ap, ◌∙◌, subst, slice_get, is_some, option_map}
 use Rattle.std.specs.Prelude.{IfSome}
 use Rattle.std.proofs.lemmas.Option.{slice_get_within}
 use Rattle.std.proofs.lemmas.List.{length-map}
@@ -17,13 +17,15 @@ use Rattle.eds_names.specs.Repeats.{is_among}
 use Rattle.eds_names.specs.LookUp.{Names, AreApart, NamesDiffer, look_up}
 use Rattle.std.proofs.lemmas.Slice.Eq.{bytes_eq-Decides}
 use Rattle.eds_names.proofs.LookUpLemmas.{bytes_eq-sym}
-use Rattle.eds_read_types.specs.Places.{own_name, is_type, types, type_places}
+use Rattle.eds_type_rows.specs.Places.{own_name, is_type, types, type_places, word_place}
 use Rattle.eds_read_types.specs.declared.reference_row.Wanted.TheVariants.{AnyType}
-use Rattle.eds_read_types.specs.References.{broken_with, word_place, judged_text}
-use Rattle.eds_read_types.specs.ReadTypes.{word_type}
+use Rattle.eds_read_types.specs.Breaks.{broken_with}
+use Rattle.eds_read_types.specs.References.{judged_text}
+use Rattle.eds_type_rows.specs.ReadTypes.{word_type}
 use Rattle.eds_read_types.specs.Unresolved.{unresolved_by, unresolved_at}
 use Rattle.eds_read_types.specs.WrongKind.{kind_by, wrong_kind_by, wrong_kind_at}
 use Rattle.eds_read_types.specs.DuplicateEntry.{repeat_of, repeats}
+use Rattle.eds_type_rows.proofs.ListFacts.{append-none}
 
 -- ---- no least, no breaks
 
@@ -34,10 +36,6 @@ least-none (r ∷ rs) h = go (least rs) h
     go : (o : Option Refusal) → first_of (Some r) o ≡ None → r ∷ rs ≡ []
     go None k = cc
     go (Some q) k = cc
-
-pub append-none : {A : Type 0} (xs ys : List A) → xs ++ ys ≡ [] → (xs ≡ []) × (ys ≡ [])
-append-none [] ys h = (refl, h)
-append-none (x ∷ xs) ys h = cc
 
 -- ---- the TYPE word
 

@@ -11,17 +11,19 @@ use Rattle.eds_bits.specs.declared.forms.IntForm.{IntForm}
 use Rattle.eds_tree.specs.declared.tree.Node.{Node}
 use Rattle.eds_names.specs.LookUp.{Names}
 use Rattle.eds_types.specs.Rules.{IsDomain, IsSubRange}
-use Rattle.eds_read_types.specs.declared.numbers.FormAndDomain.{FormAndDomain}
-use Rattle.eds_read_types.specs.Places.{type_places, is_sub_range, is_container}
-use Rattle.eds_read_types.specs.Forms.{int_form_of}
-use Rattle.eds_constraints.specs.Ranges.{no_range}
-use Rattle.eds_read_types.specs.Ranges.{range_of}
-use Rattle.eds_constraints.specs.Domains.{has_none}
-use Rattle.eds_read_types.specs.Bases.{base_found, bases_of, base_at, bases_within}
-use Rattle.eds_read_types.specs.Numbers.{wide_form, form_or_wide, numbers_with, all_numbers, own_numbers_in, own_numbers_at, range_at, narrowed_numbers, numbers_by, numbers_within, numbers_of}
-use Rattle.eds_read_types.specs.ScalarKinds.{is_integer, breaks_in, breaks_at, breaks_each}
-use Rattle.eds_read_types.specs.BadEncoding.{lacks_form, encoding_breaks}
-use Rattle.eds_read_types.specs.EmptyRange.{range_breaks, lacks_form_in, lacks_form_at, is_empty_type, is_faulty, is_empty_by_itself, sub_range_at, breaks_sub_range}
+use Rattle.eds_type_rows.specs.declared.numbers.FormAndDomain.{FormAndDomain}
+use Rattle.eds_type_rows.specs.Places.{type_places, is_sub_range, is_container}
+use Rattle.eds_type_rows.specs.Forms.{int_form_of}
+use Rattle.eds_domains.specs.Ranges.{no_range}
+use Rattle.eds_type_rows.specs.Ranges.{range_of}
+use Rattle.eds_domains.specs.Domains.{has_none}
+use Rattle.eds_type_rows.specs.Bases.{base_found, bases_of, base_at, bases_within}
+use Rattle.eds_type_rows.specs.Numbers.{wide_form, form_or_wide, numbers_with, all_numbers, own_numbers_in, own_numbers_at, range_at, narrowed_numbers, numbers_by, numbers_within, numbers_of}
+use Rattle.eds_type_rows.specs.ScalarKinds.{is_integer}
+use Rattle.eds_read_types.specs.Breaks.{breaks_in, breaks_at, breaks_each}
+use Rattle.eds_type_rows.specs.LackingForms.{lacks_form, lacks_form_in, lacks_form_at}
+use Rattle.eds_read_types.specs.BadEncoding.{encoding_breaks}
+use Rattle.eds_read_types.specs.EmptyRange.{range_breaks, is_empty_type, is_faulty, is_empty_by_itself, sub_range_at, breaks_sub_range}
 use Rattle.eds_read_types.proofs.LawFacts.{none_broken, domain_kept, narrowed_kept, narrowed_derives, integer_unbroken}
 use Rattle.eds_read_types.proofs.ChainFacts.{over-none, each-none, unmet, no_bases, bases_none, bases_step, level, less_bases}
 

@@ -7,9 +7,9 @@ use Rattle.eds_tree.specs.declared.tree.Node.{Node}
 use Rattle.eds_names.specs.LookUp.{Names}
 use Rattle.eds_types.specs.declared.row.Part.{Part}
 use Rattle.eds_types.specs.Rows.{container_of, Placed, placed_from}
-use Rattle.eds_read_types.specs.Places.{type_places}
-use Rattle.eds_read_types.specs.Entries.{own_parts_at}
-use Rattle.eds_read_types.specs.TableRows.{table_rows}
+use Rattle.eds_type_rows.specs.Places.{type_places}
+use Rattle.eds_type_rows.specs.Entries.{own_parts_at}
+use Rattle.eds_type_rows.specs.TableRows.{table_rows}
 use Rattle.eds_read_types.specs.Parts.{PartJudgement, parts_in, judged_part, judged_part_by, judged_parts, at_parts}
 use Rattle.eds_read_types.proofs.ChainFacts.{over-none}
 

@@ -15,7 +15,7 @@ use Rattle.eds_types.specs.Sizes.{open_of}
 use Rattle.eds_types.specs.Rows.{Table, base_in, base_of, container_by, container_in, container_of, concrete_in, entries_in, trailers_in, constraints_in, constraints_of, own_parts, Placed, placed_from, chain_before, chain_within}
 use Rattle.eds_types.specs.Rules.{AreDistinct, KindKeeps, HasKind, IsContainer, IsHollow, IsValueOf, IsInt, IsScale, HoldsCheck, IsCounted, DerivesFrom, IsNested, ItemsNest, TailKeeps, PartKeeps, ConstraintKeeps, KeepsRules}
 use Rattle.eds_nesting.specs.Families.{families, family, containers}
-use Rattle.eds_read_types.proofs.SequenceFacts.{OwnDiffer, name_mark, length_mark, has-parts}
+use Rattle.eds_type_rows.proofs.SequenceFacts.{OwnDiffer, name_mark, length_mark, has-parts}
 use Rattle.eds_read_types.proofs.RowRules.{AreLeveled, AreRows, keeps_all}
 
 -- the type is spelled by some bits where it is a container

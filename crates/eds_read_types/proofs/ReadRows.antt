@@ -21,19 +21,19 @@ use Rattle.eds_types.specs.declared.row.Kind.TheVariants as kind
 use Rattle.eds_types.specs.Rows.{container_by, entries_in, trailers_in}
 use Rattle.eds_constraints.specs.declared.asked.Asked.{Asked}
 use Rattle.eds_constraints.specs.ConstrainedRows.{IsSmallLabel, IsReadKind, AreRead}
-use Rattle.eds_read_types.specs.declared.numbers.FormAndDomain.{FormAndDomain}
-use Rattle.eds_read_types.specs.declared.sort.Sort.{Sort}
-use Rattle.eds_read_types.specs.declared.sort.Sort.TheVariants as sort
-use Rattle.eds_read_types.specs.Bases.{bases_of}
+use Rattle.eds_type_rows.specs.declared.numbers.FormAndDomain.{FormAndDomain}
+use Rattle.eds_type_rows.specs.declared.sort.Sort.{Sort}
+use Rattle.eds_type_rows.specs.declared.sort.Sort.TheVariants as sort
+use Rattle.eds_type_rows.specs.Bases.{bases_of}
 use Rattle.eds_read_types.specs.ConstraintElements.{asked_by, asked_lists}
-use Rattle.eds_read_types.specs.Held.{number_at, child_named}
-use Rattle.eds_read_types.specs.Kinds.{scalar_kind_by, scalar_kind_in, scalar_at}
-use Rattle.eds_read_types.specs.Listings.{entry_at, enumerations}
-use Rattle.eds_read_types.specs.Numbers.{numbers_of}
-use Rattle.eds_read_types.specs.Places.{is_container, is_array, types, type_places}
-use Rattle.eds_read_types.specs.Sorts.{sort_of}
-use Rattle.eds_read_types.specs.TableRows.{array_kind, kind_of, table_rows}
-use Rattle.eds_read_types.proofs.Limits.{few_types, length-rows, has_few_entries}
+use Rattle.eds_type_rows.specs.Held.{number_at, child_named}
+use Rattle.eds_type_rows.specs.Kinds.{scalar_kind_by, scalar_kind_in, scalar_at}
+use Rattle.eds_type_rows.specs.Listings.{entry_at, enumerations}
+use Rattle.eds_type_rows.specs.Numbers.{numbers_of}
+use Rattle.eds_type_rows.specs.Places.{is_container, is_array, types, type_places}
+use Rattle.eds_type_rows.specs.Sorts.{sort_of}
+use Rattle.eds_type_rows.specs.TableRows.{array_kind, kind_of, table_rows}
+use Rattle.eds_type_rows.proofs.Limits.{few_types, length-rows, has_few_entries}
 use Rattle.eds_read_types.proofs.TableRules.{row_at, all_there}
 
 -- ---- numbers

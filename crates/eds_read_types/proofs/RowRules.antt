@@ -10,7 +10,7 @@ use Rattle.eds_types.specs.Fields.{type_by}
 use Rattle.eds_types.specs.Rows.{Table, base_in, base_of, container_by, container_of, constraints_of, own_parts, Placed, sequence}
 use Rattle.eds_types.specs.Rules.{AreDistinct, KindKeeps, HasKind, IsContainer, DerivesFrom, IsNested, ItemsNest, PartKeeps, ConstraintKeeps, KeepsRules}
 use Rattle.eds_nesting.specs.Families.{families, family, containers}
-use Rattle.eds_read_types.proofs.SequenceFacts.{OwnDiffer, name_mark, length_mark, sequence_differs, sequence_keeps}
+use Rattle.eds_type_rows.proofs.SequenceFacts.{OwnDiffer, name_mark, length_mark, sequence_differs, sequence_keeps}
 use Rattle.eds_read_types.proofs.FamilyFacts.{derived_few}
 
 -- a level for each type, which counts its bases

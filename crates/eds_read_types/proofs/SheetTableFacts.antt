@@ -18,7 +18,7 @@ use Rattle.eds_constraints.proofs.ConstrainedKeeps.{constraints_keep_rules}
 use Rattle.eds_read_types.specs.ConstraintElements.{asked_lists}
 use Rattle.eds_read_types.specs.SheetTable.{sheet_table}
 use Rattle.eds_read_types.specs.TableBreaks.{table_breaks}
-use Rattle.eds_read_types.specs.TableRows.{table_rows}
+use Rattle.eds_type_rows.specs.TableRows.{table_rows}
 use Rattle.eds_read_types.proofs.NoBreaks.{least-none}
 use Rattle.eds_read_types.proofs.TableRules.{table_keeps}
 use Rattle.eds_read_types.proofs.Unbroken.{unbroken}

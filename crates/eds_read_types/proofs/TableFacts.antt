@@ -13,16 +13,15 @@ use Rattle.eds_types.specs.Rules.{IsHollow}
 use Rattle.eds_types.specs.Sizes.{open_of}
 use Rattle.eds_constraints.proofs.ConstrainedKeeps.{hollow_kept}
 use Rattle.eds_read_types.specs.declared.table.SheetTypes.{SheetTypes}
-use Rattle.eds_read_types.specs.Places.{types}
-use Rattle.eds_read_types.specs.References.{word_place}
-use Rattle.eds_read_types.specs.ReadTypes.{word_type}
+use Rattle.eds_type_rows.specs.Places.{types, word_place}
+use Rattle.eds_type_rows.specs.ReadTypes.{word_type}
 use Rattle.eds_read_types.specs.Emptiness.{may_be_empty}
 use Rattle.eds_read_types.specs.Faults.{is_judged}
 use Rattle.eds_read_types.specs.EmptyType.{empty_by}
 use Rattle.eds_read_types.specs.Hollow.{is_hollow}
 use Rattle.eds_read_types.specs.ConstraintElements.{asked_lists}
 use Rattle.eds_read_types.specs.SheetTable.{sheet_table}
-use Rattle.eds_read_types.specs.TableRows.{rows_from, table_rows}
+use Rattle.eds_type_rows.specs.TableRows.{rows_from, table_rows}
 use Rattle.eds_read_types.specs.TableBreaks.{table_breaks}
 use Rattle.eds_read_types.specs.TableRead.{typed_of, unless, table_read}
 use Rattle.eds_read_types.proofs.ChainFacts.{unmet}

@@ -37,28 +37,28 @@ use Rattle.eds_types.specs.Plain.{plain}
 use Rattle.eds_graph.specs.Ways.{is_circular, is_endless}
 use Rattle.eds_graph.specs.Search.{Has as is_one_of}
 use Rattle.eds_types.specs.Rules.{AreDistinct, IsContainer, IsListing, IsValueOf, KindKeeps, HasKind, IsInt, IsIntBy, HoldsCheck, DerivesFrom, IsNested, IsCounted, TailKeeps, name_of, is_length, KeepsRules}
-use Rattle.eds_read_types.specs.declared.numbers.FormAndDomain.{FormAndDomain}
-use Rattle.eds_read_types.specs.Places.{element, is_element, is_container, is_array, is_sub_range, is_number, attribute, elements, types, type_places}
+use Rattle.eds_type_rows.specs.declared.numbers.FormAndDomain.{FormAndDomain}
+use Rattle.eds_type_rows.specs.Places.{element, is_element, is_container, is_array, is_sub_range, is_number, attribute, elements, types, type_places}
 use Rattle.eds_read_types.specs.References.{references, row_for, judged_text, judged_by, judged_at}
-use Rattle.eds_read_types.specs.ReadTypes.{id_of, id_found}
-use Rattle.eds_read_types.specs.declared.part_sort.PartSort.{PartSort}
-use Rattle.eds_read_types.specs.declared.part_sort.PartSort.TheVariants as sorts
-use Rattle.eds_read_types.specs.Entries.{sort_at, entries_at, trailers_at, own_parts_at, parts_at, named_among}
+use Rattle.eds_type_rows.specs.ReadTypes.{id_of, id_found}
+use Rattle.eds_type_rows.specs.declared.part_sort.PartSort.{PartSort}
+use Rattle.eds_type_rows.specs.declared.part_sort.PartSort.TheVariants as sorts
+use Rattle.eds_type_rows.specs.Entries.{sort_at, entries_at, trailers_at, own_parts_at, parts_at, named_among}
 use Rattle.eds_read_types.specs.Parts.{PartJudgement, at_parts, at_rows, parts_in, judged_parts}
-use Rattle.eds_read_types.specs.Seats.{seats_of}
-use Rattle.eds_read_types.specs.ListFields.{field_seat, field_container, field_place}
-use Rattle.eds_read_types.specs.PartRows.{entry_id, id_or_first, padding_bits, unread, plain_part, fixed_part, list_part, length_part, check_part, part_by}
-use Rattle.eds_read_types.specs.Listings.{listing_of}
-use Rattle.eds_read_types.specs.Bases.{may_derive, base_named, base_found, bases_of, base_at, is_in_cycle}
-use Rattle.eds_read_types.specs.Numbers.{form_or_wide, numbers_of}
-use Rattle.eds_read_types.specs.Kinds.{scalar_kind_by, scalar_kind_in, scalar_at, scalar_if, scalar_of}
-use Rattle.eds_read_types.specs.TableRows.{part_in, container_at, array_kind, kind_of, table_row, rows_from, table_rows}
+use Rattle.eds_type_rows.specs.Seats.{seats_of}
+use Rattle.eds_type_rows.specs.ListFields.{field_seat, field_container, field_place}
+use Rattle.eds_type_rows.specs.PartRows.{entry_id, id_or_first, padding_bits, unread, plain_part, fixed_part, list_part, length_part, check_part, part_by}
+use Rattle.eds_type_rows.specs.Listings.{listing_of}
+use Rattle.eds_type_rows.specs.Bases.{may_derive, base_named, base_found, bases_of, base_at, is_in_cycle}
+use Rattle.eds_type_rows.specs.Numbers.{form_or_wide, numbers_of}
+use Rattle.eds_type_rows.specs.Kinds.{scalar_kind_by, scalar_kind_in, scalar_at, scalar_if, scalar_of}
+use Rattle.eds_type_rows.specs.TableRows.{part_in, container_at, array_kind, kind_of, table_row, rows_from, table_rows}
 use Rattle.eds_read_types.specs.TableBreaks.{table_breaks}
 use Rattle.eds_read_types.specs.DuplicateEntry.{repeats, names_above, duplicates_at}
-use Rattle.eds_read_types.specs.declared.sort.Sort.{Sort}
-use Rattle.eds_read_types.specs.declared.sort.Sort.TheVariants as sort
-use Rattle.eds_read_types.specs.Sorts.{sort_of}
-use Rattle.eds_read_types.specs.ScalarKinds.{breaks_in, breaks_at}
+use Rattle.eds_type_rows.specs.declared.sort.Sort.{Sort}
+use Rattle.eds_type_rows.specs.declared.sort.Sort.TheVariants as sort
+use Rattle.eds_type_rows.specs.Sorts.{sort_of}
+use Rattle.eds_read_types.specs.Breaks.{breaks_in, breaks_at}
 use Rattle.eds_read_types.specs.BadEncoding.{encoding_breaks}
 use Rattle.eds_read_types.specs.BadEnumeration.{enumeration_breaks}
 use Rattle.eds_read_types.specs.WrongKind.{kind_by, wrong_kind_by, wrong_kind_at}
@@ -73,26 +73,26 @@ use Rattle.eds_read_types.specs.ConstraintElements.{asked_lists}
 use Rattle.eds_read_types.proofs.BrokenFacts.{none-broken}
 use Rattle.eds_read_types.proofs.FaultFacts.{parts-same, items-same}
 use Rattle.eds_read_types.proofs.JudgedFacts.{NamesFault, reaches_none}
-use Rattle.eds_read_types.specs.Items.{items_at, row_items}
+use Rattle.eds_type_rows.specs.Items.{items_at, row_items}
 use Rattle.eds_read_types.specs.LimitItems.{is_too_large, items_limit_at}
-use Rattle.eds_read_types.proofs.ItemFacts.{row_some}
+use Rattle.eds_type_rows.proofs.ItemFacts.{row_some}
 use Rattle.eds_read_types.specs.ListField.{is_told, list_field_at}
 use Rattle.eds_read_types.specs.LengthField.{is_int, is_tail, lengths_at, has_length_above, length_field_at, scale_at, second_length_at}
-use Rattle.eds_read_types.specs.Checks.{check_at}
+use Rattle.eds_type_rows.specs.Checks.{check_at}
 use Rattle.eds_read_types.specs.PartElements.{judged_elements}
-use Rattle.eds_read_types.specs.FixedValues.{fixed_value, row_value}
+use Rattle.eds_type_rows.specs.FixedValues.{fixed_value, row_value}
 use Rattle.eds_read_types.specs.FixedValue.{fixed_value_at}
 use Rattle.eds_read_types.specs.ErrorControl.{is_held, error_control_at}
 use Rattle.eds_read_types.specs.declared.reference_row.Wanted.TheVariants.{NumberType, ContainerType}
 use Rattle.eds_read_types.proofs.NoBreaks.{none_at, least-none, types-apart, no_repeats}
 use Rattle.eds_read_types.proofs.Unbroken.{IsUnbroken, unbroken}
-use Rattle.eds_read_types.proofs.SheetPlaces.{at_one, each-none as nowhere, of_types}
-use Rattle.eds_read_types.proofs.Limits.{few_types, length-rows, no_container, has_few_entries, are_few}
+use Rattle.eds_type_rows.proofs.SheetPlaces.{at_one, each-none as nowhere, of_types}
+use Rattle.eds_type_rows.proofs.Limits.{few_types, length-rows, no_container, has_few_entries, are_few}
 use Rattle.eds_read_types.proofs.LawFacts.{name_apart, enumerated_unbroken}
 use Rattle.eds_read_types.proofs.PlainRules.{IsSolid, EntryKeeps, IsPlainArray, IsPlainKind, KeepsRow, ArePlainRows, solid_other, own_placed, keeps_by_rows}
-use Rattle.eds_read_types.proofs.PartOrder.{by_lists}
+use Rattle.eds_type_rows.proofs.PartOrder.{by_lists}
 use Rattle.eds_read_types.proofs.RowRules.{AreLeveled, alike_kinds}
-use Rattle.eds_read_types.proofs.SequenceFacts.{OwnDiffer, AreDisjoint, name_mark, length_mark, parts_above, has-parts, disjoint-by}
+use Rattle.eds_type_rows.proofs.SequenceFacts.{OwnDiffer, AreDisjoint, name_mark, length_mark, parts_above, has-parts, disjoint-by}
 use Rattle.eds_read_types.proofs.FamilyFacts.{size_is}
 use Rattle.eds_nesting.specs.Families.{families, family, containers, types_of, types_in}
 use Rattle.eds_read_types.specs.LimitFamily.{family_size, family_at}
@@ -105,11 +105,11 @@ use Rattle.eds_read_types.proofs.TailFacts.{tail_kept}
 use Rattle.eds_read_types.proofs.LengthFacts.{part_sort_named, scaled, int_is, own_fewer, own_none}
 use Rattle.eds_read_types.proofs.MeasureFacts.{own_measured, further_none}
 use Rattle.eds_read_types.proofs.CheckFacts.{held}
-use Rattle.eds_read_types.proofs.FixedFacts.{value-read}
+use Rattle.eds_type_rows.proofs.FixedFacts.{value-read}
 use Rattle.eds_read_types.proofs.PartFacts.{mapped_there, placed_all, no_item, part_none}
-use Rattle.eds_read_types.proofs.PartNames.{among_has, among_parts, element_names, row_names as parts_named, names_distinct, padding_keeps}
-use Rattle.eds_read_types.proofs.Found.{id_there, found_there, number_there}
-use Rattle.eds_read_types.proofs.SortFacts.{sort_named, binary_keeps}
+use Rattle.eds_type_rows.proofs.PartNames.{among_has, among_parts, element_names, row_names as parts_named, names_distinct, padding_keeps}
+use Rattle.eds_type_rows.proofs.Found.{id_there, found_there, number_there}
+use Rattle.eds_type_rows.proofs.SortFacts.{sort_named, binary_keeps}
 use Rattle.eds_read_types.proofs.ChainFacts.{each-none, over-none, unmet, level, level_none, in_no_cycle, less_bases, low_by_chain}
 use Rattle.eds_read_types.proofs.Circles.{depth, less_deep}
 use Rattle.eds_read_types.proofs.NumberFacts.{HasNumbers, IsNoContainer, known_bases, base_there, base_is_sub, domains, derives_from}

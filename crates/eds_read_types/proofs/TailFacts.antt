@@ -12,7 +12,7 @@ use Rattle.eds_types.specs.Rules.{is_length, TailKeeps}
 use Rattle.eds_types.proofs.AllOf.{All-flat, All-reverse}
 use Rattle.eds_read_types.specs.Parts.{parts_in}
 use Rattle.eds_read_types.specs.LengthField.{is_base, has_derived, is_last, tells_length, lacks_size, is_tail}
-use Rattle.eds_read_types.proofs.SequenceFacts.{has-parts}
+use Rattle.eds_type_rows.proofs.SequenceFacts.{has-parts}
 
 either_or : (a b : Bool) → (a || b) ≡ true → (a ≡ true) ⊎ (b ≡ true)
 either_or true b h = inl refl

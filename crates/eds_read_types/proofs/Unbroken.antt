@@ -6,9 +6,9 @@ use Rattle.eds_tree.specs.declared.tree.Node.{Node}
 use Rattle.eds_names.specs.LookUp.{Names}
 use Rattle.eds_constraints.specs.Breaks.{breaks_target, breaks_value, breaks_empty}
 use Rattle.eds_read_types.specs.declared.reference_row.Wanted.TheVariants.{AnyType}
-use Rattle.eds_read_types.specs.Places.{elements}
+use Rattle.eds_type_rows.specs.Places.{elements, word_place}
 use Rattle.eds_read_types.specs.Judging.{judged_first, breaks_in_phase, breaks_by_phase}
-use Rattle.eds_read_types.specs.References.{word_place, judged_text, judged_at}
+use Rattle.eds_read_types.specs.References.{judged_text, judged_at}
 use Rattle.eds_read_types.specs.Unresolved.{unresolved_at}
 use Rattle.eds_read_types.specs.WrongKind.{wrong_kind_at}
 use Rattle.eds_read_types.specs.BaseCycle.{breaks_cycle}
@@ -30,9 +30,9 @@ use Rattle.eds_read_types.specs.LengthField.{length_field_at, scale_at, second_l
 use Rattle.eds_read_types.specs.FixedValue.{fixed_value_at}
 use Rattle.eds_read_types.specs.ErrorControl.{error_control_at}
 use Rattle.eds_read_types.specs.ConstraintElements.{asked_lists}
-use Rattle.eds_read_types.specs.TableRows.{table_rows}
+use Rattle.eds_type_rows.specs.TableRows.{table_rows}
 use Rattle.eds_read_types.specs.TableBreaks.{rules, table_breaks}
-use Rattle.eds_read_types.proofs.NoBreaks.{append-none}
+use Rattle.eds_type_rows.proofs.ListFacts.{append-none}
 
 -- ---- phases
 

@@ -6,9 +6,10 @@ use Rattle.eds_base.specs.declared.rule.Rule.TheVariants.{BadEnumeration}
 use Rattle.eds_bits.specs.declared.forms.IntForm.{IntForm}
 use Rattle.eds_tree.specs.declared.tree.Node.{Node}
 use Rattle.eds_names.specs.LookUp.{Names}
-use Rattle.eds_read_types.specs.Forms.{int_form_of}
-use Rattle.eds_read_types.specs.Listings.{listing_of, is_listing}
-use Rattle.eds_read_types.specs.ScalarKinds.{is_enumerated, broken_where, breaks_each}
+use Rattle.eds_type_rows.specs.Forms.{int_form_of}
+use Rattle.eds_type_rows.specs.Listings.{listing_of, is_listing}
+use Rattle.eds_type_rows.specs.ScalarKinds.{is_enumerated}
+use Rattle.eds_read_types.specs.Breaks.{broken_where, breaks_each}
 
 -- These are none that a type of the form may list. Without a form the lower rule is broken.
 abbrev pub misses_listing_by : Option IntForm → List (List ℕ × ℤ) → Bool

@@ -6,9 +6,9 @@ use Rattle.eds_base.specs.declared.refusal.Refusal.{Refusal}
 use Rattle.eds_base.specs.declared.rule.Rule.TheVariants.{BaseCycle}
 use Rattle.eds_tree.specs.declared.tree.Node.{Node}
 use Rattle.eds_names.specs.LookUp.{Names}
-use Rattle.eds_read_types.specs.Places.{type_places}
-use Rattle.eds_read_types.specs.References.{broken}
-use Rattle.eds_read_types.specs.Bases.{bases_of, is_in_cycle, breaks_over}
+use Rattle.eds_type_rows.specs.Places.{type_places}
+use Rattle.eds_read_types.specs.Breaks.{broken, breaks_over}
+use Rattle.eds_type_rows.specs.Bases.{bases_of, is_in_cycle}
 
 -- at one type, by its number
 abbrev pub cycle_at : List (Option TypeId) → ℕ → Place → List Refusal

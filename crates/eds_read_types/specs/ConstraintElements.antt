@@ -8,13 +8,13 @@ use Rattle.eds_names.specs.LookUp.{Names}
 use Rattle.eds_constraints.specs.declared.asked.Asked.{Asked}
 use Rattle.eds_constraints.specs.declared.asked.Test.{Test}
 use Rattle.eds_constraints.specs.declared.asked.Test.TheVariants.{Value, Within, Under}
-use Rattle.eds_constraints.specs.declared.range.Range.{Range}
+use Rattle.eds_domains.specs.declared.range.Range.{Range}
 use Rattle.eds_constraints.specs.Breaks.{Lists}
-use Rattle.eds_constraints.specs.Ranges.{no_range}
-use Rattle.eds_read_types.specs.Places.{is_element, attribute, children, held, type_places}
-use Rattle.eds_read_types.specs.PartRows.{id_or_first}
-use Rattle.eds_read_types.specs.Ranges.{range_in}
-use Rattle.eds_read_types.specs.ReadTypes.{id_found}
+use Rattle.eds_domains.specs.Ranges.{no_range}
+use Rattle.eds_type_rows.specs.Places.{is_element, attribute, children, held, type_places}
+use Rattle.eds_type_rows.specs.PartRows.{id_or_first}
+use Rattle.eds_type_rows.specs.Ranges.{range_in}
+use Rattle.eds_type_rows.specs.ReadTypes.{id_found}
 
 -- ---- the elements
 

@@ -10,10 +10,10 @@ use Rattle.eds_names.specs.LookUp.{Names}
 use Rattle.eds_types.specs.declared.row.Container.{Container}
 use Rattle.eds_types.specs.Rows.{Table, container_of, base_of}
 use Rattle.eds_types.specs.Rules.{name_of}
-use Rattle.eds_read_types.specs.Places.{own_name, is_container}
-use Rattle.eds_read_types.specs.References.{broken_with}
+use Rattle.eds_type_rows.specs.Places.{own_name, is_container}
+use Rattle.eds_read_types.specs.Breaks.{broken_with}
 use Rattle.eds_read_types.specs.Parts.{RowJudgement, at_rows, parts_in}
-use Rattle.eds_read_types.specs.Entries.{parts_at, named_among}
+use Rattle.eds_type_rows.specs.Entries.{parts_at, named_among}
 
 -- an entry's name is none of those before it
 abbrev pub repeat_of : List (List ℕ) → Place → List ℕ → List Refusal

@@ -8,16 +8,16 @@ use Rattle.eds_base.specs.declared.rule.Rule.TheVariants.{EmptyRange}
 use Rattle.eds_bits.specs.declared.forms.IntForm.{IntForm}
 use Rattle.eds_tree.specs.declared.tree.Node.{Node}
 use Rattle.eds_names.specs.LookUp.{Names}
-use Rattle.eds_constraints.specs.declared.range.Range.{Range}
-use Rattle.eds_read_types.specs.Places.{is_sub_range, type_places}
-use Rattle.eds_read_types.specs.References.{broken}
-use Rattle.eds_read_types.specs.Forms.{int_form_of}
-use Rattle.eds_read_types.specs.Ranges.{range_of}
-use Rattle.eds_constraints.specs.Domains.{domain_of, has_none}
-use Rattle.eds_read_types.specs.Bases.{bases_of, bases_within, breaks_over}
-use Rattle.eds_read_types.specs.ScalarKinds.{is_integer, broken_where, breaks_each}
-use Rattle.eds_read_types.specs.BadEncoding.{lacks_form}
-use Rattle.eds_read_types.specs.Numbers.{numbers_of}
+use Rattle.eds_domains.specs.declared.range.Range.{Range}
+use Rattle.eds_type_rows.specs.Places.{is_sub_range, type_places}
+use Rattle.eds_read_types.specs.Breaks.{broken, breaks_over, broken_where, breaks_each}
+use Rattle.eds_type_rows.specs.Forms.{int_form_of}
+use Rattle.eds_type_rows.specs.Ranges.{range_of}
+use Rattle.eds_domains.specs.Domains.{domain_of, has_none}
+use Rattle.eds_type_rows.specs.Bases.{bases_of, bases_within}
+use Rattle.eds_type_rows.specs.ScalarKinds.{is_integer}
+use Rattle.eds_type_rows.specs.LackingForms.{lacks_form_at}
+use Rattle.eds_type_rows.specs.Numbers.{numbers_of}
 
 -- ---- integer types
 
@@ -39,16 +39,6 @@ abbrev pub breaks_range : List (List Node) → Names → List Refusal
 breaks_range trees names = breaks_each range_breaks trees names
 
 -- ---- sub-ranges
-
--- the type of a file, where there is such a file, has no form
-abbrev pub lacks_form_in : Option (List Node) → ℕ → Bool
-lacks_form_in None n = false
-lacks_form_in (Some t) n = lacks_form t n
-
--- the type at a place has no form
-abbrev pub lacks_form_at : List (List Node) → Option Place → Bool
-lacks_form_at trees None = false
-lacks_form_at trees (Some at) = lacks_form_in (slice_get trees at.file) at.node
 
 module _ (trees : List (List Node)) (places : List Place) (bases : List (Option TypeId)) where
   -- the type of a number has no numbers

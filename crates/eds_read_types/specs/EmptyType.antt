@@ -10,9 +10,10 @@ use Rattle.eds_tree.specs.declared.tree.Node.{Node}
 use Rattle.eds_names.specs.LookUp.{Names}
 use Rattle.eds_types.specs.Fields.{type_by}
 use Rattle.eds_types.specs.Rows.{Table}
-use Rattle.eds_read_types.specs.References.{broken, word_place}
-use Rattle.eds_read_types.specs.ReadTypes.{word_type}
-use Rattle.eds_read_types.specs.TableRows.{table_rows}
+use Rattle.eds_read_types.specs.Breaks.{broken}
+use Rattle.eds_type_rows.specs.Places.{word_place}
+use Rattle.eds_type_rows.specs.ReadTypes.{word_type}
+use Rattle.eds_type_rows.specs.TableRows.{table_rows}
 use Rattle.eds_read_types.specs.Emptiness.{item_of, may_be_empty, is_empty_part}
 use Rattle.eds_read_types.specs.Faults.{passes_type, is_judged}
 use Rattle.eds_read_types.specs.Parts.{RowJudgement, PartJudgement, at_rows, at_parts}

@@ -10,12 +10,13 @@ use Rattle.eds_bits.specs.declared.forms.CheckKind.{CheckKind}
 use Rattle.eds_bits.specs.Scalars.{check_bits}
 use Rattle.eds_tree.specs.declared.tree.Node.{Node}
 use Rattle.eds_names.specs.LookUp.{Names}
-use Rattle.eds_read_types.specs.Held.{child_named}
-use Rattle.eds_read_types.specs.Places.{is_element, type_places}
-use Rattle.eds_read_types.specs.Forms.{int_form_of}
-use Rattle.eds_read_types.specs.ScalarKinds.{is_integer, broken_where}
-use Rattle.eds_read_types.specs.Checks.{check_at}
-use Rattle.eds_read_types.specs.PartRows.{entry_id}
+use Rattle.eds_type_rows.specs.Held.{child_named}
+use Rattle.eds_type_rows.specs.Places.{is_element, type_places}
+use Rattle.eds_type_rows.specs.Forms.{int_form_of}
+use Rattle.eds_type_rows.specs.ScalarKinds.{is_integer}
+use Rattle.eds_read_types.specs.Breaks.{broken_where}
+use Rattle.eds_type_rows.specs.Checks.{check_at}
+use Rattle.eds_type_rows.specs.PartRows.{entry_id}
 use Rattle.eds_read_types.specs.PartElements.{ElementJudgement, at_part_elements}
 
 -- ---- the type of a check

@@ -1,5 +1,6 @@
 -- The rules on the references inside interfaces and components.
 use Rattle.std.specs.Prelude.{ℕ, List, [], ◌∷◌, codes, if◌then◌else◌, Bool, true, false, not, Option, Some, None, slice_get}
+use Rattle.std.specs.List.{flat_map}
 use Rattle.eds_base.specs.declared.ids.Place.{Place}
 use Rattle.eds_base.specs.declared.ids.TypeId.{TypeId}
 use Rattle.eds_base.specs.declared.refusal.Refusal.{Refusal}
@@ -12,15 +13,26 @@ use Rattle.eds_names.specs.Declarations.{is_sort, is_face}
 use Rattle.eds_names.specs.LookUp.{Names, look_up}
 use Rattle.eds_types.specs.Rows.{Table}
 use Rattle.eds_types.specs.Sizes.{open_of}
-use Rattle.eds_read_types.specs.declared.face_reference.Sought.{Sought}
-use Rattle.eds_read_types.specs.declared.face_reference.Sought.TheVariants.{BaseInterface, EndInterface, GenericBase, MemberType}
-use Rattle.eds_read_types.specs.declared.face_reference.FaceReference.{FaceReference}
-use Rattle.eds_read_types.specs.References.{broken, broken_with}
+use Rattle.eds_type_rows.specs.declared.face_reference.Sought.{Sought}
+use Rattle.eds_type_rows.specs.declared.face_reference.Sought.TheVariants.{BaseInterface, EndInterface, GenericBase, MemberType}
+use Rattle.eds_type_rows.specs.declared.face_reference.FaceReference.{FaceReference}
+use Rattle.eds_read_types.specs.Breaks.{broken, broken_with}
 use Rattle.eds_read_types.specs.Unresolved.{unresolved_by}
-use Rattle.eds_read_types.specs.ReadTypes.{id_found}
-use Rattle.eds_read_types.specs.Places.{attribute}
-use Rattle.eds_read_types.specs.FaceReferences.{face_places}
-use Rattle.eds_read_types.specs.InnerReferences.{FaceJudgement, at_faces}
+use Rattle.eds_type_rows.specs.ReadTypes.{id_found}
+use Rattle.eds_type_rows.specs.Places.{attribute}
+use Rattle.eds_type_rows.specs.FaceReferences.{face_places}
+use Rattle.eds_type_rows.specs.TableRows.{table_rows}
+use Rattle.eds_type_rows.specs.InnerReferences.{inner_references}
+
+-- ---- rules at each such reference
+
+-- what breaks a rule at one of them, of which the trees, the names and the rows of all types are given
+abbrev pub FaceJudgement : Type 0
+FaceJudgement = List (List Node) → Names → Table → FaceReference → List Refusal
+
+-- what breaks a rule that is judged at each reference inside interfaces and components
+abbrev pub at_faces : FaceJudgement → List (List Node) → Names → List Refusal
+at_faces judge trees names = flat_map (judge trees names (table_rows trees names)) (inner_references trees names)
 
 -- ---- a reference finds something; an own generic name need not be looked up
 

@@ -11,9 +11,9 @@ use Rattle.eds_types.specs.Rows.{Table, container_of}
 use Rattle.eds_constraints.specs.Broken.{is_broken}
 use Rattle.eds_graph.specs.Reaching.{mark}
 use Rattle.eds_nesting.specs.Families.{types_in}
-use Rattle.eds_read_types.specs.Places.{type_places}
+use Rattle.eds_type_rows.specs.Places.{type_places}
 use Rattle.eds_read_types.specs.ConstraintElements.{asked_lists}
-use Rattle.eds_read_types.specs.TableRows.{table_rows}
+use Rattle.eds_type_rows.specs.TableRows.{table_rows}
 use Rattle.eds_read_types.specs.Parts.{parts_in, judged_parts}
 use Rattle.eds_read_types.specs.PartElements.{judged_elements}
 use Rattle.eds_read_types.specs.DuplicateEntry.{duplicates_at}

@@ -4,10 +4,10 @@ use Rattle.eds_base.specs.declared.refusal.Refusal.{Refusal}
 use Rattle.eds_base.specs.declared.rule.Rule.TheVariants.{FixedValue}
 use Rattle.eds_tree.specs.declared.tree.Node.{Node}
 use Rattle.eds_names.specs.LookUp.{Names}
-use Rattle.eds_read_types.specs.Places.{is_element}
-use Rattle.eds_read_types.specs.ScalarKinds.{broken_where}
-use Rattle.eds_read_types.specs.FixedValues.{fixed_value}
-use Rattle.eds_read_types.specs.PartRows.{entry_id}
+use Rattle.eds_type_rows.specs.Places.{is_element}
+use Rattle.eds_read_types.specs.Breaks.{broken_where}
+use Rattle.eds_type_rows.specs.FixedValues.{fixed_value}
+use Rattle.eds_type_rows.specs.PartRows.{entry_id}
 use Rattle.eds_read_types.specs.PartElements.{ElementJudgement, at_part_elements}
 
 -- at one part

@@ -16,11 +16,10 @@ use Rattle.eds_types.specs.declared.row.Part.TheVariants as part
 use Rattle.eds_types.specs.Rows.{Table, number_of_id, base_of, entries_of, trailers_of, chain, Placed}
 use Rattle.eds_types.specs.Sizes.{open_of, part_size}
 use Rattle.eds_types.specs.Rules.{is_length}
-use Rattle.eds_read_types.specs.Places.{is_element}
-use Rattle.eds_read_types.specs.References.{broken}
-use Rattle.eds_read_types.specs.ScalarKinds.{broken_where}
-use Rattle.eds_read_types.specs.Entries.{parts_at}
-use Rattle.eds_read_types.specs.Calibrators.{has_scale}
+use Rattle.eds_type_rows.specs.Places.{is_element}
+use Rattle.eds_read_types.specs.Breaks.{broken, broken_where}
+use Rattle.eds_type_rows.specs.Entries.{parts_at}
+use Rattle.eds_type_rows.specs.Calibrators.{has_scale}
 use Rattle.eds_read_types.specs.Parts.{PartJudgement, RowJudgement, at_rows, at_parts}
 use Rattle.eds_read_types.specs.PartElements.{ElementJudgement, at_part_elements}
 

@@ -6,7 +6,7 @@ use Rattle.eds_tree.specs.declared.tree.Node.{Node}
 use Rattle.eds_names.specs.LookUp.{Names}
 use Rattle.eds_types.specs.Rows.{Table, chain_within}
 use Rattle.eds_graph.specs.Ways.{is_endless}
-use Rattle.eds_read_types.specs.References.{broken_with}
+use Rattle.eds_read_types.specs.Breaks.{broken_with}
 use Rattle.eds_read_types.specs.Parts.{RowJudgement, at_rows}
 use Rattle.eds_read_types.specs.Nesting.{course_of}
 

@@ -7,7 +7,7 @@ use Rattle.eds_names.specs.LookUp.{Names}
 use Rattle.eds_types.specs.Rows.{Table}
 use Rattle.eds_graph.specs.Ways.{is_endless}
 use Rattle.eds_nesting.specs.Families.{families, family_sizes}
-use Rattle.eds_read_types.specs.References.{broken_with}
+use Rattle.eds_read_types.specs.Breaks.{broken_with}
 use Rattle.eds_read_types.specs.Parts.{RowJudgement, at_rows}
 use Rattle.eds_read_types.specs.Nesting.{course_of}
 

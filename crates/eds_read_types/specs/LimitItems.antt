@@ -8,7 +8,7 @@ use Rattle.eds_names.specs.LookUp.{Names}
 use Rattle.eds_types.specs.declared.row.TypeRow.{TypeRow}
 use Rattle.eds_types.specs.declared.row.Kind.{Kind}
 use Rattle.eds_types.specs.declared.row.Kind.TheVariants as kind
-use Rattle.eds_read_types.specs.References.{broken_with}
+use Rattle.eds_read_types.specs.Breaks.{broken_with}
 use Rattle.eds_read_types.specs.Parts.{RowJudgement, at_rows}
 
 -- the kind is that of an array of more than 65,536 items

@@ -7,7 +7,7 @@ use Rattle.eds_tree.specs.declared.tree.Node.{Node}
 use Rattle.eds_names.specs.LookUp.{Names}
 use Rattle.eds_graph.specs.declared.course.Course.{Course}
 use Rattle.eds_graph.specs.declared.course.Course.TheVariants.{OnCircle, ToCircle, Ends}
-use Rattle.eds_read_types.specs.References.{broken_with}
+use Rattle.eds_read_types.specs.Breaks.{broken_with}
 use Rattle.eds_read_types.specs.Parts.{RowJudgement, at_rows}
 use Rattle.eds_read_types.specs.Nesting.{course_of}
 

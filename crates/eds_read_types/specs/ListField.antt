@@ -14,7 +14,7 @@ use Rattle.eds_types.specs.declared.row.Kind.TheVariants as kind
 use Rattle.eds_types.specs.declared.row.Part.{Part}
 use Rattle.eds_types.specs.declared.row.Part.TheVariants as part
 use Rattle.eds_types.specs.Rows.{Table, container_of, entries_in, chain, list_has}
-use Rattle.eds_read_types.specs.References.{broken}
+use Rattle.eds_read_types.specs.Breaks.{broken}
 use Rattle.eds_read_types.specs.Parts.{PartJudgement, at_parts, parts_in}
 
 -- a number among these is negative

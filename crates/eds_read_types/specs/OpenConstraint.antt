@@ -12,7 +12,7 @@ use Rattle.eds_constraints.specs.declared.asked.Test.{Test}
 use Rattle.eds_constraints.specs.declared.asked.Test.TheVariants.{Value, Within, Under}
 use Rattle.eds_read_types.specs.ConstraintElements.{asked_lists}
 use Rattle.eds_read_types.specs.FaceRules.{untold_where}
-use Rattle.eds_read_types.specs.TableRows.{table_rows}
+use Rattle.eds_type_rows.specs.TableRows.{table_rows}
 
 -- what breaks LengthField at the constraint at a place, by what it compares its entry with
 abbrev pub open_test : Table → Place → Test → List Refusal

@@ -5,8 +5,8 @@ use Rattle.eds_base.specs.declared.ids.Place.{Place}
 use Rattle.eds_base.specs.declared.refusal.Refusal.{Refusal}
 use Rattle.eds_tree.specs.declared.tree.Node.{Node}
 use Rattle.eds_names.specs.LookUp.{Names}
-use Rattle.eds_read_types.specs.Places.{type_places}
-use Rattle.eds_read_types.specs.Entries.{parts_at}
+use Rattle.eds_type_rows.specs.Places.{type_places}
+use Rattle.eds_type_rows.specs.Entries.{parts_at}
 
 -- what breaks a rule at the element of a place
 abbrev pub ElementJudgement : Type 0

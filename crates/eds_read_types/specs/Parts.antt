@@ -7,10 +7,10 @@ use Rattle.eds_names.specs.LookUp.{Names}
 use Rattle.eds_types.specs.declared.row.Container.{Container}
 use Rattle.eds_types.specs.declared.row.Part.{Part}
 use Rattle.eds_types.specs.Rows.{Table, container_of, entries_in, trailers_in, Placed}
-use Rattle.eds_read_types.specs.Places.{type_places}
-use Rattle.eds_read_types.specs.Bases.{breaks_over}
-use Rattle.eds_read_types.specs.Entries.{own_parts_at}
-use Rattle.eds_read_types.specs.TableRows.{table_rows}
+use Rattle.eds_type_rows.specs.Places.{type_places}
+use Rattle.eds_read_types.specs.Breaks.{breaks_over}
+use Rattle.eds_type_rows.specs.Entries.{own_parts_at}
+use Rattle.eds_type_rows.specs.TableRows.{table_rows}
 
 -- ---- at each type
 

@@ -1,31 +1,18 @@
 -- The references to types that a sheet has, and what they find.
-use Rattle.std.specs.Prelude.{ℕ, List, [], ◌∷◌, ◌++◌, length, codes, Bool, true, if◌then◌else◌, Option, Some, None, slice_get, is_some}
+use Rattle.std.specs.Prelude.{ℕ, List, [], ◌∷◌, ◌++◌, codes, Bool, true, if◌then◌else◌, Option, Some, None, slice_get, is_some}
 use Rattle.std.specs.List.{flat_map}
-use Rattle.eds_base.specs.Reading.{◌>>=◌, same}
+use Rattle.eds_base.specs.Reading.{same}
 use Rattle.eds_base.specs.declared.ids.Place.{Place}
 use Rattle.eds_base.specs.declared.refusal.Refusal.{Refusal}
-use Rattle.eds_base.specs.declared.refusal.Kept.TheVariants.{Nothing}
-use Rattle.eds_base.specs.declared.rule.Rule.{Rule}
 use Rattle.eds_tree.specs.declared.tree.Node.{Node}
-use Rattle.eds_tree.specs.Breaks.{refusal_at}
 use Rattle.eds_tree.specs.Trees.{node_name}
 use Rattle.eds_names.specs.declared.declared.Item.{Item}
 use Rattle.eds_names.specs.declared.declared.Item.TheVariants as item
-use Rattle.eds_names.specs.LookUp.{Names, look_up}
+use Rattle.eds_names.specs.LookUp.{Names}
 use Rattle.eds_read_types.specs.declared.reference_row.Wanted.{Wanted}
 use Rattle.eds_read_types.specs.declared.reference_row.Wanted.TheVariants.{AnyType, NumberType, ContainerType, IndexType}
 use Rattle.eds_read_types.specs.declared.reference_row.ReferenceRow.{ReferenceRow}
-use Rattle.eds_read_types.specs.Places.{element, is_container, is_number, is_index, attribute, elements, type_places}
-
--- ---- refusals at a place
-
--- a rule is broken at a place, and a word is kept
-abbrev pub broken_with : Rule → Place → List ℕ → Refusal
-broken_with rule at word = refusal_at rule at.file at.node word
-
--- a rule is broken at a place, and nothing is kept
-abbrev pub broken : Rule → Place → Refusal
-broken rule at = record { rule = rule; place = at; kept = Nothing }
+use Rattle.eds_type_rows.specs.Places.{element, is_container, is_number, is_index, attribute, elements, type_places, word_place}
 
 -- ---- the elements that refer to types
 
@@ -62,10 +49,6 @@ reference_of r = record { element = r.element.now; attribute = r.attribute.now; 
 abbrev pub row_for : List Reference → List ℕ → Option Reference
 row_for [] name = None
 row_for (row ∷ rows) name = if same row.element name then Some row else row_for rows name
-
--- the place of the TYPE word: it stands behind all files
-abbrev pub word_place : List (List Node) → Place
-word_place trees = record { file = length trees; node = 0 }
 
 -- ---- a rule that is judged at each reference
 
@@ -105,10 +88,6 @@ abbrev pub type_of : Names → Item → Option Place
 type_of names (item.Sort id) = slice_get (type_places names) id.0
 type_of names (item.Face id) = None
 type_of names (item.Comp id) = None
-
--- the element of the type that a reference from a place finds
-abbrev pub type_found : Names → Place → List ℕ → Option Place
-type_found names at text = look_up names at text >>= type_of names
 
 -- the type at a place is one that is wanted
 abbrev pub admits : List (List Node) → Wanted → Place → Bool

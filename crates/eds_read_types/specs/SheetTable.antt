@@ -5,7 +5,7 @@ use Rattle.eds_names.specs.LookUp.{Names}
 use Rattle.eds_types.specs.Rows.{Table}
 use Rattle.eds_constraints.specs.ConstrainedRows.{constrained}
 use Rattle.eds_read_types.specs.ConstraintElements.{asked_lists}
-use Rattle.eds_read_types.specs.TableRows.{table_rows}
+use Rattle.eds_type_rows.specs.TableRows.{table_rows}
 
 -- a row for each declared type, in order, with the constraints of its container
 abbrev pub sheet_table : List (List Node) → Names → Table

@@ -5,8 +5,8 @@ use Rattle.eds_base.specs.Refusals.{least}
 use Rattle.eds_tree.specs.declared.tree.Node.{Node}
 use Rattle.eds_names.specs.LookUp.{Names}
 use Rattle.eds_read_types.specs.declared.table.SheetTypes.{SheetTypes}
-use Rattle.eds_read_types.specs.ReadTypes.{word_type}
-use Rattle.eds_read_types.specs.InnerReferences.{inner_types}
+use Rattle.eds_type_rows.specs.ReadTypes.{word_type}
+use Rattle.eds_type_rows.specs.InnerReferences.{inner_types}
 use Rattle.eds_read_types.specs.SheetTable.{sheet_table}
 use Rattle.eds_read_types.specs.TableBreaks.{table_breaks}
 use Rattle.eds_read_types.specs.Used.{used_types}

@@ -6,7 +6,7 @@ use Rattle.eds_base.specs.declared.rule.Rule.TheVariants.{TypeCycle}
 use Rattle.eds_tree.specs.declared.tree.Node.{Node}
 use Rattle.eds_names.specs.LookUp.{Names}
 use Rattle.eds_graph.specs.Ways.{is_circular}
-use Rattle.eds_read_types.specs.References.{broken}
+use Rattle.eds_read_types.specs.Breaks.{broken}
 use Rattle.eds_read_types.specs.Parts.{RowJudgement, at_rows}
 use Rattle.eds_read_types.specs.Nesting.{course_of, meets_base_cycle}
 

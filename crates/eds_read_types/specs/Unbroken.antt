@@ -3,10 +3,10 @@ use Rattle.std.specs.Prelude.{◌≡◌, ℕ, List, Some}
 use Rattle.eds_bits.specs.declared.forms.IntForm.{IntForm}
 use Rattle.eds_tree.specs.declared.tree.Node.{Node}
 use Rattle.eds_types.specs.Rules.{IsDomain, IsListing}
-use Rattle.eds_read_types.specs.Forms.{int_form_of}
-use Rattle.eds_read_types.specs.Ranges.{range_of}
-use Rattle.eds_constraints.specs.Domains.{domain_of}
-use Rattle.eds_read_types.specs.Listings.{listing_of}
+use Rattle.eds_type_rows.specs.Forms.{int_form_of}
+use Rattle.eds_type_rows.specs.Ranges.{range_of}
+use Rattle.eds_domains.specs.Domains.{domain_of}
+use Rattle.eds_type_rows.specs.Listings.{listing_of}
 
 -- the integer type has a form, and its domain is one of the form
 pub record HasDomain (t : List Node) (n : ℕ) : Type 0 where

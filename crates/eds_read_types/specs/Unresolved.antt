@@ -6,7 +6,8 @@ use Rattle.eds_base.specs.declared.rule.Rule.TheVariants.{Unresolved}
 use Rattle.eds_tree.specs.declared.tree.Node.{Node}
 use Rattle.eds_names.specs.declared.declared.Item.{Item}
 use Rattle.eds_names.specs.LookUp.{Names, look_up}
-use Rattle.eds_read_types.specs.References.{ReferenceJudgement, broken_with, at_references}
+use Rattle.eds_read_types.specs.References.{ReferenceJudgement, at_references}
+use Rattle.eds_read_types.specs.Breaks.{broken_with}
 
 -- what breaks Unresolved at one reference, by the item that it finds, if it finds one
 abbrev pub unresolved_by : Place → List ℕ → Option Item → List Refusal

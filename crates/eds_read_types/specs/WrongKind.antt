@@ -7,7 +7,8 @@ use Rattle.eds_tree.specs.declared.tree.Node.{Node}
 use Rattle.eds_names.specs.declared.declared.Item.{Item}
 use Rattle.eds_names.specs.LookUp.{Names, look_up}
 use Rattle.eds_read_types.specs.declared.reference_row.Wanted.{Wanted}
-use Rattle.eds_read_types.specs.References.{ReferenceJudgement, broken_with, at_references, type_of, admits}
+use Rattle.eds_read_types.specs.References.{ReferenceJudgement, at_references, type_of, admits}
+use Rattle.eds_read_types.specs.Breaks.{broken_with}
 
 -- what breaks WrongKind at one reference, by the element of the type that it finds; what it finds besides is no type
 abbrev pub kind_by : List (List Node) → Place → List ℕ → Wanted → Option Place → List Refusal

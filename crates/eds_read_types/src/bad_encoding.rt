@@ -2,46 +2,15 @@
 
 ghost use Rattle.std.specs.Prelude.{◌≡◌};
 ghost use Rattle.eds_base.specs.Refusals.{least};
-ghost use Rattle.eds_read_types.specs.BadEncoding.{lacks_text_form, lacks_size, lacks_form, encoding_breaks};
+ghost use Rattle.eds_read_types.specs.BadEncoding.{encoding_breaks};
 
-use crate::breaks::PlaceRule;
-use crate::element::tree_at;
-use crate::form::{bool_form_of, int_form_of};
-use crate::named_trees::NamedTrees;
-use crate::scalar_kind::{
-    is_binary, is_boolean, is_enumerated, is_integer, is_string, refusal_where,
-};
-use crate::text_form::{binary_bits_of, text_form_of};
+use crate::breaks::{PlaceRule, refusal_where};
 use eds_base::{Memory, Place, Refusal, Rule};
 use eds_tree::Tree;
+use eds_type_rows::element::tree_at;
+use eds_type_rows::lacking_form::lacks_form;
+use eds_type_rows::named_trees::NamedTrees;
 use std::alloc::Global;
-
-/// Whether a string has no form.
-fn lacks_text_form(tree: &Tree, node: u32) -> bool
-    ensures { result ≡ lacks_text_form tree.now node }
-{
-    is_string(tree, node) && text_form_of(tree, node).is_none()
-}
-
-/// Whether a binary has no size.
-fn lacks_size(tree: &Tree, node: u32) -> bool
-    ensures { result ≡ lacks_size tree.now node }
-{
-    is_binary(tree, node) && binary_bits_of(tree, node).is_none()
-}
-
-/// Whether a type has no form or no size.
-pub(crate) fn lacks_form(tree: &Tree, node: u32) -> bool
-    ensures { result ≡ lacks_form tree.now node }
-{
-    if is_integer(tree, node) || is_enumerated(tree, node) {
-        int_form_of(tree, node).is_none()
-    } else if is_boolean(tree, node) {
-        bool_form_of(tree, node).is_none()
-    } else {
-        lacks_text_form(tree, node) || lacks_size(tree, node)
-    }
-}
 
 /// Whether the form of a type is none of the profile: the size of an integer, enumerated or boolean type is outside 1 to 64 bits,
 /// has no whole decimal digits or, in little-endian order, no whole octets; a string that is not fixed has no termination octet, or
@@ -57,7 +26,7 @@ pub(crate) struct BadEncoding;
 
 impl PlaceRule for BadEncoding {
     ghost use Rattle.eds_read_types.specs.BadEncoding.{encoding_breaks};
-    ghost use Rattle.eds_read_types.specs.ScalarKinds.{breaks_at};
+    ghost use Rattle.eds_read_types.specs.Breaks.{breaks_at};
 
     ghost breaks = { breaks_at encoding_breaks };
 

@@ -4,14 +4,14 @@ ghost use Rattle.std.specs.Prelude.{◌≡◌, IfOk};
 ghost use Rattle.eds_base.specs.Refusals.{least};
 ghost use Rattle.eds_read_types.specs.BadEnumeration.{misses_listing, enumeration_breaks};
 
-use crate::breaks::PlaceRule;
-use crate::element::tree_at;
-use crate::form::int_form_of;
-use crate::listing::{is_listing, listing_of};
-use crate::named_trees::NamedTrees;
-use crate::scalar_kind::{is_enumerated, refusal_where};
+use crate::breaks::{PlaceRule, refusal_where};
 use eds_base::{Memory, Place, Refusal, Rule};
 use eds_tree::Tree;
+use eds_type_rows::element::tree_at;
+use eds_type_rows::form::int_form_of;
+use eds_type_rows::listing::{is_listing, listing_of};
+use eds_type_rows::named_trees::NamedTrees;
+use eds_type_rows::scalar_kind::is_enumerated;
 use std::alloc::Global;
 
 /// Whether an enumerated type lists what it may not.
@@ -49,7 +49,7 @@ pub(crate) struct BadEnumeration;
 
 impl PlaceRule for BadEnumeration {
     ghost use Rattle.eds_read_types.specs.BadEnumeration.{enumeration_breaks};
-    ghost use Rattle.eds_read_types.specs.ScalarKinds.{breaks_at};
+    ghost use Rattle.eds_read_types.specs.Breaks.{breaks_at};
 
     ghost breaks = { breaks_at enumeration_breaks };
 

@@ -1,8 +1,8 @@
 //! The rule that no type is its own base.
 
-use crate::base_graph::{BaseGraph, is_cyclic};
 use crate::breaks::{TypeRule, broken};
 use eds_base::{Memory, Place, Refusal, Rule};
+use eds_type_rows::base_graph::{BaseGraph, is_cyclic};
 use std::alloc::Global;
 
 /// No type is its own base.

@@ -8,12 +8,11 @@ ghost use Rattle.eds_base.specs.declared.refusal.Refusal.{Refusal as refusal};
 ghost use Rattle.eds_base.specs.Refusals.{least};
 ghost use Rattle.eds_tree.specs.declared.tree.Node.{Node as node};
 ghost use Rattle.eds_names.specs.LookUp.{Names};
-ghost use Rattle.eds_read_types.specs.References.{broken_with as broken_keeping, broken as broken_bare};
-ghost use Rattle.eds_read_types.specs.Bases.{breaks_over};
+ghost use Rattle.eds_read_types.specs.Breaks.{broken_with as broken_keeping, broken as broken_bare, broken_where, breaks_over};
 
-use crate::base_graph::BaseGraph;
-use crate::named_trees::NamedTrees;
 use eds_base::{Kept, Memory, Place, Refusal, Rule, Text};
+use eds_type_rows::base_graph::BaseGraph;
+use eds_type_rows::named_trees::NamedTrees;
 use std::alloc::Global;
 
 /// A rule that is judged at one element or one type at a time, by its place.
@@ -98,4 +97,11 @@ pub(crate) fn broken(rule: Rule, at: Place) -> Refusal
         place: at,
         kept: Kept::Nothing,
     }
+}
+
+/// The refusal at a place, where a rule is broken there.
+pub(crate) fn refusal_where(fails: bool, rule: Rule, at: Place) -> Option<Refusal>
+    ensures { result ≡ least (broken_where fails rule at) }
+{
+    if fails { Some(broken(rule, at)) } else { None }
 }

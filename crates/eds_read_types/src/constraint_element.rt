@@ -4,14 +4,15 @@ ghost use Rattle.std.specs.Prelude.{◌≡◌, ◌++◌, filter, map, slice_get,
 ghost use Rattle.std.specs.List.{flat_map};
 ghost use Rattle.eds_read_types.specs.ConstraintElements.{is_constraint as is_constraint_in, constraints_held, constraints_at as constraints_in, range_of_tree, range_at as range_by_place, text_at as text_by_place, test_at as test_of, asked_at as asked_of, asked_by as asked_by_type, asked_lists as all_lists};
 
-use crate::element::{attribute, children_at, is_element, push_held, tree_at};
-use crate::named_trees::NamedTrees;
-use crate::part::id_or_first;
-use crate::range::range_in;
-use crate::reference::id_found;
 use eds_base::{Memory, Place, Text};
-use eds_constraints::{Asked, AskedOf, NO_RANGE, Range, Test};
+use eds_constraints::{Asked, AskedOf, Test};
+use eds_domains::{NO_RANGE, Range};
 use eds_tree::Tree;
+use eds_type_rows::element::{attribute, children_at, is_element, push_held, tree_at};
+use eds_type_rows::named_trees::NamedTrees;
+use eds_type_rows::part::id_or_first;
+use eds_type_rows::range::range_in;
+use eds_type_rows::type_id::id_found;
 use std::alloc::Global;
 
 // ---- the elements

@@ -4,17 +4,18 @@ ghost use Rattle.std.specs.Prelude.{◌≡◌, ◌∷◌, ◌++◌, [], ℕ, Lis
 ghost use Rattle.eds_base.specs.Refusals.{least, first_of};
 ghost use Rattle.eds_names.specs.Repeats.{is_among};
 ghost use Rattle.eds_read_types.specs.DuplicateEntry.{repeat_of, repeats, names_in, names_above as names_of_bases};
-ghost use Rattle.eds_read_types.specs.Entries.{named_among as named_in, parts_at as parts_in_order};
+ghost use Rattle.eds_type_rows.specs.Entries.{named_among as named_in, parts_at as parts_in_order};
 ghost use Rattle.eds_types.specs.Rows.{container_of, base_of as base_in, number_of_id};
 ghost use Rattle.eds_types.specs.Rules.{name_of};
 ghost use Rattle.std.specs.List.{filter_map};
 
 use crate::breaks::broken_with;
-use crate::element::{is_container, own_name};
-use crate::entry::{named_among, parts_at};
 use crate::sheet_rows::{RowRule, SheetRows, base_of, entries_of, trailers_of};
 use eds_base::{Memory, Place, Refusal, Rule, TypeId};
 use eds_tree::Tree;
+use eds_type_rows::element::{is_container, own_name};
+use eds_type_rows::entry::{named_among, parts_at};
+use eds_type_rows::name_set::note_name;
 use eds_types::{Part, TypeRows};
 use indexmap::IndexSet;
 use std::alloc::Global;
@@ -58,22 +59,6 @@ fn least_repeat(
 }
 
 // ---- the names of bases
-
-/// Puts a name among others.
-pub(crate) fn note_name(
-    alloc: Global,
-    names: &mut IndexSet<String>,
-    name: &str,
-) -> Result<(), Memory>
-    ensures { OnOk result ((q : List ℕ) → is_among (map string_bytes names.new.keys) q ≡ is_among (name.now ∷ map string_bytes names.old.keys) q) }
-{
-    if names.contains(name) {
-        return Ok(());
-    }
-    let name = String::from_str(alloc, name)?;
-    let _added = names.insert(name)?;
-    Ok(())
-}
 
 /// Puts the name of a part among others, where it has one.
 fn note_part(alloc: Global, names: &mut IndexSet<String>, part: &Part) -> Result<(), Memory>

@@ -3,22 +3,22 @@
 ghost use Rattle.std.specs.Prelude.{◌≡◌, IfOk};
 ghost use Rattle.std.specs.List.{list_any};
 ghost use Rattle.eds_base.specs.Refusals.{least};
-ghost use Rattle.eds_read_types.specs.Bases.{bases_within};
-ghost use Rattle.eds_read_types.specs.EmptyRange.{lacks_numbers_by, lacks_numbers, range_breaks, lacks_form_at as lacks_form_in, is_empty_type as is_empty_type_of, is_faulty as is_faulty_of, is_empty_by_itself as is_empty_by_itself_of};
+ghost use Rattle.eds_type_rows.specs.Bases.{bases_within};
+ghost use Rattle.eds_read_types.specs.EmptyRange.{lacks_numbers_by, lacks_numbers, range_breaks, is_empty_type as is_empty_type_of, is_faulty as is_faulty_of, is_empty_by_itself as is_empty_by_itself_of};
 
-use crate::bad_encoding::lacks_form;
-use crate::base_graph::{BaseGraph, base_at, type_at};
-use crate::breaks::{PlaceRule, TypeRule, broken};
-use crate::element::{is_sub_range, tree_at};
-use crate::form::int_form_of;
-use crate::named_trees::NamedTrees;
-use crate::numbers::numbers_of;
-use crate::range::range_of;
-use crate::scalar_kind::{is_integer, refusal_where};
+use crate::breaks::{PlaceRule, TypeRule, broken, refusal_where};
 use eds_base::{Memory, Place, Refusal, Rule};
 use eds_bits::IntForm;
-use eds_constraints::{Range, is_empty_domain};
+use eds_domains::{Range, is_empty_domain};
 use eds_tree::Tree;
+use eds_type_rows::base_graph::{BaseGraph, base_at, type_at};
+use eds_type_rows::element::{is_sub_range, tree_at};
+use eds_type_rows::form::int_form_of;
+use eds_type_rows::lacking_form::lacks_form_at;
+use eds_type_rows::named_trees::NamedTrees;
+use eds_type_rows::numbers::numbers_of;
+use eds_type_rows::range::range_of;
+use eds_type_rows::scalar_kind::is_integer;
 use std::alloc::Global;
 
 // ---- integer types
@@ -49,7 +49,7 @@ pub(crate) struct EmptyRange;
 
 impl PlaceRule for EmptyRange {
     ghost use Rattle.eds_read_types.specs.EmptyRange.{range_breaks};
-    ghost use Rattle.eds_read_types.specs.ScalarKinds.{breaks_at};
+    ghost use Rattle.eds_read_types.specs.Breaks.{breaks_at};
 
     ghost breaks = { breaks_at range_breaks };
 
@@ -62,16 +62,6 @@ impl PlaceRule for EmptyRange {
 }
 
 // ---- sub-ranges
-
-/// Whether the type at a place has no form.
-pub(crate) fn lacks_form_at(trees: &[Tree], at: Option<Place>) -> bool
-    ensures { result ≡ lacks_form_in trees.now at }
-{
-    let Some(at) = at else {
-        return false;
-    };
-    tree_at(trees, at.file).is_some_and(|tree| lacks_form(tree, at.node))
-}
 
 /// Whether a type has no numbers.
 fn is_empty_type(alloc: Global, graph: &BaseGraph, id: usize) -> Result<bool, Memory>

@@ -3,7 +3,7 @@
 ghost use Rattle.std.specs.Prelude.{◌≡◌, option_map, IfOk};
 ghost use Rattle.eds_base.specs.declared.ids.TypeId.{TypeId as type_id};
 ghost use Rattle.eds_base.specs.Refusals.{least};
-ghost use Rattle.eds_read_types.specs.Bases.{breaks_over};
+ghost use Rattle.eds_read_types.specs.Breaks.{breaks_over};
 ghost use Rattle.eds_read_types.specs.Parts.{judged_part, judged_parts, at_rows};
 ghost use Rattle.eds_read_types.specs.Emptiness.{item_of as item_of_row};
 ghost use Rattle.eds_read_types.specs.Faults.{is_unmarked, passes_type};
@@ -11,14 +11,14 @@ ghost use Rattle.eds_read_types.specs.EmptyType.{empty_where as empty_where_at, 
 
 use crate::breaks::broken;
 use crate::emptiness::{Emptiness, item_of};
-use crate::entry::own_parts_at;
 use crate::faults::faults;
 use crate::hollow::hollows;
 use crate::kin::mark_at;
-use crate::reference::word_type;
 use crate::rules::SheetRule;
 use crate::sheet_rows::{SheetRows, part_of};
 use eds_base::{Memory, Place, Refusal, Rule, TypeId};
+use eds_type_rows::entry::own_parts_at;
+use eds_type_rows::type_id::word_type;
 use std::alloc::Global;
 
 // ---- at parts, arrays and the TYPE word

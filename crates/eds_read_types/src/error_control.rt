@@ -1,49 +1,22 @@
 //! The rule that the type of an error control holds its check.
 
-ghost use Rattle.std.specs.Prelude.{◌≡◌, IfOk, option_map};
+ghost use Rattle.std.specs.Prelude.{◌≡◌, IfOk};
 ghost use Rattle.eds_bits.specs.Scalars.{check_bits as bits_of_check};
-ghost use Rattle.eds_read_types.specs.Checks.{check_named as check_of_word, check_at as check_in};
 ghost use Rattle.eds_read_types.specs.ErrorControl.{is_unsigned as is_unsigned_encoding, fits_check as fits_check_of, holds_check as holds_check_of, holds_check_at as holds_check_in_place, is_held as is_held_at};
 
-use crate::breaks::PlaceRule;
-use crate::element::{attribute, child_named, is_element, tree_at};
-use crate::form::int_form_of;
-use crate::named_trees::NamedTrees;
-use crate::part::entry_id;
-use crate::scalar_kind::{is_integer, refusal_where};
+use crate::breaks::{PlaceRule, refusal_where};
 use eds_base::{Memory, Place, Refusal, Rule};
 use eds_bits::{CheckKind, Encoding, IntForm};
 use eds_tree::Tree;
+use eds_type_rows::check::check_at;
+use eds_type_rows::element::{child_named, is_element, tree_at};
+use eds_type_rows::form::int_form_of;
+use eds_type_rows::named_trees::NamedTrees;
+use eds_type_rows::part::entry_id;
+use eds_type_rows::scalar_kind::is_integer;
 use std::alloc::Global;
 
-// ---- checks
-
-/// The check that a word names.
-fn check_named(word: &str) -> Option<CheckKind>
-    ensures { result ≡ check_of_word word.now }
-{
-    if word == "CHECKSUM" {
-        Some(CheckKind::Checksum)
-    } else if word == "CHECKSUM_LONGITUDINAL" {
-        Some(CheckKind::Longitudinal)
-    } else if word == "CRC8" {
-        Some(CheckKind::Crc8)
-    } else if word == "CRC16_CCITT" {
-        Some(CheckKind::Crc16Ccitt)
-    } else {
-        None
-    }
-}
-
-/// The check of an error control, the sum where it names none.
-pub(crate) fn check_at(trees: &[Tree], at: Place) -> CheckKind
-    ensures { result ≡ check_in trees.now at }
-{
-    match attribute(trees, "errorControlType", at) {
-        None => CheckKind::Checksum,
-        Some(word) => check_named(word).unwrap_or(CheckKind::Checksum),
-    }
-}
+// ---- the type of a check
 
 /// The bits of a check.
 fn check_bits(check: CheckKind) -> u32
@@ -56,8 +29,6 @@ fn check_bits(check: CheckKind) -> u32
         CheckKind::Crc16Ccitt => 16,
     }
 }
-
-// ---- the type of a check
 
 fn is_unsigned(encoding: Encoding) -> bool
     ensures { result ≡ is_unsigned_encoding encoding }

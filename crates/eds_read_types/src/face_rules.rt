@@ -7,21 +7,20 @@ ghost use Rattle.eds_base.specs.Refusals.{least};
 ghost use Rattle.eds_tree.specs.declared.tree.Node.{Node as node};
 ghost use Rattle.eds_names.specs.LookUp.{Names};
 ghost use Rattle.eds_types.specs.Rows.{Table};
-ghost use Rattle.eds_read_types.specs.declared.face_reference.FaceReference.{FaceReference as reference_of};
-ghost use Rattle.eds_read_types.specs.InnerReferences.{at_faces};
-ghost use Rattle.eds_read_types.specs.FaceReferences.{face_places as face_places_of};
-ghost use Rattle.eds_read_types.specs.FaceRules.{is_abstract_at as is_abstract_in, is_for_end as is_for_end_in, suits as suits_sought, unsuited_by, generic_as, open_by};
+ghost use Rattle.eds_type_rows.specs.declared.face_reference.FaceReference.{FaceReference as reference_of};
+ghost use Rattle.eds_read_types.specs.FaceRules.{at_faces, is_abstract_at as is_abstract_in, is_for_end as is_for_end_in, suits as suits_sought, unsuited_by, generic_as, open_by};
+ghost use Rattle.eds_type_rows.specs.FaceReferences.{face_places as face_places_of};
 
 use crate::breaks::{broken, broken_with};
-use crate::element::attribute;
-use crate::face_reference::{FaceReference, Sought, face_places};
-use crate::inner_reference::inner_references;
-use crate::reference::id_found;
 use crate::rules::SheetRule;
 use crate::sheet_rows::{SheetRows, is_open};
 use eds_base::{Memory, Place, Refusal, Rule, TypeId};
 use eds_names::Item;
 use eds_tree::{Tree, flag_value};
+use eds_type_rows::element::attribute;
+use eds_type_rows::face_reference::{FaceReference, Sought, face_places};
+use eds_type_rows::inner_reference::inner_references;
+use eds_type_rows::type_id::id_found;
 use eds_types::TypeRows;
 use std::alloc::Global;
 use std::marker::PhantomData;
@@ -67,7 +66,7 @@ fn least_over_faces<R: FaceRule>(
 pub(crate) struct AtFaces<R>(PhantomData<R>);
 
 impl<R: FaceRule> SheetRule for AtFaces<R> {
-    ghost use Rattle.eds_read_types.specs.InnerReferences.{at_faces};
+    ghost use Rattle.eds_read_types.specs.FaceRules.{at_faces};
 
     ghost breaks = { λ trees names word. at_faces R.breaks trees names };
 

@@ -10,7 +10,6 @@ ghost use Rattle.eds_read_types.specs.Kin.{AreMarks};
 ghost use Rattle.eds_read_types.specs.Emptiness.{is_empty_part as is_empty_part_of};
 ghost use Rattle.eds_read_types.specs.Faults.{length_breaks, element_breaks, part_breaks, is_constraint_broken, has_empty_part as has_empty_part_of, is_faulty_at, is_faulty as is_faulty_type, types_at, reaches_fault, is_unmarked, is_judged};
 
-use crate::base_graph::type_at;
 use crate::breaks::PlaceRule;
 use crate::constraint_rules::broken_constraints;
 use crate::duplicate_entry::DuplicateEntry;
@@ -22,8 +21,9 @@ use crate::length_field::{LengthField, LengthScale, SecondLength};
 use crate::part_element::AtPartElements;
 use crate::rule_list_field::ListField;
 use crate::sheet_rows::{AtParts, RowRule, SheetRows, entries_of, trailers_of};
-use crate::value_kinds::ValueKinds;
 use eds_base::{Memory, Place, Refusal, TypeId};
+use eds_type_rows::base_graph::type_at;
+use eds_type_rows::value_kinds::ValueKinds;
 use eds_types::{Kind, Part, TypeRows};
 use std::alloc::Global;
 

@@ -3,19 +3,19 @@
 ghost use Rattle.std.specs.Prelude.{◌≡◌, is_some, IfOk};
 ghost use Rattle.std.specs.List.{flat_map};
 ghost use Rattle.eds_base.specs.Refusals.{least};
-ghost use Rattle.eds_read_types.specs.FixedValues.{fixed_value as fixed_value_of};
+ghost use Rattle.eds_type_rows.specs.FixedValues.{fixed_value as fixed_value_of};
 ghost use Rattle.eds_read_types.specs.FixedValue.{fixed_value_at};
 ghost use Rattle.eds_read_types.specs.PartElements.{judged_elements};
-ghost use Rattle.eds_read_types.specs.PartRows.{entry_id as entry_id_of};
+ghost use Rattle.eds_type_rows.specs.PartRows.{entry_id as entry_id_of};
 
-use crate::element::is_element;
-use crate::entry::parts_at;
-use crate::part::entry_id;
+use crate::breaks::refusal_where;
 use crate::rules::SheetRule;
-use crate::scalar_kind::refusal_where;
 use crate::sheet_rows::SheetRows;
-use crate::value_kinds::{ValueKinds, fixed_value};
 use eds_base::{Memory, Place, Refusal, Rule};
+use eds_type_rows::element::is_element;
+use eds_type_rows::entry::parts_at;
+use eds_type_rows::part::entry_id;
+use eds_type_rows::value_kinds::{ValueKinds, fixed_value};
 use std::alloc::Global;
 
 /// Whether the text of the fixed value at a place stands for a value of its type.

@@ -12,13 +12,13 @@ ghost use Rattle.eds_bits.specs.declared.forms.ByteOrder.{ByteOrder as order_typ
 ghost use Rattle.eds_bits.specs.Encodings.{IsForm};
 ghost use Rattle.eds_bits.specs.IntForms.{HasNumber};
 ghost use Rattle.eds_types.specs.Rules.{IsDomain, IsListing, IsSubRange};
-ghost use Rattle.eds_read_types.specs.Forms.{int_form, bool_form, bool_form_of};
-ghost use Rattle.eds_constraints.specs.Ranges.{Admits};
-ghost use Rattle.eds_constraints.specs.Domains.{domain_of, narrowed, has_none};
-ghost use Rattle.eds_read_types.specs.Listings.{is_listing};
-ghost use Rattle.eds_read_types.specs.ScalarKinds.{is_integer, is_enumerated, is_boolean};
-ghost use Rattle.eds_read_types.specs.References.{broken};
-ghost use Rattle.eds_read_types.specs.Bases.{bases_within, all_bases, is_in_cycle};
+ghost use Rattle.eds_type_rows.specs.Forms.{int_form, bool_form, bool_form_of};
+ghost use Rattle.eds_domains.specs.Ranges.{Admits};
+ghost use Rattle.eds_domains.specs.Domains.{domain_of, narrowed, has_none};
+ghost use Rattle.eds_type_rows.specs.Listings.{is_listing};
+ghost use Rattle.eds_type_rows.specs.ScalarKinds.{is_integer, is_enumerated, is_boolean};
+ghost use Rattle.eds_read_types.specs.Breaks.{broken};
+ghost use Rattle.eds_type_rows.specs.Bases.{bases_within, all_bases, is_in_cycle};
 ghost use Rattle.eds_read_types.specs.BaseCycle.{cycle_at};
 ghost use Rattle.eds_tree.specs.declared.tree.Node.{Node as node};
 ghost use Rattle.eds_types.specs.Rows.{Table};
@@ -32,7 +32,7 @@ ghost use Rattle.eds_read_types.specs.Unbroken.{HasDomain, HasListing};
 
 use eds_base::{Place, Spans};
 use eds_bits::IntForm;
-use eds_constraints::Range;
+use eds_domains::Range;
 use eds_tree::Tree;
 
 /// A size, an encoding and a byte order give a form exactly where the size is from 1 to 64 bits and has whole decimal digits

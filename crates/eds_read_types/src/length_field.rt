@@ -7,21 +7,20 @@ ghost use Rattle.eds_base.specs.Refusals.{least};
 ghost use Rattle.eds_types.specs.Rows.{number_of_id, chain_within};
 ghost use Rattle.eds_types.specs.Sizes.{size_within, kind_size, part_size};
 ghost use Rattle.eds_types.specs.Rules.{is_length as is_length_part};
-ghost use Rattle.eds_read_types.specs.Places.{is_element as is_named};
-ghost use Rattle.eds_read_types.specs.References.{broken as broken_at};
+ghost use Rattle.eds_type_rows.specs.Places.{is_element as is_named};
+ghost use Rattle.eds_read_types.specs.Breaks.{broken as broken_at};
 ghost use Rattle.eds_read_types.specs.LengthField.{is_int as is_int_row, is_base as is_base_of, has_derived as has_derived_row, is_last as is_last_of, tells_length as tells_length_row, lacks_size as lacks_size_row, is_tail as is_tail_of, is_astray as is_astray_of, lengths_at as lengths_of, has_length as has_length_row, has_length_above as has_length_in_chain};
 
-use crate::breaks::{PlaceRule, broken};
-use crate::calibrator::has_scale;
-use crate::element::is_element;
-use crate::entry::parts_at;
-use crate::named_trees::NamedTrees;
-use crate::scalar_kind::refusal_where;
+use crate::breaks::{PlaceRule, broken, refusal_where};
 use crate::sheet_rows::{
     PartAt, PartRule, RowRule, SheetRows, base_of, entries_of, is_open, trailers_of,
 };
 use eds_base::{Memory, Place, Refusal, Rule, TypeId};
 use eds_tree::Tree;
+use eds_type_rows::calibrator::has_scale;
+use eds_type_rows::element::is_element;
+use eds_type_rows::entry::parts_at;
+use eds_type_rows::named_trees::NamedTrees;
 use eds_types::{Kind, Part, TypeRows};
 use std::alloc::Global;
 

@@ -1,9 +1,9 @@
 //! Rules that are judged at the element of each part of a container.
 
 use crate::breaks::{PlaceRule, least_over};
-use crate::entry::parts_at;
-use crate::named_trees::NamedTrees;
 use eds_base::{Memory, Place, Refusal};
+use eds_type_rows::entry::parts_at;
+use eds_type_rows::named_trees::NamedTrees;
 use std::alloc::Global;
 use std::marker::PhantomData;
 

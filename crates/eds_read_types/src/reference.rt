@@ -1,23 +1,21 @@
-//! What references to types find, and rules that are judged at each reference.
+//! The types that references find, and rules that are judged at each reference.
 
-ghost use Rattle.std.specs.Prelude.{◌≡◌, ◌++◌, ℕ, List, option_map, IfOk};
-ghost use Rattle.std.specs.List.{flat_map};
+ghost use Rattle.std.specs.Prelude.{◌≡◌, ℕ, List, option_map, IfOk};
 ghost use Rattle.eds_base.specs.declared.ids.Place.{Place as place};
 ghost use Rattle.eds_base.specs.declared.refusal.Refusal.{Refusal as refusal};
 ghost use Rattle.eds_base.specs.Refusals.{least};
 ghost use Rattle.eds_tree.specs.declared.tree.Node.{Node as node};
 ghost use Rattle.eds_names.specs.LookUp.{Names};
 ghost use Rattle.eds_read_types.specs.declared.reference_row.Wanted.{Wanted as wanted_type};
-ghost use Rattle.eds_read_types.specs.References.{type_of as type_of_item, type_found as type_found_by, admits as admits_type, text_by as text_by_wanted, judged_text, at_references};
-ghost use Rattle.eds_read_types.specs.ReadTypes.{id_of, id_found as id_found_by, word_type as word_type_of};
+ghost use Rattle.eds_read_types.specs.References.{type_of as type_of_item, admits as admits_type, text_by as text_by_wanted, judged_text, at_references};
 
 use crate::breaks::{PlaceRule, least_over};
-use crate::element::{attribute, is_container, is_index, is_number, name_at};
-use crate::named_trees::NamedTrees;
 use crate::reference_row::{Wanted, row_for};
-use eds_base::{Memory, Place, Refusal, TypeId};
+use eds_base::{Memory, Place, Refusal};
 use eds_names::Item;
 use eds_tree::Tree;
+use eds_type_rows::element::{attribute, is_container, is_index, is_number, name_at};
+use eds_type_rows::named_trees::NamedTrees;
 use std::alloc::Global;
 use std::marker::PhantomData;
 
@@ -30,57 +28,6 @@ pub(crate) fn type_of(sheet: &NamedTrees, item: Item) -> Option<Place>
         Item::Face(_) => None,
         Item::Comp(_) => None,
     }
-}
-
-/// The element of the type that a reference from a place finds.
-pub(crate) fn type_found(
-    alloc: Global,
-    sheet: &NamedTrees,
-    at: Place,
-    text: &str,
-) -> Result<Option<Place>, Memory>
-    ensures { IfOk result (λ p. p ≡ type_found_by sheet.now.space.now at text.now) }
-{
-    match sheet.space.look_up(alloc, at, text)? {
-        None => Ok(None),
-        Some(item) => Ok(type_of(sheet, item)),
-    }
-}
-
-/// The number of the type that an item is.
-fn id_of(item: Item) -> Option<TypeId>
-    ensures { result ≡ id_of item }
-{
-    match item {
-        Item::Sort(id) => Some(id),
-        Item::Face(_) => None,
-        Item::Comp(_) => None,
-    }
-}
-
-/// The number of the type that a reference from a place finds, where there is a reference.
-pub(crate) fn id_found(
-    alloc: Global,
-    sheet: &NamedTrees,
-    at: Place,
-    reference: Option<&str>,
-) -> Result<Option<TypeId>, Memory>
-    ensures { IfOk result (λ id. id ≡ id_found_by sheet.now.space.now at (option_map (λ r. r.now) reference.entry)) }
-{
-    let Some(text) = reference else {
-        return Ok(None);
-    };
-    match sheet.space.look_up(alloc, at, text)? {
-        None => Ok(None),
-        Some(item) => Ok(id_of(item)),
-    }
-}
-
-/// The number of the type that the TYPE word names.
-pub(crate) fn word_type(alloc: Global, sheet: &NamedTrees) -> Result<Option<TypeId>, Memory>
-    ensures { IfOk result (λ id. id ≡ word_type_of sheet.now.trees.now sheet.now.space.now (option_map (λ w. w.now) sheet.now.asked)) }
-{
-    id_found(alloc, sheet, sheet.word_place(), sheet.asked)
 }
 
 /// Whether the type at a place is one that is wanted.

@@ -98,7 +98,7 @@ pub(crate) struct AtTypes<R>(PhantomData<R>);
 
 impl<R: PlaceRule> SheetRule for AtTypes<R> {
     ghost use Rattle.std.specs.List.{flat_map};
-    ghost use Rattle.eds_read_types.specs.Places.{type_places};
+    ghost use Rattle.eds_type_rows.specs.Places.{type_places};
 
     ghost breaks = { λ trees names word. flat_map (R.breaks trees names) (type_places names) };
 
@@ -111,8 +111,9 @@ impl<R: PlaceRule> SheetRule for AtTypes<R> {
 pub(crate) struct AtNumbers<R>(PhantomData<R>);
 
 impl<R: TypeRule> SheetRule for AtNumbers<R> {
-    ghost use Rattle.eds_read_types.specs.Places.{type_places};
-    ghost use Rattle.eds_read_types.specs.Bases.{bases_of, breaks_over};
+    ghost use Rattle.eds_type_rows.specs.Places.{type_places};
+    ghost use Rattle.eds_type_rows.specs.Bases.{bases_of};
+    ghost use Rattle.eds_read_types.specs.Breaks.{breaks_over};
 
     ghost breaks = { λ trees names word. breaks_over (R.breaks trees (type_places names) (bases_of trees names)) 0 (type_places names) };
 

@@ -5,7 +5,7 @@ ghost use Rattle.eds_base.specs.Answering.{Answers};
 ghost use Rattle.eds_base.specs.Refusals.{least};
 ghost use Rattle.eds_tree.specs.ShapeCheck.{shape_verdict};
 ghost use Rattle.eds_names.specs.LookUp.{names_in};
-ghost use Rattle.eds_read_types.specs.TableRows.{table_rows as table_rows_of};
+ghost use Rattle.eds_type_rows.specs.TableRows.{table_rows as table_rows_of};
 ghost use Rattle.eds_read_types.specs.TableBreaks.{table_breaks};
 ghost use Rattle.eds_nesting.specs.Families.{families as families_of, nesting as nesting_of, family_sizes as family_sizes_of, endless_met as endless_met_of};
 ghost use Rattle.eds_types.specs.Rows.{numbers};
@@ -13,22 +13,22 @@ ghost use Rattle.eds_constraints.specs.ConstrainedRows.{AreRead, constraints_for
 ghost use Rattle.eds_read_types.specs.SheetTable.{sheet_table};
 ghost use Rattle.eds_read_types.specs.TableRead.{typed_of, table_read};
 
-use crate::base_graph::{BaseGraph, bases_of, cycles_of};
 use crate::constraint_element::asked_lists;
-use crate::inner_reference::push_inner_types;
-use crate::named_trees::{NamedTrees, elements, type_places};
-use crate::reference::word_type;
 use crate::rules::least_break;
 use crate::sheet_rows::SheetRows;
-use crate::table_row::table_rows;
 use crate::used::used_types;
-use crate::value_kinds::{ValueKinds, value_kinds};
 use eds_base::{Fail, Items, Memory, Refusal, TypeId};
 use eds_constraints::{AskedOf, AskedRows, constrained_rows, constraints_of_all};
 use eds_graph::Course;
 use eds_names::Space;
 use eds_nesting::{endless_met, families, family_sizes, nesting};
 use eds_tree::Trees;
+use eds_type_rows::base_graph::{BaseGraph, bases_of, cycles_of};
+use eds_type_rows::inner_reference::push_inner_types;
+use eds_type_rows::named_trees::{NamedTrees, elements, type_places};
+use eds_type_rows::table_row::table_rows;
+use eds_type_rows::type_id::word_type;
+use eds_type_rows::value_kinds::{ValueKinds, value_kinds};
 use eds_types::{Constraints, TypeRows, TypeTable, Used};
 use std::alloc::Global;
 

@@ -1,10 +1,10 @@
 //! The rule that a reference to a type finds something.
 
 use crate::breaks::broken_with;
-use crate::named_trees::NamedTrees;
 use crate::reference::ReferenceRule;
 use crate::reference_row::Wanted;
 use eds_base::{Memory, Place, Refusal, Rule};
+use eds_type_rows::named_trees::NamedTrees;
 use std::alloc::Global;
 
 /// A reference to a type finds something.

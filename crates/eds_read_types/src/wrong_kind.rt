@@ -5,11 +5,11 @@ ghost use Rattle.eds_base.specs.Refusals.{least};
 ghost use Rattle.eds_read_types.specs.WrongKind.{kind_by};
 
 use crate::breaks::broken_with;
-use crate::named_trees::NamedTrees;
 use crate::reference::{ReferenceRule, admits, type_of};
 use crate::reference_row::Wanted;
 use eds_base::{Memory, Place, Refusal, Rule};
 use eds_tree::Tree;
+use eds_type_rows::named_trees::NamedTrees;
 use std::alloc::Global;
 
 fn judge_found(

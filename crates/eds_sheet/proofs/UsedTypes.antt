@@ -26,8 +26,8 @@ use Rattle.eds_overlap.proofs.LeastInAll.{In, in_front, in_back, in_filter}
 use Rattle.eds_overlap.proofs.Meeting.{has_of_one, one_either}
 use Rattle.eds_overlap.proofs.UsedTypes.{used_are_clear}
 use Rattle.eds_read_types.specs.declared.table.SheetTypes.{SheetTypes}
-use Rattle.eds_read_types.specs.InnerReferences.{inner_types}
-use Rattle.eds_read_types.specs.ReadTypes.{word_type}
+use Rattle.eds_type_rows.specs.InnerReferences.{inner_types}
+use Rattle.eds_type_rows.specs.ReadTypes.{word_type}
 use Rattle.eds_read_types.specs.TableRead.{typed_of}
 use Rattle.eds_read_types.specs.SheetTable.{sheet_table}
 use Rattle.eds_read_types.specs.Used.{optional, part_type, part_types, types_named, is_open_id, used_types}

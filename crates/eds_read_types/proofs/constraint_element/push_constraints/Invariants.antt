@@ -1,5 +1,5 @@
 use Rattle.std.proofs.Common.{◌≡◌, ◌++◌, map, filter, drop}
-use Rattle.eds_read_types.specs.Places.{in_file}
+use Rattle.eds_type_rows.specs.Places.{in_file}
 use Rattle.eds_read_types.specs.ConstraintElements.{is_constraint}
 use Rattle.eds_read_types.proofs.constraint_element.push_constraints.Given as goal
 

@@ -1,7 +1,7 @@
 use Rattle.std.proofs.Common.{rules, ◌∙◌, sym, arith}
 use Rattle.eds_read_types.specs.EmptyRange.{is_faulty}
-use Rattle.eds_read_types.proofs.NumberSteps.{ok-is}
-use Rattle.eds_read_types.proofs.BaseSteps.{any-none, any-end, any-hit, any-skip}
+use Rattle.eds_type_rows.proofs.NumberSteps.{ok-is}
+use Rattle.eds_type_rows.proofs.BaseSteps.{any-none, any-end, any-hit, any-skip}
 use Rattle.eds_read_types.proofs.empty_range.+has_faulty_base.Goals as goal
 
 pub returns-then-most-eq0 : goal.returns-then-most-eq0

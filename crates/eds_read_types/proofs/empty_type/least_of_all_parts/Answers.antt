@@ -1,11 +1,11 @@
 use Rattle.std.proofs.Common.{◌∙◌, ap, arith}
 use Rattle.eds_base.specs.Refusals.{least}
-use Rattle.eds_read_types.specs.Bases.{breaks_over}
+use Rattle.eds_read_types.specs.Breaks.{breaks_over}
 use Rattle.eds_read_types.specs.Parts.{judged_part, judged_parts}
 use Rattle.eds_read_types.specs.Faults.{is_unmarked}
 use Rattle.eds_read_types.specs.EmptyType.{empty_part_at}
-use Rattle.eds_read_types.specs.TableRows.{table_rows}
-use Rattle.eds_read_types.proofs.BaseSteps.{least-next_type}
+use Rattle.eds_type_rows.specs.TableRows.{table_rows}
+use Rattle.eds_read_types.proofs.BreakSteps.{least-next_type}
 use Rattle.eds_read_types.proofs.FaultFacts.{least-end}
 use Rattle.eds_read_types.proofs.empty_type.least_of_all_parts.Goals as goal
 

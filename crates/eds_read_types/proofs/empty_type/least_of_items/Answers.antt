@@ -1,7 +1,7 @@
 use Rattle.std.proofs.Common.{arith}
 use Rattle.eds_read_types.specs.Faults.{is_unmarked}
 use Rattle.eds_read_types.specs.EmptyType.{empty_item_at}
-use Rattle.eds_read_types.proofs.BaseSteps.{least-next_type}
+use Rattle.eds_read_types.proofs.BreakSteps.{least-next_type}
 use Rattle.eds_read_types.proofs.empty_type.least_of_items.Goals as goal
 
 pub loop-id-preserved : goal.loop-id-preserved

@@ -2,7 +2,7 @@ use Rattle.std.proofs.Common.{arith}
 use Rattle.eds_read_types.specs.Parts.{judged_part}
 use Rattle.eds_read_types.specs.Faults.{is_unmarked}
 use Rattle.eds_read_types.specs.EmptyType.{empty_part_at}
-use Rattle.eds_read_types.proofs.BaseSteps.{least-next_type}
+use Rattle.eds_read_types.proofs.BreakSteps.{least-next_type}
 use Rattle.eds_read_types.proofs.empty_type.least_of_parts.Goals as goal
 
 pub loop-index-preserved : goal.loop-index-preserved

@@ -1,6 +1,6 @@
 use Rattle.std.proofs.Common.{◌≡◌, drop}
 use Rattle.eds_base.specs.Refusals.{least, first_of}
-use Rattle.eds_read_types.specs.Bases.{breaks_over}
+use Rattle.eds_read_types.specs.Breaks.{breaks_over}
 use Rattle.eds_read_types.specs.Parts.{judged_part}
 use Rattle.eds_read_types.specs.Faults.{is_unmarked}
 use Rattle.eds_read_types.specs.EmptyType.{empty_part_at}

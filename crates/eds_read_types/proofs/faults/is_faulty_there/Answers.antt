@@ -1,5 +1,5 @@
 use Rattle.std.proofs.Common.{◌||◌, ◌∙◌, ap, is_some, sym}
-use Rattle.eds_read_types.specs.TableRows.{table_rows}
+use Rattle.eds_type_rows.specs.TableRows.{table_rows}
 use Rattle.eds_read_types.specs.Faults.{is_constraint_broken, has_empty_part}
 use Rattle.eds_read_types.proofs.faults.is_faulty_there.Goals as goal
 

@@ -1,7 +1,7 @@
 use Rattle.std.proofs.Common.{◌++◌, ◌∙◌, ap}
 use Rattle.eds_base.specs.Refusals.{least}
 use Rattle.eds_tree.proofs.Least.{least-joined}
-use Rattle.eds_read_types.specs.TableRows.{table_rows}
+use Rattle.eds_type_rows.specs.TableRows.{table_rows}
 use Rattle.eds_read_types.specs.Parts.{judged_parts}
 use Rattle.eds_read_types.specs.DuplicateEntry.{duplicates_at}
 use Rattle.eds_read_types.specs.ListField.{list_field_at}

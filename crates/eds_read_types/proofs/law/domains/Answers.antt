@@ -1,4 +1,4 @@
-use Rattle.eds_constraints.proofs.DomainFacts.{domain_within}
+use Rattle.eds_domains.proofs.DomainFacts.{domain_within}
 use Rattle.eds_read_types.proofs.LawFacts.{domain_kept}
 use Rattle.eds_read_types.proofs.law.domains.Goals as goal
 

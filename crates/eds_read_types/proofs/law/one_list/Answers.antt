@@ -1,5 +1,5 @@
 use Rattle.eds_base.specs.Spans.{bottom}
-use Rattle.eds_constraints.proofs.DomainFacts.{one_list}
+use Rattle.eds_domains.proofs.DomainFacts.{one_list}
 use Rattle.eds_read_types.proofs.law.one_list.Goals as goal
 
 pub returns : goal.returns

@@ -1,4 +1,4 @@
-use Rattle.eds_constraints.proofs.DomainFacts.{narrowed_within}
+use Rattle.eds_domains.proofs.DomainFacts.{narrowed_within}
 use Rattle.eds_read_types.proofs.LawFacts.{narrowed_kept, narrowed_derives}
 use Rattle.eds_read_types.proofs.law.sub_ranges.Goals as goal
 

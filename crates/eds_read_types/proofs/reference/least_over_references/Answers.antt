@@ -2,9 +2,9 @@ use Rattle.std.proofs.Common.{option_map, ap, ◌∙◌}
 use Rattle.std.specs.List.{flat_map}
 use Rattle.eds_base.specs.Refusals.{least}
 use Rattle.eds_tree.proofs.Least.{least-joined}
-use Rattle.eds_read_types.specs.Places.{elements}
+use Rattle.eds_type_rows.specs.Places.{elements, word_place}
 use Rattle.eds_read_types.specs.declared.reference_row.Wanted.TheVariants.{AnyType}
-use Rattle.eds_read_types.specs.References.{word_place, judged_text, judged_at}
+use Rattle.eds_read_types.specs.References.{judged_text, judged_at}
 use Rattle.eds_read_types.proofs.reference.least_over_references.Goals as goal
 
 pub returns : goal.returns

@@ -1,6 +1,6 @@
 use Rattle.std.proofs.Common.{sym, ap, ◌∙◌, arith}
 use Rattle.eds_types.specs.Rows.{number_of_id}
-use Rattle.eds_read_types.proofs.BaseSteps.{other-is}
+use Rattle.eds_type_rows.proofs.BaseSteps.{other-is}
 use Rattle.eds_read_types.proofs.ChainSteps.{above_none, above_hit, above_end, above_on}
 use Rattle.eds_read_types.proofs.rule_list_field.is_at_or_above.Goals as goal
 

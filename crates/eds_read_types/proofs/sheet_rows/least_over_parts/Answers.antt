@@ -1,6 +1,6 @@
 use Rattle.std.proofs.Common.{arith}
 use Rattle.eds_read_types.specs.Parts.{judged_part}
-use Rattle.eds_read_types.proofs.BaseSteps.{least-next_type}
+use Rattle.eds_read_types.proofs.BreakSteps.{least-next_type}
 use Rattle.eds_read_types.proofs.sheet_rows.least_over_parts.Goals as goal
 
 pub loop-index-preserved : goal.loop-index-preserved

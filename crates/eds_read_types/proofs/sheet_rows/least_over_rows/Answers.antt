@@ -1,5 +1,5 @@
 use Rattle.std.proofs.Common.{arith}
-use Rattle.eds_read_types.proofs.BaseSteps.{least-next_type}
+use Rattle.eds_read_types.proofs.BreakSteps.{least-next_type}
 use Rattle.eds_read_types.proofs.sheet_rows.least_over_rows.Goals as goal
 
 pub loop-id-preserved : goal.loop-id-preserved

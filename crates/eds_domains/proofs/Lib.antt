@@ -1,0 +1,2 @@
+pub mod DomainFacts
+mod EndFacts

@@ -1,9 +1,0 @@
-use Rattle.std.proofs.Common.{sym, ◌∙◌, string_bytes}
-use Rattle.eds_names.proofs.RepeatsLemmas.{among-map, names-present, inserted}
-use Rattle.eds_read_types.proofs.face_reference.note_own.Goals as goal
-
-pub returns-then-contains : goal.returns-then-contains
-returns-then-contains c = names-present _ _ (among-map string_bytes c.args.names.now.keys c.args.name.now ∙ sym c.contains.ensures ∙ c.if-contains.true)
-
-pub returns : goal.returns
-returns c = inserted string_bytes c.args.names.now.keys c.insert.new.self.keys c.in_ok-name.name c.args.name.now c.in_ok-name.ensures.ok (among-map string_bytes c.args.names.now.keys c.args.name.now ∙ sym c.contains.ensures ∙ c.if-contains.false) c.in_ok-_added.ensures.keys

@@ -1,5 +1,0 @@
-use Rattle.std.proofs.Common.{◌≡◌, ◌++◌, drop}
-use Rattle.eds_read_types.proofs.face_reference.push_all.Given as goal
-
-abbrev pub invariant-loop-at : goal.invariant-loop-at
-invariant-loop-at l = l.places.items ++ drop l.at-index l.more ≡ l.initial.places.items ++ l.more

@@ -1,7 +1,0 @@
-use Rattle.std.proofs.Common.{◌≡◌, ◌++◌, drop}
-use Rattle.std.specs.List.{flat_map}
-use Rattle.eds_read_types.specs.FaceReferences.{map_places}
-use Rattle.eds_read_types.proofs.face_reference.push_maps.Given as goal
-
-abbrev pub invariant-loop-base : goal.invariant-loop-base
-invariant-loop-base l = l.places.items ++ flat_map (map_places l.trees) (drop l.base-index l.bases) ≡ l.initial.places.items ++ flat_map (map_places l.trees) l.bases

@@ -1,5 +1,0 @@
-use Rattle.eds_read_types.proofs.FormFacts.{bool_form-is}
-use Rattle.eds_read_types.proofs.form.bool_form.Goals as goal
-
-pub returns-then-bits-le64 : goal.returns-then-bits-le64
-returns-then-bits-le64 c = bool_form-is c.args.bits c.args.zero_is_false _ _

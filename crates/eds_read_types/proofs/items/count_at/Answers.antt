@@ -1,4 +1,0 @@
-use Rattle.eds_read_types.proofs.items.count_at.Goals as goal
-
-pub returns-in-Some : goal.returns-in-Some
-returns-in-Some c = c.args.first.now.counted c.args.id c.in-Some.values c.in-Some.ensures

@@ -1,6 +1,0 @@
-use Rattle.std.proofs.Common.{◌≡◌, ◌++◌, drop}
-use Rattle.eds_read_types.specs.Places.{places_from, elements}
-use Rattle.eds_read_types.proofs.named_trees.elements.Given as goal
-
-abbrev pub invariant-loop-file : goal.invariant-loop-file
-invariant-loop-file l = l.places.items ++ places_from l.file (drop l.file l.trees) ≡ elements l.trees

@@ -1,8 +1,0 @@
-use Rattle.std.proofs.Common.{ap}
-use Rattle.eds_constraints.specs.Ranges.{no_range}
-use Rattle.eds_read_types.specs.Numbers.{numbers_with}
-use Rattle.eds_read_types.proofs.NumberSteps.{ok-is}
-use Rattle.eds_read_types.proofs.numbers.all_numbers.Goals as goal
-
-pub returns : goal.returns
-returns c = ok-is c.numbers_with.result _ _ (ap (λ form. numbers_with form no_range) c.form_or_wide.ensures) c.numbers_with.ensures

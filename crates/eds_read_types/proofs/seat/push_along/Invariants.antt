@@ -1,8 +1,0 @@
-use Rattle.std.proofs.Common.{◌≡◌, ◌++◌, drop}
-use Rattle.std.specs.List.{flat_map}
-use Rattle.eds_read_types.specs.Seats.{trailer_seats}
-use Rattle.eds_read_types.proofs.seat.push_along.Given as goal
-
-abbrev pub invariant-loop-id : goal.invariant-loop-id
-invariant-loop-id l =
-    l.seats.items ++ flat_map (trailer_seats l.graph.sheet.now.trees.now l.graph.sheet.now.space.now) (drop l.id-index l.line) ≡ l.initial.seats.items ++ flat_map (trailer_seats l.graph.sheet.now.trees.now l.graph.sheet.now.space.now) l.line

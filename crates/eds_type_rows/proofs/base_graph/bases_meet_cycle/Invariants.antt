@@ -1,0 +1,10 @@
+use Rattle.std.proofs.Common.{◌≡◌}
+use Rattle.std.specs.List.{list_any}
+use Rattle.eds_type_rows.specs.Bases.{bases_within, is_in_cycle}
+use Rattle.eds_type_rows.proofs.base_graph.bases_meet_cycle.Given as goal
+
+abbrev pub invariant-loop-left : goal.invariant-loop-left
+invariant-loop-left l = list_any (is_in_cycle l.graph.bases.now) (bases_within l.left l.graph.bases.now l.at) ≡ list_any (is_in_cycle l.graph.bases.now) (bases_within l.most l.graph.bases.now l.id)
+
+abbrev pub decreases-loop-left : goal.decreases-loop-left
+decreases-loop-left l = l.left
