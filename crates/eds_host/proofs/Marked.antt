@@ -7,13 +7,14 @@ use Rattle.eds_types.specs.Overlap.{IsClear}
 use Rattle.eds_types.specs.Rows.{Table, id_of}
 use Rattle.eds_types.specs.Sizes.{open_of}
 use Rattle.eds_overlap.specs.Pairs.{Named}
+use Rattle.eds_plan.specs.Arguments.{ArgumentsAreUsed, IsUsedClosed, OnAllArguments, OnArguments}
 use Rattle.eds_plan.specs.declared.component.ComponentPlan.{ComponentPlan}
 use Rattle.eds_plan.specs.declared.component.EndPlan.{EndPlan}
 use Rattle.eds_plan.specs.declared.instance.Argument.{Argument}
 use Rattle.eds_plan.specs.declared.instance.Member.{Member}
 use Rattle.eds_plan.specs.declared.instance.Member.TheVariants as members
 use Rattle.eds_host.specs.Arguments.{AreMarks, IsClosed, IsMarked}
-use Rattle.eds_host.specs.Hosts.{ArgumentsAreClear, ArgumentsAreUsed, IsUsedClosed, OnAllArguments, OnArguments}
+use Rattle.eds_host.specs.Hosts.{ArgumentsAreClear}
 
 -- ---- one more mark
 

@@ -22,7 +22,8 @@ use Rattle.eds_plan.specs.declared.run.End.{End}
 use Rattle.eds_plan.specs.declared.run.Way.{Way}
 use Rattle.eds_act.specs.Does.{Conforms}
 use Rattle.eds_host.specs.Frames.{Begins, FrameIs}
-use Rattle.eds_host.specs.Hosts.{ArgumentsAreClear, FramesHaveOneOutcome, OnArguments, PlansReadOne, brought_to}
+use Rattle.eds_host.specs.Hosts.{ArgumentsAreClear, FramesHaveOneOutcome, PlansReadOne, brought_to}
+use Rattle.eds_plan.specs.Arguments.{OnArguments}
 use Rattle.eds_host.proofs.FrameTypes.{all_at, one_has}
 
 module _ (t : Table) (id : ℕ) (bits : Bits) (one : HasOneOutcome t id bits) where

@@ -3,7 +3,7 @@ use Rattle.std.specs.Prelude.{◌≡◌, ◌<◌, ◌↔◌, ℕ, List, length, 
 use Rattle.eds_base.specs.declared.ids.TypeId.{TypeId}
 use Rattle.eds_types.specs.Rows.{Table}
 use Rattle.eds_types.specs.Sizes.{open_of}
-use Rattle.eds_host.specs.Hosts.{IsUsedClosed}
+use Rattle.eds_plan.specs.Arguments.{IsUsedClosed}
 
 -- a type of the table that is no open binary
 abbrev pub IsClosed : Table → (id : ℕ) → Type 0

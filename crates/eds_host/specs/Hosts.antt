@@ -1,16 +1,14 @@
 -- Hosts: what one is, what may be handed to it, and what it makes of a line.
-use Rattle.std.specs.Prelude.{◌≡◌, ◌≢◌, ◌≤◌, ◌<◌, ◌+◌, ◌^◌, ℕ, List, [], ◌∷◌, ◌++◌, length, Option, Some, None, Result, Ok, map, slice_get, ⊤}
+use Rattle.std.specs.Prelude.{◌≡◌, ◌≢◌, ◌≤◌, ◌<◌, ◌+◌, ◌^◌, ℕ, List, [], ◌∷◌, ◌++◌, length, Option, Some, None, Result, Ok, map, slice_get}
 use Rattle.std.specs.List.{AllByRecursion}
 use Rattle.eds_base.specs.declared.fault.Fault.{Fault}
-use Rattle.eds_base.specs.declared.ids.TypeId.{TypeId}
 use Rattle.eds_bits.specs.Bits.{Bits, bits_of}
 use Rattle.eds_types.specs.Overlap.{IsClear}
 use Rattle.eds_types.specs.Plain.{Plain}
 use Rattle.eds_types.specs.Rows.{Table}
 use Rattle.eds_types.specs.Rules.{KeepsRules}
-use Rattle.eds_types.specs.Sizes.{open_of}
 use Rattle.eds_overlap.specs.Laws.{IsReadable}
-use Rattle.eds_overlap.specs.Pairs.{Named}
+use Rattle.eds_plan.specs.Arguments.{OnAllArguments}
 use Rattle.eds_plan.specs.Carried.{arriving, carried}
 use Rattle.eds_plan.specs.Ends.{end_at, end_named}
 use Rattle.eds_plan.specs.Fitting.{PlanFits}
@@ -22,7 +20,6 @@ use Rattle.eds_plan.specs.declared.activity.Op.TheVariants as op
 use Rattle.eds_plan.specs.declared.component.ComponentPlan.{ComponentPlan}
 use Rattle.eds_plan.specs.declared.component.EndPlan.{EndPlan}
 use Rattle.eds_plan.specs.declared.instance.Argument.{Argument}
-use Rattle.eds_plan.specs.declared.instance.Member.{Member}
 use Rattle.eds_plan.specs.declared.instance.Member.TheVariants as members
 use Rattle.eds_plan.specs.declared.run.End.{End}
 use Rattle.eds_plan.specs.declared.run.Way.{Way}
@@ -82,26 +79,9 @@ reading t plan = record {
   reads = λ comp face member octets r. IsRead t (end_at plan (record { comp = record { 0 = comp }; face = face })) member octets r;
 }
 
--- the types of all arguments of a member, if it is a command, have this
-abbrev pub OnArguments : (ℕ → Type 0) → Member → Type 0
-OnArguments P (members.Parameter name id read_only) = ⊤
-OnArguments P (members.Command name args) = AllByRecursion (λ (a : Argument). P a.id.0) args
-
--- those of all commands at all ends of all components of a plan have it
-abbrev pub OnAllArguments : (ℕ → Type 0) → List ComponentPlan → Type 0
-OnAllArguments P plan = AllByRecursion (λ (c : ComponentPlan). AllByRecursion (λ (e : EndPlan). AllByRecursion (OnArguments P) e.instance.members) c.ends) plan
-
 -- no two containers overlap under the type of any argument of a command
 abbrev pub ArgumentsAreClear : Table → List ComponentPlan → Type 0
 ArgumentsAreClear t plan = OnAllArguments (IsClear t) plan
-
--- a type of the table that is used and is no open binary
-abbrev pub IsUsedClosed : Table → List TypeId → (id : ℕ) → Type 0
-IsUsedClosed t used id = Named used id × (id < length t) × (open_of t id ≡ None)
-
--- each argument of a command has a used type of the table that is no open binary
-abbrev pub ArgumentsAreUsed : Table → List TypeId → List ComponentPlan → Type 0
-ArgumentsAreUsed t used plan = OnAllArguments (IsUsedClosed t used) plan
 
 -- ---- what may be handed to a host
 

@@ -5,10 +5,11 @@ ghost use Rattle.std.specs.List.{AllByRecursion};
 ghost use Rattle.eds_types.specs.Overlap.{IsClear};
 ghost use Rattle.eds_types.specs.Sizes.{open_of};
 ghost use Rattle.eds_overlap.specs.Pairs.{Named};
+ghost use Rattle.eds_plan.specs.Arguments.{ArgumentsAreUsed, OnAllArguments, OnArguments};
 ghost use Rattle.eds_plan.specs.declared.component.EndPlan.{EndPlan as end_plan};
 ghost use Rattle.eds_plan.specs.declared.instance.Argument.{Argument as argument_type};
 ghost use Rattle.eds_host.specs.Arguments.{AreMarks, IsClosed, IsMarked};
-ghost use Rattle.eds_host.specs.Hosts.{ArgumentsAreClear, ArgumentsAreUsed, OnAllArguments, OnArguments};
+ghost use Rattle.eds_host.specs.Hosts.{ArgumentsAreClear};
 
 use eds_base::{Memory, TypeId};
 use eds_plan::{Argument, ComponentPlan, EndPlan, Member, Plan};

@@ -3,7 +3,7 @@ use Rattle.std.specs.List.{AllByRecursion}
 use Rattle.eds_plan.specs.declared.component.ComponentPlan.{ComponentPlan}
 use Rattle.eds_plan.specs.declared.component.EndPlan.{EndPlan}
 use Rattle.eds_host.specs.Arguments.{IsMarked}
-use Rattle.eds_host.specs.Hosts.{OnArguments}
+use Rattle.eds_plan.specs.Arguments.{OnArguments}
 use Rattle.eds_host.proofs.arguments.are_components_marked.Given as goal
 
 abbrev pub invariant-loop-rest : goal.invariant-loop-rest

@@ -1,6 +1,6 @@
 use Rattle.std.proofs.Common.{rules, ◌↔◌, IsTrue}
 use Rattle.eds_host.specs.Arguments.{AreMarks}
-use Rattle.eds_host.specs.Hosts.{ArgumentsAreUsed}
+use Rattle.eds_plan.specs.Arguments.{ArgumentsAreUsed}
 use Rattle.eds_host.proofs.Marked.{exactly, used_clear}
 use Rattle.eds_host.proofs.arguments.arguments_are_clear.Goals as goal
 

@@ -1,7 +1,7 @@
 use Rattle.std.proofs.Common.{◌↔◌, length}
 use Rattle.std.specs.List.{AllByRecursion}
 use Rattle.eds_host.specs.Arguments.{IsMarked}
-use Rattle.eds_host.specs.Hosts.{OnArguments}
+use Rattle.eds_plan.specs.Arguments.{OnArguments}
 use Rattle.eds_host.proofs.arguments.is_end_marked.Given as goal
 
 abbrev pub invariant-loop-rest : goal.invariant-loop-rest
