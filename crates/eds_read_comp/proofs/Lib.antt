@@ -11,3 +11,4 @@ pub mod Putting
 pub mod Scoping
 pub mod Staging
 pub mod Alike
+pub mod Carried

@@ -29,7 +29,7 @@ use Rattle.eds_read_comp.specs.Uses.{all_uses, end_breaks}
 use Rattle.eds_read_comp.proofs.Lists.{append-none}
 use Rattle.eds_read_comp.proofs.SameEnds.{plan-kept, ends-same}
 
-staged-none : (xs ys : List Refusal) → judged_first xs ys ≡ [] → (xs ≡ []) × (ys ≡ [])
+pub staged-none : (xs ys : List Refusal) → judged_first xs ys ≡ [] → (xs ≡ []) × (ys ≡ [])
 staged-none [] ys e = (refl, e)
 staged-none (x ∷ xs) ys e = cc
 

@@ -8,3 +8,4 @@ pub mod Implementations
 pub mod Plans
 pub mod Together
 pub mod Laws
+pub mod NamedTypes
