@@ -35,7 +35,7 @@ names-stop trees = go (least (duplicates trees))
     go None = refl
     go (Some r) = refl
 
-names-are : (trees : List (List Node)) (names : Names) → names_in trees ≡ Ok names → names ≡ names_of trees
+pub names-are : (trees : List (List Node)) (names : Names) → names_in trees ≡ Ok names → names ≡ names_of trees
 unfolding names_in
 names-are trees names h = go (least (duplicates trees)) h
   where

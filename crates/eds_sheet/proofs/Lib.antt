@@ -3,5 +3,8 @@ pub mod Stages
 pub mod FilesLemmas
 pub mod CompiledLaws
 pub mod UsedTypes
+pub mod StandingElements
+pub mod TypedElements
+pub mod NamedUsed
 pub mod SoundSheets
 pub mod DefaultsFound

@@ -1,6 +1,7 @@
 -- An accepted sheet is sound.
 use Rattle.std.proofs.Common.{◌≡◌, ℕ, ◌<◌, List, length, Option, None, Result, Ok, Err, refl, sym, ap, subst}
 use Rattle.std.specs.Prelude.{IfOk, IfSome, is_some}
+use Rattle.std.specs.List.{AllByRecursion}
 use Rattle.eds_base.specs.declared.fail.Fail.{Fail}
 use Rattle.eds_base.specs.declared.refusal.Refusal.{Refusal}
 use Rattle.eds_base.specs.Answering.{Answers}
@@ -13,17 +14,26 @@ use Rattle.eds_types.specs.Sizes.{open_of}
 use Rattle.eds_overlap.specs.Pairs.{Named}
 use Rattle.eds_overlap.specs.Used.{HasAllNamed}
 use Rattle.eds_read_types.specs.declared.table.SheetTypes.{SheetTypes}
-use Rattle.eds_read_types.specs.TableRead.{table_read}
+use Rattle.eds_read_types.specs.TableBreaks.{table_breaks}
+use Rattle.eds_read_types.specs.TableRead.{table_read, typed_of}
+use Rattle.eds_read_types.proofs.NoBreaks.{least-none}
 use Rattle.eds_read_types.proofs.TableFacts.{table_unbroken, table_word, table_closed, table_solid}
 use Rattle.eds_read_types.proofs.SheetTableFacts.{sheet_keeps}
-use Rattle.eds_read_comp.specs.Plans.{plan_read}
+use Rattle.eds_plan.specs.Arguments.{ArgumentsAreUsed, IsUsedClosed}
+use Rattle.eds_read_comp.specs.NamedTypes.{OnSaidArguments}
+use Rattle.eds_read_comp.specs.Plans.{SeenPlan}
+use Rattle.eds_read_comp.proofs.Carried.{of-seen, plan-has}
 use Rattle.eds_sheet.specs.declared.judged.Judged.{Judged}
+use Rattle.eds_sheet.specs.declared.sheet.Sheet.{Sheet}
 use Rattle.eds_sheet.specs.Files.{trees_in}
-use Rattle.eds_sheet.specs.Firsts.{Firsts}
-use Rattle.eds_sheet.specs.Compiled.{SeenSheet, sheet_of, judged_by, judged_trees, judged_files, with_plan, compiled}
+use Rattle.eds_sheet.specs.Firsts.{Firsts, WhereFirstsAreTold}
+use Rattle.eds_sheet.specs.Compiled.{SeenSheet, seen_sheet, sheet_of, judged_by, judged_trees, judged_files, plan_of, with_plan, compiled}
 use Rattle.eds_sheet.specs.Overlaps.{AreClear, overlap_verdict}
 use Rattle.eds_sheet.specs.Laws.{IsSound, SheetsAreSound, UsedTypesAreClear}
+use Rattle.eds_sheet.proofs.DefaultsFound.{firsts-told}
+use Rattle.eds_sheet.proofs.NamedUsed.{all-used}
 use Rattle.eds_sheet.proofs.Stages.{answered}
+use Rattle.eds_sheet.proofs.StandingElements.{IsRead, trees-read}
 use Rattle.eds_sheet.proofs.UsedTypes.{all_named, used_clear, word_clear}
 
 -- ---- what was judged
@@ -79,6 +89,27 @@ judged-sound files word j h =
     let steps = trees-judged trees.0 word j trees.2 in
     typed-sound trees.0 word j.space j.typed steps.shaped steps.named steps.read steps.apart
 
+-- the trees that were judged are those of files
+judged-read : (files : List (List ℕ)) (word : Option (List ℕ)) (j : Judged) → judged_files files word ≡ Ok j → AllByRecursion IsRead j.trees × AreJudged j.trees word j
+unfolding judged_files
+judged-read files word j h =
+    let trees = answered (trees_in files) _ j h in
+    let steps = trees-judged trees.0 word j trees.2 in
+    let same = sym steps.trees_are in
+    (subst (AllByRecursion IsRead) same (trees-read files trees.0 trees.1), subst (λ ts. AreJudged ts word j) same steps)
+
+-- each argument of a command of the plan of what was judged has a used type of the table that is no open binary
+judged-arguments : (firsts : Firsts) (files : List (List ℕ)) (word : Option (List ℕ)) (j : Judged) (plan : SeenPlan) → judged_files files word ≡ Ok j → plan_of firsts j ≡ Ok plan → OnSaidArguments (IsUsedClosed j.typed.table j.typed.used) plan.components
+judged-arguments firsts files word j plan h planned =
+    let judged = judged-read files word j h in
+    let steps = judged.1 in
+    let unbroken = table_unbroken j.trees j.space word j.typed steps.read in
+    let none = least-none (table_breaks j.trees j.space word) unbroken.0 in
+    let types = typed_of j.trees j.space word in
+    let used = all-used j.trees j.space word steps.named none steps.shaped judged.0 in
+    subst (λ (s : SheetTypes). OnSaidArguments (IsUsedClosed s.table s.used) plan.components) unbroken.1
+    (plan-has (IsUsedClosed types.table types.used) j.trees j.space j.typed.table (firsts j.typed.table) plan planned used)
+
 -- what holds of all that may be judged so holds of what is answered
 pub answered_judged : (P : Judged → Type 0) (r : Result Judged (Fail Refusal)) (whole : Result Judged Refusal) → ((j : Judged) → whole ≡ Ok j → P j) → Answers (λ j. j) r whole → IfOk r P
 answered_judged P (Ok j) whole h a = h j a
@@ -86,30 +117,38 @@ answered_judged P (Err e) whole h a = tt
 
 -- ---- sheets
 
--- a sheet has the types that were judged
-sheet-judged : (firsts : Firsts) (files : List (List ℕ)) (word : Option (List ℕ)) (sheet : SeenSheet) → compiled firsts files word ≡ Ok sheet
-    → (j : Judged) × (judged_files files word ≡ Ok j) × (j.typed.table ≡ sheet.table) × (j.typed.asked_type ≡ sheet.asked_type)
+-- what was judged, and the plan of it, of which a sheet is made
+record IsMade (firsts : Firsts) (files : List (List ℕ)) (word : Option (List ℕ)) (sheet : SeenSheet) : Type 0 where
+  judged : Judged
+  judged_is : judged_files files word ≡ Ok judged
+  plan : SeenPlan
+  planned : plan_of firsts judged ≡ Ok plan
+  is : sheet_of judged.space judged.typed plan ≡ sheet
+
+sheet-made : (firsts : Firsts) (files : List (List ℕ)) (word : Option (List ℕ)) (sheet : SeenSheet) → compiled firsts files word ≡ Ok sheet → IsMade firsts files word sheet
 unfolding compiled
-sheet-judged firsts files word sheet h =
+sheet-made firsts files word sheet h =
     let judged = answered (judged_files files word) (with_plan firsts) sheet h in
     let j = judged.0 in
-    let planned = answered (plan_read (firsts j.typed.table) j.trees j.space j.typed.table) _ sheet judged.2 in
-    let is : sheet_of j.space j.typed planned.0 ≡ sheet = let made = planned.2 in cc in
-    (j, judged.1, ap (λ (s : SeenSheet). s.table) is, ap (λ (s : SeenSheet). s.asked_type) is)
-
-same-sound : (word : Option (List ℕ)) (typed : SheetTypes) (sheet : SeenSheet) → typed.table ≡ sheet.table → typed.asked_type ≡ sheet.asked_type → IsSoundly word typed → IsSound word sheet
-same-sound word typed sheet t a s = record {
-  rules = subst KeepsRules t s.rules;
-  named = subst (λ rows. IfSome sheet.asked_type (λ id. id.0 < length rows)) t (subst (λ o. IfSome o (λ id. id.0 < length typed.table)) a s.named);
-  clear = subst (λ rows. IfSome sheet.asked_type (λ id. IsClear rows id.0)) t (subst (λ o. IfSome o (λ id. IsClear typed.table id.0)) a s.clear);
-  solid = subst (λ rows. IfSome sheet.asked_type (λ id. IsHollow rows id.0 → ⊥)) t (subst (λ o. IfSome o (λ id. IsHollow typed.table id.0 → ⊥)) a s.solid);
-  asked = subst (λ o. is_some o ≡ is_some word) a s.asked;
-}
+    let planned = answered (plan_of firsts j) _ sheet judged.2 in
+    record { judged = j; judged_is = judged.1; plan = planned.0; planned = planned.1; is = let made = planned.2 in cc }
 
 pub sheets-sound : SheetsAreSound
 sheets-sound firsts files word sheet h =
-    let judged = sheet-judged firsts files word sheet h in
-    same-sound word judged.0.typed sheet judged.2 judged.3 (judged-sound files word judged.0 judged.1)
+    let made = sheet-made firsts files word sheet h in
+    let s = judged-sound files word made.judged made.judged_is in
+    let arguments = judged-arguments firsts files word made.judged made.plan made.judged_is made.planned in
+    subst (IsSound word) made.is (record { rules = s.rules; named = s.named; clear = s.clear; solid = s.solid; asked = s.asked; used = s.used; arguments = arguments })
+
+-- so are the arguments of the commands of what is answered
+pub sheet-carries : (files : List (List ℕ)) (word : Option (List ℕ)) (j : Judged) → judged_files files word ≡ Ok j → (r : Result Sheet (Fail Refusal)) → WhereFirstsAreTold (λ firsts. Answers seen_sheet r (with_plan firsts j)) → IfOk r (λ s. ArgumentsAreUsed s.table s.used s.plan)
+sheet-carries files word j h (Err e) a = tt
+sheet-carries files word j h (Ok s) a =
+    let told = firsts-told in
+    let planned = answered (plan_of told.0 j) _ (seen_sheet s) (a told.0 told.1) in
+    let is : sheet_of j.space j.typed planned.0 ≡ seen_sheet s = let made = planned.2 in cc in
+    of-seen (IsUsedClosed s.table s.used) s.plan
+    (subst (λ (x : SeenSheet). OnSaidArguments (IsUsedClosed x.table x.used) x.plan.components) is (judged-arguments told.0 files word j planned.0 h planned.1))
 
 -- ---- used types
 
@@ -137,6 +176,7 @@ files-clear files word j h trees names typed read found types id used closed =
 
 pub used-types-clear : UsedTypesAreClear
 used-types-clear firsts files word sheet h trees names typed read found types id used closed =
-    let judged = sheet-judged firsts files word sheet h in
-    subst (λ t. IsClear t id) judged.2
-    (files-clear files word judged.0 judged.1 trees names typed read found types id used (subst (λ t. open_of t id ≡ None) (sym judged.2) closed))
+    let made = sheet-made firsts files word sheet h in
+    let table : made.judged.typed.table ≡ sheet.table = ap (λ (s : SeenSheet). s.table) made.is in
+    subst (λ t. IsClear t id) table
+    (files-clear files word made.judged made.judged_is trees names typed read found types id used (subst (λ t. open_of t id ≡ None) (sym table) closed))

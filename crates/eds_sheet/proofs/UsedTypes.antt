@@ -69,7 +69,7 @@ row_named (r ∷ t) (suc y) row x e h = in_back (types_named r.kind) (flat_map (
 
 -- ---- the used types of a sheet
 
-has : (xs : List TypeId) (x : TypeId) → In xs x → Has xs x
+pub has : (xs : List TypeId) (x : TypeId) → In xs x → Has xs x
 has xs x h = let k = has_of_one (λ y. y ≡ x) xs h in subst (Has xs) k.2 k.1
 
 module _ (trees : List (List Node)) (names : Names) (word : Option (List ℕ)) where

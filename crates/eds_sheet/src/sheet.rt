@@ -6,6 +6,7 @@ ghost use Rattle.eds_base.specs.Answering.{Answers};
 ghost use Rattle.eds_types.specs.Overlap.{IsClear};
 ghost use Rattle.eds_types.specs.Rules.{IsHollow};
 ghost use Rattle.eds_overlap.specs.Used.{HasAllNamed};
+ghost use Rattle.eds_plan.specs.Arguments.{ArgumentsAreUsed};
 ghost use Rattle.eds_read_comp.specs.Plans.{seen_plan};
 ghost use Rattle.eds_read_comp.specs.Together.{HoldsTogether};
 ghost use Rattle.eds_sheet.specs.Compiled.{is_container as container, counts_of as counted, compiled, plan_of, seen_sheet, with_plan};
@@ -135,6 +136,7 @@ pub fn compile(alloc: Global, files: &Files, extra: Option<&str>) -> Result<Shee
     ensures solid { IfOk result (λ s. IfSome s.asked_type (λ id. ¬ (IsHollow s.table id.0))) }
     ensures named { IfOk result (λ s. HasAllNamed s.table s.used) }
     ensures used { IfOk result (λ s. AreClear s.table s.used) }
+    ensures arguments { IfOk result (λ s. ArgumentsAreUsed s.table s.used s.plan) }
 {
     let judged = judge(alloc, files, extra)?;
     sheet_of(alloc, judged)
