@@ -225,12 +225,12 @@ HasPlanFor task sheet = task ≡ run → HasPlan sheet
 module _ (laws : ValueLaws) (sheet : SeenSheet) where
   one_of_task : (task : TaskWords) (input : Result (List ℕ) Stop) → IsSound (task_type task) sheet → IsOfOne (DoesOn task sheet input)
   one_of_task (by_type verb name) (Ok input) sound = one_of_work laws (type_of sheet) (word_readable name sheet sound) (word_solid name sheet sound) verb input
-  one_of_task run (Ok input) sound = one_of_sheet laws.scripts sheet sound.rules input
+  one_of_task run (Ok input) sound = one_of_sheet laws.scripts sheet sound input
   one_of_task task (Err stop) sound = one_stop stop
 
   some_of_task : (task : TaskWords) (input : Result (List ℕ) Stop) → IsSound (task_type task) sheet → HasPlanFor task sheet → IsOfSome (DoesOn task sheet input)
   some_of_task (by_type verb name) (Ok input) sound has = some_of_work laws (type_of sheet) (word_readable name sheet sound) (word_solid name sheet sound) verb input
-  some_of_task run (Ok input) sound has = some_of_sheet laws.scripts sheet sound.rules input (has refl)
+  some_of_task run (Ok input) sound has = some_of_sheet laws.scripts sheet sound input (has refl)
   some_of_task task (Err stop) sound has = some_stop stop
 
 -- ---- the answer

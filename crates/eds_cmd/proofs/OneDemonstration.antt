@@ -14,7 +14,7 @@ use Rattle.eds_script.specs.Scripts.{Plot}
 use Rattle.eds_script.specs.declared.why.BadLine.{BadLine}
 use Rattle.eds_sheet.specs.Compiled.{SeenSheet}
 use Rattle.eds_sheet.specs.Firsts.{Firsts}
-use Rattle.eds_sheet.specs.Laws.{SheetsAreSound}
+use Rattle.eds_sheet.specs.Laws.{IsSound, SheetsAreSound}
 use Rattle.eds_types.specs.Rows.{Table}
 use Rattle.eds_types.specs.Rules.{KeepsRules}
 use Rattle.eds_cmd.specs.declared.status.Status.{Status}
@@ -26,7 +26,7 @@ use Rattle.eds_cmd.specs.Run.{IsPlanOf, IsRunnable, Runs, all_events, wired}
 use Rattle.eds_cmd.specs.Running.{happenings}
 use Rattle.eds_cmd.specs.Tally.{Counts, is_reject, is_sent}
 use Rattle.eds_cmd.proofs.AlikeRuns.{counted_alike}
-use Rattle.eds_cmd.proofs.SheetRuns.{ScriptLaws}
+use Rattle.eds_cmd.proofs.SheetRuns.{ScriptLaws, plan_runs}
 
 -- what is there is the same where it is the same answer
 one_plot : (p q : Plot) (r : Result Plot BadLine) → r ≡ Ok p → r ≡ Ok q → p ≡ q
@@ -57,11 +57,11 @@ one_count outcome t plan rules run text x y m n a b =
 pub one_demonstration : ScriptLaws → SheetsAreSound → (firsts : Firsts) (n : ℕ) (s o : Status) (r l : List ℕ) → IsDemonstrated firsts n s r → IsDemonstrated firsts n o l → (s ≡ o) × (r ≡ l)
 one_demonstration laws sound firsts n s o r l a b =
     let sheet : a.sheet ≡ b.sheet = one_sheet a.sheet b.sheet _ a.sheet_is b.sheet_is in
-    let rules : KeepsRules b.sheet.table = (sound firsts (demo_sheet n ∷ []) None b.sheet b.sheet_is).rules in
+    let keeps : IsSound None b.sheet = sound firsts (demo_sheet n ∷ []) None b.sheet b.sheet_is in
     let is : IsPlanOf b.sheet a.plan = subst (λ (x : SeenSheet). IsPlanOf x a.plan) sheet a.is in
     let runs : RunsTo b.sheet.table a.plan (demo_script n) a.tally a.end = subst (λ (x : SeenSheet). RunsTo x.table a.plan (demo_script n) a.tally a.end) sheet a.runs in
     let alike : AreAlike a.plan b.plan = laws.alike.seen a.plan b.plan (is.seen ∙ sym b.is.seen) in
-    let both = one_count laws.outcome b.sheet.table b.plan rules b.is.runnable (demo_script n) a.tally b.tally a.end b.end (counted_alike laws.alike b.sheet.table a.plan b.plan alike (demo_script n) a.tally a.end runs) b.runs in (
+    let both = one_count laws.outcome b.sheet.table b.plan keeps.rules (plan_runs b.sheet keeps b.plan b.is) (demo_script n) a.tally b.tally a.end b.end (counted_alike laws.alike b.sheet.table a.plan b.plan alike (demo_script n) a.tally a.end runs) b.runs in (
       a.status_is ∙ sym b.status_is,
       a.report_is ∙ ap (λ (x : SeenSheet). demo_line n x.counts a.tally a.end) sheet ∙ ap (λ t. demo_line n b.sheet.counts t a.end) both.0 ∙ ap (λ e. demo_line n b.sheet.counts b.tally e) both.1 ∙ sym b.report_is,
     )

@@ -4,8 +4,7 @@ use Rattle.std.proofs.lemmas.Bool.{le-leb}
 use Rattle.eds_io.specs.Files.{Files}
 use Rattle.eds_sheet.specs.Compiled.{SeenSheet}
 use Rattle.eds_sheet.specs.Firsts.{Firsts}
-use Rattle.eds_sheet.specs.Laws.{SheetsAreSound}
-use Rattle.eds_types.specs.Rules.{KeepsRules}
+use Rattle.eds_sheet.specs.Laws.{IsSound, SheetsAreSound}
 use Rattle.eds_value.specs.JsonOfValue.{json_text}
 use Rattle.eds_cmd.specs.declared.command.Verb.{Verb}
 use Rattle.eds_cmd.specs.declared.command.Verb.TheVariants.{Unpack, Pack, Split}
@@ -44,9 +43,9 @@ valid_work Split type octets v = (
 )
 
 -- where there is a plan to run
-valid_task : ScriptLaws → (task : TaskWords) (sheet : SeenSheet) (input : List ℕ) → KeepsRules sheet.table → IsValidTask task sheet input → HasPlanFor task sheet → (report : List ℕ) × Does task sheet input statuses.Done report
-valid_task laws (by_type verb type_name) sheet input rules v has = valid_work verb (type_of sheet) input v
-valid_task laws run sheet input rules v has = valid_of_sheet laws sheet rules input (has refl) v
+valid_task : ScriptLaws → {word : Option (List ℕ)} (task : TaskWords) (sheet : SeenSheet) (input : List ℕ) → IsSound word sheet → IsValidTask task sheet input → HasPlanFor task sheet → (report : List ℕ) × Does task sheet input statuses.Done report
+valid_task laws (by_type verb type_name) sheet input sound v has = valid_work verb (type_of sheet) input v
+valid_task laws run sheet input sound v has = valid_of_sheet laws sheet sound input (has refl) v
 
 -- the input file of a valid job is read
 abbrev input : List ℕ → Result (List ℕ) Stop
@@ -55,10 +54,10 @@ input octets = Ok octets
 valid_read : (files : Files) (job : JobWords) (sheet : SeenSheet) (v : IsValidJob files job sheet) → input_for files job ≡ input v.input
 valid_read files job sheet v = let within : nat_le (length v.input) (input_most job.task) ≡ true = le-leb (length v.input) (input_most job.task) v.within in rw (v.there, within) refl
 
-valid_does : ScriptLaws → (files : Files) (job : Option JobWords) (sheet : SeenSheet) → KeepsRules sheet.table → IsValidFor files job sheet → HasPlanIn job sheet → (report : List ℕ) × DoesBy job files sheet statuses.Done report
-valid_does laws files None sheet rules v has = (counts_line sheet.counts, record { status_is = refl; report_is = refl })
-valid_does laws files (Some job) sheet rules v has =
-    let task = valid_task laws job.task sheet v.input rules v.valid (has job refl) in
+valid_does : ScriptLaws → {word : Option (List ℕ)} (files : Files) (job : Option JobWords) (sheet : SeenSheet) → IsSound word sheet → IsValidFor files job sheet → HasPlanIn job sheet → (report : List ℕ) × DoesBy job files sheet statuses.Done report
+valid_does laws files None sheet sound v has = (counts_line sheet.counts, record { status_is = refl; report_is = refl })
+valid_does laws files (Some job) sheet sound v has =
+    let task = valid_task laws job.task sheet v.input sound v.valid (has job refl) in
     (task.0, subst (λ r. DoesOn job.task sheet r statuses.Done task.0) (sym (valid_read files job sheet v)) task.1)
 
 -- ---- where a script was run over the components of a sheet, there is a plan of these
@@ -90,13 +89,13 @@ module _ (laws : ValueLaws) (sound : SheetsAreSound) (firsts : Firsts) (files : 
   sheet_is : accepted firsts files c ≡ compiled_as v.sheet
   sheet_is = let sheets = there_read files 0 c.sheets v.octets v.there (omega (arith, v.within)) in rw (sheets, v.sheet_accepted) refl
 
-  rules : KeepsRules v.sheet.table
-  rules = (sound firsts v.octets (type_name_of c) v.sheet v.sheet_accepted).rules
+  sheet_sound : IsSound (type_name_of c) v.sheet
+  sheet_sound = sound firsts v.octets (type_name_of c) v.sheet v.sheet_accepted
 
   -- its answer is that it is done, where there is a plan to run
   done : HasPlanIn c.job v.sheet → (report : List ℕ) × AnswersCommand firsts c files statuses.Done report
   done has =
-      let does = valid_does laws.scripts files c.job v.sheet rules v.input_valid has in
+      let does = valid_does laws.scripts files c.job v.sheet sheet_sound v.input_valid has in
       let by : AnswersBy c.job files (compiled_as v.sheet) statuses.Done does.0 = inl (record { does = does.1; within = λ e. v.short does.0 does.1 }) in
       (does.0, subst (λ b. AnswersFew firsts b c files statuses.Done does.0) (sym few) (subst (λ r. AnswersBy c.job files r statuses.Done does.0) (sym sheet_is) by))
 

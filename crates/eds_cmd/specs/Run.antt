@@ -113,11 +113,11 @@ pub record IsValidScript (t : Table) (plan : List ComponentPlan) (text : List �
 
 -- ---- over the components of a sheet
 
--- The plan has what the sheet says of its components, and may be run. Plans of which a sheet says the same run alike, so it
+-- The plan has what the sheet says of its components, and fits the table. Plans of which a sheet says the same run alike, so it
 -- doesn't matter which of them it is.
 pub record IsPlanOf (sheet : SeenSheet) (plan : List ComponentPlan) : Type 0 where
   pub seen : seen_plan plan ≡ sheet.plan
-  pub runnable : IsRunnable sheet.table plan
+  pub fits : PlanFits sheet.table (Conforms sheet.table) plan
 
 -- there is such a plan
 abbrev pub HasPlan : SeenSheet → Type 0

@@ -127,7 +127,7 @@ pub fn demonstrate(alloc: Global, n: u64) -> Result<Octets, Memory>
 {
     let (file, script) = demo(alloc, n)?;
     let sheet = sheet_in(alloc, file)?;
-    let components = components_of(alloc, &sheet)?;
+    let components = components_of(&sheet);
     let counted = count_script(alloc, &components, script.as_slice())?;
     let line = demo_line(alloc, n, sheet.counts, counted.tally, counted.end)?;
     Ok(octets_of(line))

@@ -24,8 +24,7 @@ use crate::status::What;
 use crate::stop::{Stop, limited, missing, refused};
 use crate::target::{Target, target_of};
 use crate::unpack::unpacked;
-use eds_base::{Fail, Items, Memory, Octets, Text};
-use eds_host::arguments_are_clear;
+use eds_base::{Fail, Items, Octets, Text};
 use eds_io::{ReadEnd, Shelf, read_whole};
 use eds_sheet::{Sheet, compile};
 use std::alloc::Global;
@@ -178,21 +177,15 @@ fn do_by_type(alloc: Global, verb: Verb, sheet: &Sheet, input: &[u8]) -> Result<
 }
 
 /// The types and the components of a sheet, which may be run.
-pub fn components_of<'a>(alloc: Global, sheet: &'a Sheet) -> Result<Components<'a>, Memory>
+pub fn components_of(sheet: &Sheet) -> Components<'_>
     requires { IsUsable sheet.now }
-    ensures table { IfOk result (λ c. c.table.now ≡ sheet.now.table) }
-    ensures plan { IfOk result (λ c. c.plan.now ≡ sheet.now.plan) }
-    ensures runnable { IfOk result (λ c. IsRunnable c.table.now c.plan.now) }
+    ensures table { result.table.now ≡ sheet.now.table }
+    ensures plan { result.plan.now ≡ sheet.now.plan }
+    ensures runnable { IsRunnable result.table.now result.plan.now }
 {
-    // The arguments of commands have used types, none of them an open binary: so they always are.
-    let clear = arguments_are_clear(alloc, &sheet.table, &sheet.used, &sheet.plan)?;
-    if clear {
-        Ok(Components {
-            table: &sheet.table,
-            plan: &sheet.plan,
-        })
-    } else {
-        Err(Memory)
+    Components {
+        table: &sheet.table,
+        plan: &sheet.plan,
     }
 }
 
@@ -201,7 +194,7 @@ fn run_sheet(alloc: Global, sheet: &Sheet, script: &[u8]) -> Result<Octets, Fail
     requires { IsUsable sheet.now }
     ensures { EndsAs (λ o. o) (RunsSheet (seen_sheet sheet.now) script.now) result }
 {
-    let components = components_of(alloc, sheet)?;
+    let components = components_of(sheet);
     run_script(alloc, &components, script)
 }
 

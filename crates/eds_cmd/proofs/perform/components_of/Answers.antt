@@ -1,4 +1,7 @@
+use Rattle.eds_host.proofs.Marked.{used_clear}
 use Rattle.eds_cmd.proofs.perform.components_of.Goals as goal
 
-pub returns-then-clear-clause-runnable : goal.returns-then-clear-clause-runnable
-returns-then-clear-clause-runnable c = record { fits = c.requires.together; clear = c.in_ok-clear.ensures.clear c.if-clear.true }
+pub returns-clause-runnable : goal.returns-clause-runnable
+returns-clause-runnable c =
+    let sheet = c.args.sheet.now in
+    record { fits = c.requires.together; clear = used_clear sheet.table sheet.used sheet.plan c.requires.used c.requires.arguments }
