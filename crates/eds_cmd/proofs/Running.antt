@@ -1,9 +1,9 @@
 -- A script is run line after line.
-use Rattle.std.proofs.Common.{◌≡◌, ℕ, Bool, cond, count_by, suc, ◌+◌, ◌-◌, ◌<◌, ◌⊎◌, List, [], ◌∷◌, ◌++◌, length, map, drop, zero, Option, Some, None, Ok, slice_get, inl, inr, refl, sym, ap, subst, ◌∙◌, arith}
+use Rattle.std.proofs.Common.{◌≡◌, ℕ, Bool, cond, count_by, suc, ◌+◌, ◌-◌, ◌<◌, ◌⊎◌, List, [], ◌∷◌, ◌++◌, length, map, drop, zero, Option, Some, None, Ok, slice_get, inl, inr, refl, sym, ap, subst, ◌∙◌, arith, get_or}
 use Rattle.std.specs.List.{AllByRecursion}
 use Rattle.std.specs.Option.{option_map_or}
 use Rattle.std.proofs.lemmas.List.Sums.{sum_by-append}
-use Rattle.std.proofs.lemmas.List.{append-nil, append_assoc, length-append}
+use Rattle.std.proofs.lemmas.List.{append-nil, append_assoc, length-append, drop_more}
 use Rattle.std.proofs.lemmas.List.Concat.{flat_map-append}
 use Rattle.eds_act.specs.Does.{Conforms}
 use Rattle.eds_host.specs.Hosts.{Goes, Handles, HostNow, MayAllBeHandled, asked_by, components, reading, standing_after}
@@ -91,14 +91,20 @@ counted_next all rest after x start old new e k h =
     }
 
 -- all are counted
-pub all_counted : (all rest : List Out) (start now : Tally) → length rest < 1 → IsCountedTo all rest start now → CountsMore (map report all) start now
-all_counted all [] start now lt h = record { sent = omega (arith, h.sent); rejects = omega (arith, h.rejects) }
-all_counted all (x ∷ rest) start now lt h = absurd (omega (arith, lt))
+pub all_counted : (all rest : List Out) (start now : Tally) → rest ≡ [] → IsCountedTo all rest start now → CountsMore (map report all) start now
+all_counted all rest start now none h =
+    let sent = ap (λ xs. count_by is_sent (map report xs)) none in
+    let rejects = ap (λ xs. count_by is_reject (map report xs)) none in
+    record { sent = omega (arith, h.sent, sent); rejects = omega (arith, h.rejects, rejects) }
 
 -- what may go out has a line
 pub all_printed : OutsMayBePrinted → (t : Table) (plan : List ComponentPlan) (rs : List Report) → AllByRecursion (MayGoOut t plan) rs → AllByRecursion (FitsPlan t plan) rs
 all_printed law t plan [] h = tt
 all_printed law t plan (r ∷ rs) h = (law t plan r h.0, all_printed law t plan rs h.1)
+
+-- what is left of a list from one of its items on
+pub left_at : {A : Type 0} (xs : List A) (i : ℕ) (x : A) → i < length xs → x ≡ get_or xs i x → drop i xs ≡ x ∷ drop (i + 1) xs
+left_at xs i x lt is = drop_more xs i x lt ∙ ap (λ y. y ∷ drop (i + 1) xs) (sym is)
 
 -- some of all events are told behind the start, and these are left
 abbrev pub IsToldTo : Table → List ComponentPlan → (all rest : List Out) → (start now : List ℕ) → Type 0
@@ -118,10 +124,9 @@ pub fits_next : (t : Table) (plan : List ComponentPlan) (rest after : List Out) 
 fits_next t plan rest after x e h = let k : AllByRecursion (FitsPlan t plan) (map report (x ∷ after)) = subst (λ (xs : List Out). AllByRecursion (FitsPlan t plan) (map report xs)) e h in k.1
 
 -- all are told
-pub all_told : (t : Table) (plan : List ComponentPlan) (all rest : List Out) (start now : List ℕ) → length rest < 1 → IsToldTo t plan all rest start now
+pub all_told : (t : Table) (plan : List ComponentPlan) (all rest : List Out) (start now : List ℕ) → rest ≡ [] → IsToldTo t plan all rest start now
     → (events : List ℕ) × AreEventLines t plan (map report all) events × (now ≡ start ++ events)
-all_told t plan all [] start now lt h = (h.0, subst (AreEventLines t plan (map report all)) (append-nil h.0) (h.2 [] refl), h.1)
-all_told t plan all (x ∷ rest) start now lt h = absurd (omega (arith, lt))
+all_told t plan all rest start now none h = (h.0, subst (AreEventLines t plan (map report all)) (append-nil h.0) (h.2 [] (subst (λ (xs : List Out). AreEventLines t plan (map report xs) []) (sym none) refl)), h.1)
 
 -- ---- states
 

@@ -111,10 +111,7 @@ fn sheet_in(alloc: Global, file: Octets) -> Result<Sheet, Memory>
     }
     let mut files = Items::new(alloc);
     files.push(file)?;
-    match sheet_by(alloc, &files, None) {
-        Ok(sheet) => Ok(sheet),
-        Err(_) => Err(Memory),
-    }
+    sheet_by(alloc, &files, None).map_err(|_| Memory)
 }
 
 /// The report on a demonstration with so many packets, from 1 to 500: what its sheet declares, and what is sent and refused until

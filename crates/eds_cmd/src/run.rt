@@ -61,11 +61,9 @@ fn add_events(
     requires { AllByRecursion (FitsPlan of.now.table.now of.now.plan.now) (map told_report outs.now) }
     ensures { OnOk result ((events : List ℕ) × AreEventLines of.now.table.now of.now.plan.now (map told_report outs.now) events × (report.new.items ≡ report.old.items ++ events)) }
 {
-    let mut rest = outs.as_slice();
-    while let [event, after @ ..] = rest {
+    for event in outs.as_slice() {
         let line = print_event(alloc, of.table, of.plan, event)?;
         report.extend_from_slice(line.as_slice())?;
-        rest = after;
     }
     Ok(())
 }
@@ -74,10 +72,8 @@ fn add_events(
 fn count_events(outs: &Outs, tally: &mut Tally) -> Result<(), Memory>
     ensures { OnOk result (CountsMore (map told_report outs.now) tally.old tally.new) }
 {
-    let mut rest = outs.as_slice();
-    while let [event, after @ ..] = rest {
+    for event in outs.as_slice() {
         *tally = tally.with(event)?;
-        rest = after;
     }
     Ok(())
 }
@@ -257,8 +253,5 @@ pub fn count_script(alloc: Global, of: &Components<'_>, text: &[u8]) -> Result<C
     let Ok(script) = script_for(alloc, of, text) else {
         return Err(Memory);
     };
-    match count_over(alloc, of, &script) {
-        Ok(counted) => Ok(counted),
-        Err(_) => Err(Memory),
-    }
+    count_over(alloc, of, &script).map_err(|_| Memory)
 }

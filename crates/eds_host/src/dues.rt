@@ -125,14 +125,12 @@ fn first_due(of: &Vec<Option<(u64, u16)>>, order: &BTreeMap<When, u16>) -> Optio
     requires { Mirrors order.now of.now.items }
     ensures { result ≡ first_in 0 of.now.items }
 {
-    match order.first_key_value() {
-        None => None,
-        Some((when, machine)) => Some(Due {
-            moment: when.moment,
-            comp: when.comp,
-            machine: *machine,
-        }),
-    }
+    let (when, machine) = order.first_key_value()?;
+    Some(Due {
+        moment: when.moment,
+        comp: when.comp,
+        machine: *machine,
+    })
 }
 
 impl Dues {

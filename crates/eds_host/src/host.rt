@@ -82,14 +82,12 @@ fn asked_ends(alloc: Global, plan: &Plan, wires: &Wires) -> Result<Items<Asked>,
 {
     let index = index_ends(alloc, plan)?;
     let mut asked = Items::new(alloc);
-    let mut rest = wires.as_slice();
-    while let [wire, after @ ..] = rest {
+    for wire in wires.as_slice() {
         asked.push(Asked {
             line: wire.line,
             lower: end_called(&index, plan, wire.lower.as_str()),
             upper: end_called(&index, plan, wire.upper.as_str()),
         })?;
-        rest = after;
     }
     Ok(asked)
 }

@@ -149,12 +149,10 @@ fn first_brought(required: bool, arguments: &[Argument]) -> Option<TypeId>
     ensures some { IfSome result (λ id. (ids : List ℕ) × (carried_of (arriving required) arguments.now ≡ id.0 ∷ ids)) }
     ensures none { result ≡ None → carried_of (arriving required) arguments.now ≡ [] }
 {
-    let mut rest = arguments;
-    while let [argument, after @ ..] = rest {
+    for argument in arguments {
         if is_brought(required, argument.mode) {
             return Some(argument.id);
         }
-        rest = after;
     }
     None
 }
@@ -205,10 +203,8 @@ fn copied(alloc: Global, p: &Primitive) -> Result<Primitive, Memory>
     ensures { IfOk result (λ q. signal q ≡ signal p.now) }
 {
     let mut arguments = Values::new(alloc);
-    let mut rest = p.arguments.as_slice();
-    while let [value, after @ ..] = rest {
+    for value in p.arguments.as_slice() {
         arguments.push(value.copy(alloc)?)?;
-        rest = after;
     }
     Ok(Primitive {
         end: p.end,

@@ -108,12 +108,10 @@ impl Links {
 fn type_named(map: &TypeMap, name: &Text) -> Option<u32>
     ensures { result ≡ type_named_of map.now name.now }
 {
-    let mut rest = map.as_slice();
-    while let [field, after @ ..] = rest {
+    for field in map.as_slice() {
         if field.0.as_str() == name.as_str() {
             return Some(field.1.0);
         }
-        rest = after;
     }
     None
 }
@@ -132,12 +130,10 @@ fn same_type(a: Option<u32>, b: Option<u32>) -> bool
 fn agrees(one: &TypeMap, other: &TypeMap, names: &TypeMap) -> bool
     ensures { result ≡ agrees_of one.now other.now names.now }
 {
-    let mut rest = names.as_slice();
-    while let [field, after @ ..] = rest {
+    for field in names.as_slice() {
         if !same_type(type_named(one, &field.0), type_named(other, &field.0)) {
             return false;
         }
-        rest = after;
     }
     true
 }
@@ -220,8 +216,7 @@ pub(crate) fn tie_all(alloc: Global, plan: &Plan, asked: &[Asked]) -> Result<Lin
 {
     let mut ties = Vec::new(alloc);
     let mut others = BTreeMap::new(alloc);
-    let mut rest = asked;
-    while let [wire, after @ ..] = rest {
+    for wire in asked {
         match judge(plan, &others, wire) {
             Ok(t) => {
                 tie_ends(&mut others, t)?;
@@ -234,7 +229,6 @@ pub(crate) fn tie_all(alloc: Global, plan: &Plan, asked: &[Asked]) -> Result<Lin
                 }));
             }
         }
-        rest = after;
     }
     Ok(Links { ties, others })
 }

@@ -1,9 +1,6 @@
-use Rattle.std.proofs.Common.{◌≡◌, length}
+use Rattle.std.proofs.Common.{◌≡◌, drop}
 use Rattle.eds_plan.specs.Carried.{arriving, carried_of}
 use Rattle.eds_host.proofs.line.first_brought.Given as goal
 
-abbrev pub invariant-loop-rest : goal.invariant-loop-rest
-invariant-loop-rest l = carried_of (arriving l.required) l.rest ≡ carried_of (arriving l.required) l.arguments
-
-abbrev pub decreases-loop-rest : goal.decreases-loop-rest
-decreases-loop-rest l = length l.rest
+abbrev pub invariant-loop-argument : goal.invariant-loop-argument
+invariant-loop-argument l = carried_of (arriving l.required) (drop l.argument-index l.arguments) ≡ carried_of (arriving l.required) l.arguments

@@ -1,10 +1,7 @@
-use Rattle.std.proofs.Common.{◌≡◌, length}
+use Rattle.std.proofs.Common.{◌≡◌, drop}
 use Rattle.eds_host.specs.Links.{HasTies}
 use Rattle.eds_host.specs.Wires.{ties_of, ties_behind}
 use Rattle.eds_host.proofs.wiring.tie_all.Given as goal
 
-abbrev pub invariant-loop-rest : goal.invariant-loop-rest
-invariant-loop-rest l = HasTies l.others l.ties.items × (ties_of l.plan l.asked ≡ ties_behind l.plan l.ties.items l.rest)
-
-abbrev pub decreases-loop-rest : goal.decreases-loop-rest
-decreases-loop-rest l = length l.rest
+abbrev pub invariant-loop-wire : goal.invariant-loop-wire
+invariant-loop-wire l = HasTies l.others l.ties.items × (ties_of l.plan l.asked ≡ ties_behind l.plan l.ties.items (drop l.wire-index l.asked))
