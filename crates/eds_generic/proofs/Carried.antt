@@ -205,7 +205,7 @@ module _ (P : ℕ → Type 0) where
         let q = below_by faces bounds b in
         let behind = map (below_by faces bounds) bs in
         let parts = append-none (flat_map (unmapped_at faces types) (reached n faces q)) (flat_map (unmapped_at faces types) (flat_map (reached n faces) behind))
-            (sym (flat_map-append (unmapped_at faces types) (reached n faces q) (flat_map (reached n faces) behind)) ∙ none) in
+        (sym (flat_map-append (unmapped_at faces types) (reached n faces q) (flat_map (reached n faces) behind)) ∙ none) in
         all-joined PairHas (gathered n faces q) (flat_map (gathered n faces) behind) (each q (below-ready faces bounds b h s.0) parts.0) (bases-have n bounds each h bs s.1 parts.1)
 
     gathered-has : (n : ℕ) (p : Pair) → IsReady faces p → AreMapped (reached n faces p) → AllByRecursion PairHas (gathered n faces p)

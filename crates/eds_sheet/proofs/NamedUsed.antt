@@ -340,7 +340,7 @@ module _ (trees : List (List Node)) (names : Names) (word : Option (List ℕ)) (
         ∙ all-there trees file t there (map_places trees) maps (in-there trees file t there (codes "GenericTypeMapSet") (codes "GenericTypeMap")) ends in
         let stand = all-sets-stand t (codes "Interface") (codes "GenericTypeMapSet") (codes "GenericTypeMap") refl refl ends (set-stands t set (codes "Interface") n set_kept refl stands) in
         let refer = all-unmapped RefersFreely (λ p. AllByRecursion FindsUsed (free_reference trees MemberType p)) (place file) (λ k r. r) (flat_map maps ends)
-            (subst (AllByRecursion (λ p. AllByRecursion FindsUsed (free_reference trees MemberType p))) maps_are refers) in
+        (subst (AllByRecursion (λ p. AllByRecursion FindsUsed (free_reference trees MemberType p))) maps_are refers) in
         all-split MapNames maps ends
         (all-both (StandsAs t (codes "GenericTypeMap")) RefersFreely MapNames (λ k s r. map-names k (type-there trees file t (codes "GenericTypeMap") k shaped files there maps-ask s) r) (flat_map maps ends) stand refer)
 
@@ -391,7 +391,7 @@ module _ (trees : List (List Node)) (names : Names) (word : Option (List ℕ)) (
         let outer = all-apart (λ p. AllByRecursion FindsUsed (free_reference trees MemberType p)) (flat_map (map_places trees) (end_places trees at) ++ variable_places trees at) (own_argument_places trees at) typed in
         let mapped = all-apart (λ p. AllByRecursion FindsUsed (free_reference trees MemberType p)) (flat_map (map_places trees) (end_places trees at)) (variable_places trees at) outer.0 in
         let ends = all-apart (λ p. AllByRecursion FindsUsed (free_reference trees MemberType p)) (flat_map (map_places trees) provided) (flat_map (map_places trees) required)
-            (subst (AllByRecursion (λ p. AllByRecursion FindsUsed (free_reference trees MemberType p))) (flat_map-append (map_places trees) provided required) mapped.0) in
+        (subst (AllByRecursion (λ p. AllByRecursion FindsUsed (free_reference trees MemberType p))) (flat_map-append (map_places trees) provided required) mapped.0) in
         let all = ends-name (children_at t n) (set-names (codes "ProvidedInterfaceSet") n refl stands ends.0) (set-names (codes "RequiredInterfaceSet") n refl stands ends.1) in
         all-mapped (λ (e : EndElement). EndNames e.node) (λ (u : FaceUse). AllByRecursion Named (used_types u)) (λ (e : EndElement). use_at t names file e.node)
         (λ e h. given-name (read.held_in t (codes "GenericTypeMapSet") (codes "GenericTypeMap") e.node) h) (end_elements t n) all

@@ -156,9 +156,12 @@ pub number_is_sure : (value : Bits → Result Plain Fault) (n : ℕ) (r : Number
 number_is_sure value n r agrees zero low high last =
     let few = agrees.0 in
     let small : n ≤ 64 = omega arith in
-    λ x h. (num (made r n x), agrees.2 x h
-        (signed_from r.half r.less (in_order r.little n x) r.low zero low)
-        (signed_to r.half r.less n (in_order r.little n x) r.high (in_order_small r.little n x agrees.1 small h) high last))
+    λ x h. (
+      num (made r n x),
+      agrees.2 x h
+          (signed_from r.half r.less (in_order r.little n x) r.low zero low)
+          (signed_to r.half r.less n (in_order r.little n x) r.high (in_order_small r.little n x agrees.1 small h) high last),
+    )
 
 pub truth_is_sure : (value : Bits → Result Plain Fault) (n : ℕ) (zero_is_false : Bool) → Agrees value n (meaning.Truth zero_is_false) → IsSure value n
 truth_is_sure value n zero_is_false agrees = λ x h. (truth (truth_by zero_is_false x), agrees x h)

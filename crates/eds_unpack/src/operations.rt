@@ -206,7 +206,11 @@ fn operations_of(
 }
 
 /// The segment of a container whose entries are all that it has, and are scalars.
-pub(crate) fn segment_of(alloc: Global, table: &TypeTable, id: TypeId) -> Result<Option<Segment>, Memory>
+pub(crate) fn segment_of(
+    alloc: Global,
+    table: &TypeTable,
+    id: TypeId,
+) -> Result<Option<Segment>, Memory>
     ensures { IfOk result (λ o. IfSome o (IsSegmentOf table.now id.0)) }
 {
     if is_straight(table, id) {

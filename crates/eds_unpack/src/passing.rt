@@ -82,12 +82,7 @@ fn has_value(table: &TypeTable, operation: &Operation, number: u64) -> bool
 
 /// Whether the bits of an operation have a value. They are looked at only where they may have none.
 #[inline(always)]
-fn passes(
-    table: &TypeTable,
-    operation: &Operation,
-    octets: &[u8],
-    reader: &BitReader<'_>,
-) -> bool
+fn passes(table: &TypeTable, operation: &Operation, octets: &[u8], reader: &BitReader<'_>) -> bool
     requires is { IsOperation table.now operation.now }
     requires octets { 8 ≤ length octets.now → bits_left reader.now ≡ bits_of octets.now }
     requires enough { operation.now.at + operation.now.bits ≤ length (bits_left reader.now) }
