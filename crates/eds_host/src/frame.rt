@@ -12,7 +12,7 @@ ghost use Rattle.eds_unpack.specs.Answers.{IfNamed};
 use eds_base::{Fail, Fault, Path, Reason, TypeId};
 use eds_bits::BitView;
 use eds_types::{TypeTable, Value};
-use eds_unpack::unpack;
+use eds_unpack::{Segments, unpack_by};
 use std::alloc::Global;
 
 /// The most bits that may follow the value of a frame: they fill its last octet.
@@ -33,9 +33,11 @@ fn trailing() -> Fault
 fn front_value(
     alloc: Global,
     table: &TypeTable,
+    segments: &Segments<'_>,
     id: TypeId,
     octets: &[u8],
 ) -> Result<(Value, u32), Fail<Fault>>
+    requires segments { segments.now ≡ table.now }
     requires known { id.0 < length table.now }
     requires clear { IsClear table.now id.0 }
     requires most { length octets.now ≤ 65536 }
@@ -43,7 +45,7 @@ fn front_value(
     ensures value { IfOk result (λ x. Spells table.now id.0 (plain x.0) (take x.1 (bits_of octets.now))) }
     ensures fault { IfErr result (IfNamed (λ g. FailsAt table.now id.0 (bits_of octets.now) g)) }
 {
-    match unpack(alloc, table, id, BitView::new(octets)) {
+    match unpack_by(alloc, table, segments, id, BitView::new(octets)) {
         Ok(read) => Ok(read),
         Err(Fail::Named(fault)) => Err(Fail::Named(fault)),
         Err(Fail::Memory) => Err(Fail::Memory),
@@ -64,21 +66,23 @@ fn whole_value(value: Value, size: u32, octets: u32) -> Result<Value, Fail<Fault
     Ok(value)
 }
 
-/// The value of a frame, or what is wrong with the frame: reading its bits as the type fails, or 8 bits or more follow
-/// the value.
+/// The value of a frame, read by the segments of the table, or what is wrong with the frame: reading its bits as the type fails,
+/// or 8 bits or more follow the value.
 pub(crate) fn read_frame(
     alloc: Global,
     table: &TypeTable,
+    segments: &Segments<'_>,
     id: TypeId,
     octets: &[u8],
 ) -> Result<Value, Fail<Fault>>
+    requires segments { segments.now ≡ table.now }
     requires known { id.0 < length table.now }
     requires clear { IsClear table.now id.0 }
     requires most { length octets.now ≤ 65536 }
     ensures value { IfOk result (λ v. FrameIs table.now id.0 (bits_of octets.now) (Ok (plain v))) }
     ensures fault { IfErr result (IfNamed (λ g. FrameIs table.now id.0 (bits_of octets.now) (Err g))) }
 {
-    match front_value(alloc, table, id, octets) {
+    match front_value(alloc, table, segments, id, octets) {
         Ok((value, size)) => whole_value(value, size, octets.len() as u32),
         Err(Fail::Named(fault)) => Err(Fail::Named(fault)),
         Err(Fail::Memory) => Err(Fail::Memory),

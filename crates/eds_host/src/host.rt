@@ -18,6 +18,7 @@ use crate::wiring::{Asked, HostFail, Links, tie_all};
 use eds_base::{CompId, Fail, Items, Memory};
 use eds_plan::{CompState, End, EndIndex, Line, Outs, Plan, Wires, index_ends};
 use eds_types::TypeTable;
+use eds_unpack::Segments;
 use std::alloc::Global;
 use std::marker::Model;
 
@@ -39,7 +40,7 @@ pub enum Phase {
 #[derive(Drop)]
 pub struct Host<'a> {
     alloc: Global,
-    table: &'a TypeTable,
+    segments: Segments<'a>,
     plan: &'a Plan,
     links: Links,
     time: u64,
@@ -63,9 +64,9 @@ impl<'a> Model for Host<'a> {
 
     ghost coded = { Prim.hlevel (codes, plain_code, value.the_row.coded, guard.the_row.coded, statement.the_row.coded) };
 
-    ghost view = { λ h. record { table = h.table.now; plan = h.plan.now; wires = h.links; world = world h.time h.states h.queue; phase = h.phase } };
+    ghost view = { λ h. record { table = h.segments; plan = h.plan.now; wires = h.links; world = world h.time h.states h.queue; phase = h.phase } };
 
-    ghost invariant = { λ h. Stands h.phase h.table.now h.plan.now h.links h.time h.states h.queue h.dues };
+    ghost invariant = { λ h. Stands h.phase h.segments h.plan.now h.links h.time h.states h.queue h.dues };
 }
 
 // The end that a text names.
@@ -134,11 +135,12 @@ impl<'a> Host<'a> {
         ensures phase { IfOk result (λ h. h.phase ≡ Fresh) }
         ensures fail { IfErr result (λ f. Stops f (ties_of plan.now (map (asked_by plan.now) wires.now))) }
     {
+        let segments = Segments::of(alloc, table)?;
         let links = links_of(alloc, plan, wires)?;
         let states = all_fresh(alloc, plan)?;
         Ok(Host {
             alloc,
-            table,
+            segments,
             plan,
             links,
             time: 0,
@@ -169,7 +171,8 @@ impl<'a> Host<'a> {
             Phase::Storm => Ok(Handled::Storm),
             Phase::Fresh | Phase::Rests => {
                 let setting = Setting {
-                    table: self.table,
+                    table: self.segments.table(),
+                    segments: &self.segments,
                     plan: self.plan,
                     links: &self.links,
                 };

@@ -250,7 +250,13 @@ pub(crate) fn frame_line(
     let Some(id) = frame_type(setting.plan, end, member) else {
         return Err(Memory);
     };
-    match read_frame(alloc, setting.table, id, octets.as_slice()) {
+    match read_frame(
+        alloc,
+        setting.table,
+        setting.segments,
+        id,
+        octets.as_slice(),
+    ) {
         Ok(value) => {
             let p = framed(alloc, setting.plan, end, member, value)?;
             primitive_line(alloc, setting, p, now, states, queue, dues, out)

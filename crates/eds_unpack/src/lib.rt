@@ -36,5 +36,6 @@ mod whole;
 
 pub use program::Program;
 pub use scratch::Scratch;
+pub use segments::Segments;
 pub use splitter::{Fed, Splitter, Taken};
-pub use whole::unpack;
+pub use whole::{unpack, unpack_by};

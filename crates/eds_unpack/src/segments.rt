@@ -21,10 +21,12 @@ fn segment_at(each: &[Option<Segment>], id: TypeId) -> Option<&Segment>
     }
 }
 
-/// The segments of a table's containers, each at the number of its type. Not every container has one.
+/// The containers of a table as lists of operations, made ready to read many values of any of its types (`unpack_by`): those
+/// whose entries are all that they have, and are scalars. It refers to its table.
 #[derive(Drop)]
-pub(crate) struct Segments<'a> {
+pub struct Segments<'a> {
     table: &'a TypeTable,
+    // each at the number of its type; not every container has one
     each: Vec<Option<Segment>>,
 }
 
@@ -55,8 +57,8 @@ impl<'a> Segments<'a> {
         }
     }
 
-    /// Those of all containers of a table that have one.
-    pub(crate) fn of(alloc: Global, table: &'a TypeTable) -> Result<Segments<'a>, Memory>
+    /// Those of all containers of a table that have one, in time and memory by the size of the table.
+    pub fn of(alloc: Global, table: &'a TypeTable) -> Result<Segments<'a>, Memory>
         ensures { IfOk result (λ s. s ≡ table.now) }
     {
         let mut each = Vec::with_capacity(alloc, table.len() as usize)?;
@@ -65,6 +67,13 @@ impl<'a> Segments<'a> {
             each.push(segment)?;
         }
         Ok(Segments { table, each })
+    }
+
+    /// The table that they are of.
+    pub fn table(&self) -> &'a TypeTable
+        ensures { result.now ≡ self.now }
+    {
+        self.table
     }
 
     /// The segment of a type, if it has one.

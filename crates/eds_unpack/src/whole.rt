@@ -60,8 +60,9 @@ fn read_front(
     }
 }
 
-/// The value as `unpack` gives it, with the segments of containers of the table.
-pub(crate) fn unpack_by(
+/// The value of a type that the bits of a view begin with, and how many bits it takes, exactly as `unpack` gives them, read by
+/// the segments of its table. These are made once, and pay where many values are read.
+pub fn unpack_by(
     alloc: Global,
     table: &TypeTable,
     segments: &Segments<'_>,
