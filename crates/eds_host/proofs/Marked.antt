@@ -1,7 +1,6 @@
 -- Marks of the types that are used and no open binaries.
-use Rattle.std.proofs.Common.{◌≡◌, ◌<◌, ◌≤◌, ◌-◌, ◌↔◌, ◌⊎◌, inl, inr, ℕ, zero, suc, Bool, true, false, List, [], ◌∷◌, ◌++◌, length, get_or, set, drop, replicate, IsTrue, None, refl, sym, ap, subst, arith, ◌∙◌, ◌+◌}
+use Rattle.std.proofs.Common.{◌≡◌, ◌<◌, ◌≤◌, ◌-◌, ◌↔◌, ◌⊎◌, inl, inr, ℕ, zero, suc, Bool, true, false, List, [], ◌∷◌, ◌++◌, length, get_or, set, take, drop, replicate, IsTrue, None, refl, sym, ap, subst, arith, ◌∙◌}
 use Rattle.std.specs.List.{AllByRecursion}
-use Rattle.std.proofs.lemmas.List.{drop_all, drop_more}
 use Rattle.eds_base.specs.declared.ids.TypeId.{TypeId}
 use Rattle.eds_bits.specs.Lists.{Has}
 use Rattle.eds_types.specs.Overlap.{IsClear}
@@ -117,15 +116,26 @@ not_more t used rest x marks m other = record {
   ];
 }
 
--- the type at a place is looked at, and marked where it is no open binary
-pub first_marked : (t : Table) (used xs : List TypeId) (i : ℕ) (d : TypeId) (marks : List Bool) → i < length xs → AreMarking t used (drop i xs) marks → IsClosed t (get_or xs i d).0 → AreMarking t used (drop (i + 1) xs) (set marks (get_or xs i d).0 true)
-first_marked t used xs i d marks few m closed = one_more t used (drop (i + 1) xs) (get_or xs i d) marks (subst (λ ys. AreMarking t used ys marks) (drop_more xs i d few) m) closed
+take_all : (xs : List TypeId) (n : ℕ) → n ≡ length xs → take n xs ≡ xs
+take_all [] zero e = refl
+take_all [] (suc n) e = refl
+take_all (x ∷ xs) zero e = absurd (omega arith)
+take_all (x ∷ xs) (suc n) e = ap (λ ys. x ∷ ys) (take_all xs n (omega arith))
 
-pub first_left : (t : Table) (used xs : List TypeId) (i : ℕ) (d : TypeId) (marks : List Bool) → i < length xs → AreMarking t used (drop i xs) marks → (IsClosed t (get_or xs i d).0 → ⊥) → AreMarking t used (drop (i + 1) xs) marks
-first_left t used xs i d marks few m other = not_more t used (drop (i + 1) xs) (get_or xs i d) marks (subst (λ ys. AreMarking t used ys marks) (drop_more xs i d few) m) other
+-- the first of the rest is looked at, and marked where it is no open binary
+pub first_marked : (t : Table) (used xs : List TypeId) (d : TypeId) (marks : List Bool) → 1 ≤ length xs → AreMarking t used xs marks → IsClosed t (get_or xs 0 d).0 →
+    AreMarking t used (take (length xs - 1) (drop 1 xs)) (set marks (get_or xs 0 d).0 true)
+first_marked t used [] d marks some m closed = absurd (omega arith)
+first_marked t used (x ∷ xs) d marks some m closed = subst (λ ys. AreMarking t used ys (set marks x.0 true)) (sym (take_all xs (suc (length xs) - 1) (omega arith))) (one_more t used xs x marks m closed)
 
-pub all_marked : (t : Table) (used xs : List TypeId) (i : ℕ) (marks : List Bool) → length xs ≤ i → AreMarking t used (drop i xs) marks → AreMarks t used marks
-all_marked t used xs i marks past m id = (m.marked id, λ h. elim (m.all id h) [ inl k ↦ k | inr k ↦ absurd (has_none (id_of id) (subst (λ ys. Has ys (id_of id)) (drop_all i xs past) k)) ])
+pub first_left : (t : Table) (used xs : List TypeId) (d : TypeId) (marks : List Bool) → 1 ≤ length xs → AreMarking t used xs marks → (IsClosed t (get_or xs 0 d).0 → ⊥) →
+    AreMarking t used (take (length xs - 1) (drop 1 xs)) marks
+first_left t used [] d marks some m other = absurd (omega arith)
+first_left t used (x ∷ xs) d marks some m other = subst (λ ys. AreMarking t used ys marks) (sym (take_all xs (suc (length xs) - 1) (omega arith))) (not_more t used xs x marks m other)
+
+pub all_marked : (t : Table) (used rest : List TypeId) (marks : List Bool) → length rest < 1 → AreMarking t used rest marks → AreMarks t used marks
+all_marked t used (x ∷ rest) marks none m id = absurd (omega arith)
+all_marked t used [] marks none m id = (m.marked id, λ h. elim (m.all id h) [ inl k ↦ k | inr k ↦ absurd (has_none (id_of id) k) ])
 
 -- ---- what holds of arguments
 

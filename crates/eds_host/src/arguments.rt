@@ -34,10 +34,12 @@ fn marks_of(alloc: Global, table: &TypeTable, used: &Used) -> Result<Vec<bool>, 
     ensures { IfOk result (λ marks. AreMarks table.now used.now marks.items) }
 {
     let mut marks = vec![in alloc; false; table.len() as usize]?;
-    for id in used.as_slice() {
+    let mut rest = used.as_slice();
+    while let [id, after @ ..] = rest {
         if is_closed(table, *id) {
             marks[id.0 as usize] = true;
         }
+        rest = after;
     }
     Ok(marks)
 }
@@ -55,10 +57,12 @@ fn is_marked(marks: &[bool], id: TypeId) -> bool
 fn are_marked(marks: &[bool], arguments: &[Argument]) -> bool
     ensures { IsTrue result ↔ AllByRecursion (λ (a : argument_type). IsMarked marks.now a.id.0) arguments.now }
 {
-    for argument in arguments {
+    let mut rest = arguments;
+    while let [argument, after @ ..] = rest {
         if !is_marked(marks, argument.id) {
             return false;
         }
+        rest = after;
     }
     true
 }
@@ -75,10 +79,12 @@ fn is_member_marked(marks: &[bool], member: &Member) -> bool
 fn is_end_marked(marks: &[bool], end: &EndPlan) -> bool
     ensures { IsTrue result ↔ AllByRecursion (OnArguments (IsMarked marks.now)) end.now.instance.members }
 {
-    for member in end.instance.members.as_slice() {
+    let mut rest = end.instance.members.as_slice();
+    while let [member, after @ ..] = rest {
         if !is_member_marked(marks, member) {
             return false;
         }
+        rest = after;
     }
     true
 }
@@ -86,10 +92,12 @@ fn is_end_marked(marks: &[bool], end: &EndPlan) -> bool
 fn is_component_marked(marks: &[bool], component: &ComponentPlan) -> bool
     ensures { IsTrue result ↔ AllByRecursion (λ (e : end_plan). AllByRecursion (OnArguments (IsMarked marks.now)) e.instance.members) component.now.ends }
 {
-    for end in component.ends.as_slice() {
+    let mut rest = component.ends.as_slice();
+    while let [end, after @ ..] = rest {
         if !is_end_marked(marks, end) {
             return false;
         }
+        rest = after;
     }
     true
 }
@@ -97,10 +105,12 @@ fn is_component_marked(marks: &[bool], component: &ComponentPlan) -> bool
 fn are_components_marked(marks: &[bool], components: &[ComponentPlan]) -> bool
     ensures { IsTrue result ↔ OnAllArguments (IsMarked marks.now) components.now }
 {
-    for component in components {
+    let mut rest = components;
+    while let [component, after @ ..] = rest {
         if !is_component_marked(marks, component) {
             return false;
         }
+        rest = after;
     }
     true
 }
