@@ -33,7 +33,6 @@ use Rattle.eds_generic.specs.declared.used.FaceUse.{FaceUse}
 use Rattle.eds_generic.specs.NamedTypes.{source_types, base_types, member_types, face_types, named_types, used_types}
 use Rattle.eds_generic.specs.Reading as read
 use Rattle.eds_generic.proofs.NamedTypes.{TypeHas}
-use Rattle.eds_read_comp.specs.declared.end.EndElement.{EndElement}
 use Rattle.eds_read_comp.specs.Ends.{end_elements, ends_in, is_end_set, mapped_at, use_at, uses_of}
 use Rattle.eds_read_comp.specs.NamedTypes.{types_named_in}
 use Rattle.eds_read_comp.specs.Uses.{all_uses, component_places, uses_at, uses_by}
@@ -349,30 +348,30 @@ module _ (trees : List (List Node)) (names : Names) (word : Option (List ℕ)) (
 
     -- one set more, which may be of provided ends, or of required ones
     set-more : (c : ℕ) (a b : Bool) (ps rs es : List ℕ) → AllByRecursion EndNames (flat_map Interfaces (if a then c ∷ ps else ps)) → AllByRecursion EndNames (flat_map Interfaces (if b then c ∷ rs else rs))
-        → (AllByRecursion EndNames (flat_map Interfaces ps) → AllByRecursion EndNames (flat_map Interfaces rs) → AllByRecursion (λ (e : EndElement). EndNames e.node) (flat_map (ends_in t) es))
-        → AllByRecursion (λ (e : EndElement). EndNames e.node) (flat_map (ends_in t) (if a || b then c ∷ es else es))
+        → (AllByRecursion EndNames (flat_map Interfaces ps) → AllByRecursion EndNames (flat_map Interfaces rs) → AllByRecursion (λ e. EndNames e.node) (flat_map (ends_in t) es))
+        → AllByRecursion (λ e. EndNames e.node) (flat_map (ends_in t) (if a || b then c ∷ es else es))
     set-more c a b ps rs es = go a b
       where
-        one : AllByRecursion EndNames (Interfaces c) → AllByRecursion (λ (e : EndElement). EndNames e.node) (ends_in t c)
-        one h = all-mapped EndNames (λ (e : EndElement). EndNames e.node) (λ k. record { node = k; required = is_named t (codes "RequiredInterfaceSet") c }) (λ k e. e) (Interfaces c) h
+        one : AllByRecursion EndNames (Interfaces c) → AllByRecursion (λ e. EndNames e.node) (ends_in t c)
+        one h = all-mapped EndNames (λ e. EndNames e.node) (λ k. record { node = k; required = is_named t (codes "RequiredInterfaceSet") c }) (λ k e. e) (Interfaces c) h
 
         go : (a b : Bool) → AllByRecursion EndNames (flat_map Interfaces (if a then c ∷ ps else ps)) → AllByRecursion EndNames (flat_map Interfaces (if b then c ∷ rs else rs))
-            → (AllByRecursion EndNames (flat_map Interfaces ps) → AllByRecursion EndNames (flat_map Interfaces rs) → AllByRecursion (λ (e : EndElement). EndNames e.node) (flat_map (ends_in t) es))
-            → AllByRecursion (λ (e : EndElement). EndNames e.node) (flat_map (ends_in t) (if a || b then c ∷ es else es))
+            → (AllByRecursion EndNames (flat_map Interfaces ps) → AllByRecursion EndNames (flat_map Interfaces rs) → AllByRecursion (λ e. EndNames e.node) (flat_map (ends_in t) es))
+            → AllByRecursion (λ e. EndNames e.node) (flat_map (ends_in t) (if a || b then c ∷ es else es))
         go true true p r rest =
             let provided = all-apart EndNames (Interfaces c) (flat_map Interfaces ps) p in
             let required = all-apart EndNames (Interfaces c) (flat_map Interfaces rs) r in
-            all-joined (λ (e : EndElement). EndNames e.node) (ends_in t c) (flat_map (ends_in t) es) (one provided.0) (rest provided.1 required.1)
+            all-joined (λ e. EndNames e.node) (ends_in t c) (flat_map (ends_in t) es) (one provided.0) (rest provided.1 required.1)
         go true false p r rest =
             let provided = all-apart EndNames (Interfaces c) (flat_map Interfaces ps) p in
-            all-joined (λ (e : EndElement). EndNames e.node) (ends_in t c) (flat_map (ends_in t) es) (one provided.0) (rest provided.1 r)
+            all-joined (λ e. EndNames e.node) (ends_in t c) (flat_map (ends_in t) es) (one provided.0) (rest provided.1 r)
         go false true p r rest =
             let required = all-apart EndNames (Interfaces c) (flat_map Interfaces rs) r in
-            all-joined (λ (e : EndElement). EndNames e.node) (ends_in t c) (flat_map (ends_in t) es) (one required.0) (rest p required.1)
+            all-joined (λ e. EndNames e.node) (ends_in t c) (flat_map (ends_in t) es) (one required.0) (rest p required.1)
         go false false p r rest = rest p r
 
     ends-name : (cs : List ℕ) → AllByRecursion EndNames (flat_map Interfaces (filter (is_named t (codes "ProvidedInterfaceSet")) cs)) → AllByRecursion EndNames (flat_map Interfaces (filter (is_named t (codes "RequiredInterfaceSet")) cs))
-        → AllByRecursion (λ (e : EndElement). EndNames e.node) (flat_map (ends_in t) (filter (is_end_set t) cs))
+        → AllByRecursion (λ e. EndNames e.node) (flat_map (ends_in t) (filter (is_end_set t) cs))
     ends-name [] p r = tt
     ends-name (c ∷ cs) p r =
         set-more c (is_named t (codes "ProvidedInterfaceSet") c) (is_named t (codes "RequiredInterfaceSet") c) (filter (is_named t (codes "ProvidedInterfaceSet")) cs) (filter (is_named t (codes "RequiredInterfaceSet")) cs) (filter (is_end_set t) cs) p r (ends-name cs)
@@ -393,7 +392,7 @@ module _ (trees : List (List Node)) (names : Names) (word : Option (List ℕ)) (
         let ends = all-apart (λ p. AllByRecursion FindsUsed (free_reference trees MemberType p)) (flat_map (map_places trees) provided) (flat_map (map_places trees) required)
         (subst (AllByRecursion (λ p. AllByRecursion FindsUsed (free_reference trees MemberType p))) (flat_map-append (map_places trees) provided required) mapped.0) in
         let all = ends-name (children_at t n) (set-names (codes "ProvidedInterfaceSet") n refl stands ends.0) (set-names (codes "RequiredInterfaceSet") n refl stands ends.1) in
-        all-mapped (λ (e : EndElement). EndNames e.node) (λ (u : FaceUse). AllByRecursion Named (used_types u)) (λ (e : EndElement). use_at t names file e.node)
+        all-mapped (λ e. EndNames e.node) (λ (u : FaceUse). AllByRecursion Named (used_types u)) (λ e. use_at t names file e.node)
         (λ e h. given-name (read.held_in t (codes "GenericTypeMapSet") (codes "GenericTypeMap") e.node) h) (end_elements t n) all
 
   -- ---- all interfaces and components

@@ -29,11 +29,11 @@ use Rattle.eds_sheet.proofs.StandingElements.{IsRead, StandsAs, all-among, stand
 
 first-some : (text : List ℕ) (texts : List (List ℕ)) → first_from (Some text) texts ≡ None → ⊥
 first-some text [] e = absurd cc
-first-some text (other ∷ texts) e = go (precedes other text) e
+first-some text (other ∷ texts) e = go (precedes other text) (first-some other texts) (first-some text texts) e
   where
-    go : (b : Bool) → first_from (if b then Some other else Some text) texts ≡ None → ⊥
-    go true q = first-some other texts q
-    go false q = first-some text texts q
+    go : (b : Bool) → (first_from (Some other) texts ≡ None → ⊥) → (first_from (Some text) texts ≡ None → ⊥) → first_from (if b then Some other else Some text) texts ≡ None → ⊥
+    go true h k q = h q
+    go false h k q = k q
 
 first-none : (texts : List (List ℕ)) → first_in_order texts ≡ None → texts ≡ []
 first-none [] e = refl
