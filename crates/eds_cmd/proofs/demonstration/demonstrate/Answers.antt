@@ -5,7 +5,7 @@ use Rattle.eds_cmd.proofs.demonstration.demonstrate.Goals as goal
 
 pub returns : goal.returns
 returns c = λ firsts tells.
-    let e = c.components_of.ensures in
+    let e = c.components_of-components.ensures in
     record {
       sheet = seen_sheet c.in_ok-sheet.sheet;
       sheet_is = subst (λ file. compiled firsts (file ∷ []) None ≡ Ok (seen_sheet c.in_ok-sheet.sheet)) c.in_ok-file.ensures.sheet (c.in_ok-sheet.ensures.sheet firsts tells);
