@@ -1,6 +1,5 @@
 -- What small bodies do.
-use Rattle.std.proofs.Common.{◌≡◌, ℕ, ℤ, pos, List, [], ◌∷◌, Bool, true, false, refl}
-use Rattle.eds_base.specs.declared.ids.TypeId.{TypeId}
+use Rattle.std.proofs.Common.{◌≡◌, ℕ, pos, List, [], ◌∷◌, Bool, true, false, refl}
 use Rattle.eds_types.specs.declared.value.Value.TheVariants as value
 use Rattle.eds_types.specs.Plain.{Plain, num}
 use Rattle.eds_plan.specs.declared.activity.Operand.TheVariants as source
@@ -9,7 +8,7 @@ use Rattle.eds_plan.specs.declared.activity.MathOp.TheVariants.{Subtract}
 use Rattle.eds_plan.specs.declared.component.ComponentPlan.{ComponentPlan}
 use Rattle.eds_plan.specs.declared.component.VarPlan.{VarPlan}
 use Rattle.eds_plan.specs.declared.run.Halt.TheVariants.{Budget, OutOfRange}
-use Rattle.eds_plan.specs.Statements.{Stmt, iterate, calculate, done, next}
+use Rattle.eds_plan.specs.Statements.{Stmt, iterate, calculate, done}
 use Rattle.eds_act.specs.declared.ending.ActEnd.TheVariants.{Done, Halted}
 use Rattle.eds_act.specs.Does.{World, Ended, items_of, exec}
 

@@ -1,5 +1,5 @@
 -- What a plan that fits its table gives to the functions that run it.
-use Rattle.std.proofs.Common.{◌≡◌, ℕ, zero, suc, ◌<◌, List, [], ◌∷◌, length, map, Bool, true, false, Option, Some, None, slice_get, refl, sym, subst, arith}
+use Rattle.std.proofs.Common.{◌≡◌, ℕ, zero, suc, ◌<◌, List, [], ◌∷◌, length, map, Bool, true, false, Option, Some, subst}
 use Rattle.std.specs.Prelude.{if◌then◌else◌}
 use Rattle.std.specs.List.{AllByRecursion}
 use Rattle.std.proofs.lemmas.Option.{slice_get_within}
@@ -16,7 +16,6 @@ use Rattle.eds_plan.specs.declared.instance.Member.TheVariants as member
 use Rattle.eds_plan.specs.declared.run.Way.{Way}
 use Rattle.eds_plan.specs.Fitting.{ComponentFits, MemberKnown}
 use Rattle.eds_plan.specs.Carried.{carried, carried_of, goes}
-use Rattle.eds_plan.specs.Plans.{argument_types, variable_types}
 use Rattle.eds_act.specs.Does.{Conforms, way_of}
 use Rattle.eds_act.specs.Running.{IsKnown, Fits}
 

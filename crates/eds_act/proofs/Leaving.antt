@@ -7,7 +7,7 @@ use Rattle.eds_types.specs.Rows.{Table}
 use Rattle.eds_plan.specs.Carried.{OpFits, carried, leaving}
 use Rattle.eds_plan.specs.Fitting.{CarriesAt, ComponentFits, StatementFits, StatementsFit, TakesArguments}
 use Rattle.eds_plan.specs.Plans.{argument_types, variable_types}
-use Rattle.eds_plan.specs.Sends.{Sent, primitive}
+use Rattle.eds_plan.specs.Sends.{primitive}
 use Rattle.eds_plan.specs.Statements.{Stmt, Stmts, assign, calculate, choose, iterate, call, send_command, send_parameter, done, next, list_of, stmts, stmts_of}
 use Rattle.eds_plan.specs.declared.activity.Activity.{Activity}
 use Rattle.eds_plan.specs.declared.activity.Op.{Op}

@@ -6,7 +6,6 @@ pub mod Examples
 pub mod Fields
 pub mod Fitted
 pub mod Leading
-pub mod Sameness
 pub mod OneOutcome
 pub mod Starting
 pub mod Whole

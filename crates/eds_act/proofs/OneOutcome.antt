@@ -1,13 +1,9 @@
 -- A body does one thing.
-use Rattle.std.proofs.Common.{◌≡◌, ◌-◌, ℕ, List, Bool, true, false, refl, sym, ap, ◌∙◌, []}
+use Rattle.std.proofs.Common.{◌≡◌, ◌-◌, ℕ, Bool, true, false, refl, sym, ap, ◌∙◌, []}
 use Rattle.std.proofs.Math.Path.{fun_ext}
 use Rattle.eds_types.specs.Rows.{Table}
 use Rattle.eds_types.specs.Plain.{Plain}
-use Rattle.eds_plan.specs.declared.component.ComponentPlan.{ComponentPlan}
-use Rattle.eds_plan.specs.Sends.{Sent}
-use Rattle.eds_plan.specs.Statements.{Stmt}
-use Rattle.eds_act.specs.declared.ending.ActEnd.{ActEnd}
-use Rattle.eds_act.specs.Does.{Tells, Ended, exec, items_of, Does, budget}
+use Rattle.eds_act.specs.Does.{Tells, Ended, exec, items_of, budget}
 use Rattle.eds_act.specs.Laws.{OneOutcome}
 
 same_bool : (a b : Bool) → (a ≡ true → b ≡ true) → (b ≡ true → a ≡ true) → a ≡ b

@@ -1,5 +1,5 @@
 -- From items to the whole activity.
-use Rattle.std.proofs.Common.{◌≡◌, ◌≢◌, ◌≤◌, ◌<◌, ◌-◌, ◌⊎◌, inl, inr, ℕ, zero, suc, List, [], ◌∷◌, ◌++◌, length, Bool, true, false, nat_lt, Option, Some, None, slice_get, refl, sym, ap, subst, ◌∙◌, append_assoc, append-nil, arith}
+use Rattle.std.proofs.Common.{◌≡◌, ◌≤◌, ◌<◌, ◌-◌, ◌⊎◌, inl, inr, ℕ, zero, suc, List, [], ◌∷◌, ◌++◌, length, Bool, true, false, nat_lt, Option, Some, None, slice_get, refl, sym, ap, ◌∙◌, append_assoc, append-nil, arith}
 use Rattle.std.proofs.lemmas.Bool.Decides.{nat_tests}
 use Rattle.std.proofs.lemmas.Option.{slice_get_within}
 use Rattle.eds_types.specs.Spelling.{SpellsWithin}
@@ -12,22 +12,21 @@ use Rattle.eds_types.specs.Spelling.{Canon}
 use Rattle.eds_types.specs.Packing.{most_bits, PackFailsAt}
 use Rattle.eds_types.specs.Packing.{PackFault}
 use Rattle.eds_bits.specs.Bits.{Bits}
-use Rattle.eds_types.specs.Laws.{PackingIsDecided, PacksOrFails, IsThere}
+use Rattle.eds_types.specs.Laws.{PackingIsDecided, IsThere}
 use Rattle.eds_plan.specs.declared.activity.Activity.{Activity}
 use Rattle.eds_plan.specs.declared.component.ComponentPlan.{ComponentPlan}
-use Rattle.eds_plan.specs.declared.run.Halt.{Halt}
 use Rattle.eds_plan.specs.declared.run.Halt.TheVariants.{OutOfRange}
 use Rattle.eds_plan.specs.declared.activity.Op.{Op}
 use Rattle.eds_plan.specs.declared.activity.Op.TheVariants as op
 use Rattle.eds_plan.specs.declared.component.EndPlan.{EndPlan}
 use Rattle.eds_plan.specs.declared.run.Outstanding.{Outstanding}
 use Rattle.eds_plan.specs.Sends.{Sent, primitive}
-use Rattle.eds_plan.specs.Statements.{Stmt, Stmts, assign, calculate, choose, iterate, call, send_command, send_parameter, stmts, list_of}
+use Rattle.eds_plan.specs.Statements.{Stmt, assign, calculate, choose, iterate, call, send_command, send_parameter, stmts, list_of}
 use Rattle.eds_act.specs.declared.ending.ActEnd.{ActEnd}
 use Rattle.eds_act.specs.declared.ending.ActEnd.TheVariants.{Done, Halted}
 use Rattle.eds_plan.specs.Carried.{carried}
 use Rattle.eds_plan.specs.Plans.{argument_types, variable_types}
-use Rattle.eds_act.specs.Does.{World, Item, statement, turn, items_of, Started, goes, halts, Ended, Tells, Conforms, exec, start, after, storing, iterating, calling, entering, Does, budget, value_of, number_of, arguments_of, turns, emitting, sending, way_of, begun, calculated, targeted}
+use Rattle.eds_act.specs.Does.{World, Item, statement, turn, items_of, Started, goes, halts, Ended, Tells, Conforms, exec, start, after, storing, iterating, calling, entering, budget, value_of, number_of, arguments_of, turns, emitting, sending, way_of, begun, calculated, targeted}
 use Rattle.eds_act.specs.Running.{Leads, Runs}
 
 -- ---- a test that tells what packs

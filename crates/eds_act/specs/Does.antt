@@ -1,11 +1,10 @@
 -- What an activity does.
-use Rattle.std.specs.Prelude.{◌≡◌, ℕ, zero, suc, ◌+◌, ◌-◌, ℤ, pos, neg_ℤ, ◌^◌, ◌+ℤ◌, ◌-ℤ◌, ◌*ℤ◌, int_le, int_lt, List, [], ◌∷◌, ◌++◌, map, Bool, true, false, not, ◌&&◌, ◌==◌, Option, Some, None, Result, Ok, Err, option_map, option_and_then, option_to_list, slice_get, slice_set, if◌then◌else◌, IsTrue, ◌↔◌}
+use Rattle.std.specs.Prelude.{◌≡◌, ℕ, zero, suc, ◌+◌, ◌-◌, ℤ, pos, neg_ℤ, ◌^◌, ◌+ℤ◌, ◌-ℤ◌, ◌*ℤ◌, int_le, int_lt, List, [], ◌∷◌, ◌++◌, map, Bool, true, false, not, ◌&&◌, ◌==◌, Option, Some, None, Result, Ok, Err, option_map, option_and_then, option_to_list, slice_get, slice_set, if◌then◌else◌}
 use Rattle.eds_base.specs.declared.ids.TypeId.{TypeId}
+use Rattle.eds_types.specs.Reading.{same}
 use Rattle.eds_types.specs.Rows.{Table, sequence}
-use Rattle.eds_types.specs.Plain.{Plain, num, label, truth, text, bits, items, fields, plain, Plains, list_of as plains_in, plains_of}
-use Rattle.eds_types.specs.Plain as plains
+use Rattle.eds_types.specs.Plain.{Plain, num, label, truth, text, bits, items, fields, plain, list_of as plains_in, plains_of}
 use Rattle.eds_types.specs.Seeking.{along, seek}
-use Rattle.eds_base.specs.Reading.{same as same_text}
 use Rattle.eds_pack.specs.Packs.{Packs}
 use Rattle.eds_plan.specs.declared.activity.Operand.{Operand}
 use Rattle.eds_plan.specs.declared.activity.Operand.TheVariants as source
@@ -28,7 +27,7 @@ use Rattle.eds_plan.specs.declared.run.Way.{Way}
 use Rattle.eds_plan.specs.Carried.{carried, leaving}
 use Rattle.eds_plan.specs.Plans.{argument_types, variable_types}
 use Rattle.eds_plan.specs.Sends.{Sent, primitive}
-use Rattle.eds_plan.specs.Statements.{Condition, Conditions, compare, every, some, none, more, Stmt, Stmts, assign, calculate, choose, iterate, call, send_command, send_parameter, list_of, stmts}
+use Rattle.eds_plan.specs.Statements.{Condition, Conditions, compare, every, some, none, more, Stmt, assign, calculate, choose, iterate, call, send_command, send_parameter, list_of, stmts}
 use Rattle.eds_act.specs.declared.ending.ActEnd.{ActEnd}
 use Rattle.eds_act.specs.declared.ending.ActEnd.TheVariants.{Done, Halted}
 
@@ -135,25 +134,6 @@ value_of t args vars (source.Argument i path) = along t (slice_get args i) path
 
 -- ---- conditions
 
--- two values are one
-abbrev mutual
-  -- two values of one kind with the same content; values of two kinds are never one
-  pub same_value : Plain → Plain → Bool
-  same_value (num m) (num n) = int_le m n && int_le n m
-  same_value (label l) (label m) = same_text l m
-  same_value (truth a) (truth b) = if a then b else not b
-  same_value (text s) (text u) = same_text s u
-  same_value (bits m o) (bits n p) = m == n && same_text o p
-  same_value (items vs) (items ws) = same_values vs ws
-  same_value (fields k vs) (fields j ws) = if k == j then same_values vs ws else false
-  same_value v w = false
-
-  -- two lists of values that have one value at each place
-  pub same_values : Plains → Plains → Bool
-  same_values plains.none plains.none = true
-  same_values (plains.more v vs) (plains.more w ws) = if same_value v w then same_values vs ws else false
-  same_values vs ws = false
-
 -- both are numbers, and the test holds of them
 abbrev pub both_ordered : (ℤ → ℤ → Bool) → Option ℤ → Option ℤ → Bool
 both_ordered test None b = false
@@ -162,8 +142,8 @@ both_ordered test (Some m) (Some n) = test m n
 
 -- whether a relation holds of two values
 abbrev pub compared : Relation → Plain → Plain → Bool
-compared Equal v w = same_value v w
-compared NotEqual v w = not (same_value v w)
+compared Equal v w = same v w
+compared NotEqual v w = not (same v w)
 compared Less v w = both_ordered int_lt (number_of (Some v)) (number_of (Some w))
 compared LessOrEqual v w = both_ordered int_le (number_of (Some v)) (number_of (Some w))
 compared Greater v w = both_ordered int_lt (number_of (Some w)) (number_of (Some v))

@@ -4,6 +4,7 @@ use Rattle.eds_plan.specs.Alike.{IsAlike}
 use Rattle.eds_plan.specs.declared.activity.Action.{Action}
 use Rattle.eds_types.specs.Rows.{Table}
 use Rattle.eds_types.specs.Plain.{Plain}
+use Rattle.eds_types.specs.Reading.{same}
 use Rattle.eds_plan.specs.declared.component.ComponentPlan.{ComponentPlan}
 use Rattle.eds_plan.specs.declared.run.Outstanding.{Outstanding}
 use Rattle.eds_plan.specs.Sends.{Sent}
@@ -11,7 +12,7 @@ use Rattle.eds_plan.specs.Statements.{Stmt}
 use Rattle.eds_act.specs.declared.ending.ActEnd.{ActEnd}
 use Rattle.eds_act.specs.declared.ending.ActEnd.TheVariants.{Done, Halted}
 use Rattle.eds_act.specs.Acting.{acting}
-use Rattle.eds_act.specs.Does.{Does, budget, Ended, Item, World, exec, items_of, same_value}
+use Rattle.eds_act.specs.Does.{Does, budget, Ended, Item, World, exec, items_of}
 
 -- a body does one thing
 abbrev pub OneOutcome : Type 0
@@ -41,7 +42,7 @@ SendsAreKept = (packs : ℕ → Plain → Bool) (t : Table) (c : ComponentPlan) 
 
 -- two values are the same exactly where they are equal, the containers that they name included
 abbrev pub SameIsEqual : Type 0
-SameIsEqual = (v w : Plain) → (same_value v w ≡ true) ↔ (v ≡ w)
+SameIsEqual = (v w : Plain) → (same v w ≡ true) ↔ (v ≡ w)
 
 -- ---- components that are seen alike
 

@@ -1,5 +1,5 @@
 -- What may leave a component.
-use Rattle.std.specs.Prelude.{◌≡◌, ◌<◌, ℕ, List, [], length, Bool, Some, slice_get}
+use Rattle.std.specs.Prelude.{◌≡◌, ◌<◌, ℕ, List, length, Bool, Some, slice_get}
 use Rattle.std.specs.List.{AllByRecursion}
 use Rattle.eds_types.specs.Plain.{Plain}
 use Rattle.eds_types.specs.Rows.{Table}

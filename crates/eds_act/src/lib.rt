@@ -12,7 +12,6 @@ pub mod law;
 mod math;
 mod operand;
 mod run;
-mod same;
 mod send;
 mod store;
 mod target;

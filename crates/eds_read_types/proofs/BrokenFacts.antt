@@ -1,16 +1,14 @@
 -- Marks of the types of which a constraint breaks a rule.
-use Rattle.std.proofs.Common.{◌≡◌, ℕ, ◌<◌, ◌+◌, Bool, false, List, [], length, map, is_some, get_or, slice_get, Some, refl, ap, ◌∙◌, arith}
+use Rattle.std.proofs.Common.{◌≡◌, ℕ, ◌<◌, Bool, false, List, [], length, map, get_or, slice_get, Some, refl, ap, ◌∙◌, arith}
 use Rattle.std.specs.Option.{unwrap_or}
 use Rattle.std.specs.List.{flat_map, range_with_len}
 use Rattle.std.proofs.lemmas.List.FromFn.{get_or-range_with_len, length-range_with_len, get_or-map-range_with_len, length-map-range_with_len}
 use Rattle.std.proofs.lemmas.Option.{slice_get-get_or}
-use Rattle.eds_base.specs.Refusals.{least}
 use Rattle.eds_tree.specs.declared.tree.Node.{Node}
 use Rattle.eds_names.specs.LookUp.{Names}
 use Rattle.eds_types.specs.Rows.{Table, numbers}
 use Rattle.eds_constraints.specs.Breaks.{Lists, posed_of, target_at, value_at, empties_of, breaks_target, breaks_value, breaks_empty}
 use Rattle.eds_constraints.specs.Broken.{is_broken}
-use Rattle.eds_graph.specs.Reaching.{mark}
 use Rattle.eds_read_types.specs.ConstraintElements.{asked_lists}
 use Rattle.eds_type_rows.specs.TableRows.{table_rows}
 use Rattle.eds_read_types.specs.Kin.{AreMarks}

@@ -29,6 +29,7 @@ use Rattle.eds_type_rows.specs.Calibrators.{c0_at, c1_at, is_scale, c0_or_plain,
 use Rattle.eds_type_rows.specs.PartRows.{part_by, part_at}
 use Rattle.eds_read_types.specs.LengthField.{is_int_by, is_int_in, is_int, lengths_at}
 use Rattle.eds_type_rows.proofs.ListFacts.{append-none}
+use Rattle.eds_type_rows.proofs.SortFacts.{named_next}
 
 -- ---- sorts of parts
 
@@ -44,19 +45,15 @@ part_element sort.ErrorControl = codes "ErrorControlEntry"
 -- an element of a sort has its name
 pub part_sort_named : (name : List ℕ) (s : PartSort) → part_sort_of name ≡ Some s → same name (part_element s) ≡ true
 part_sort_named name s h =
-    one (codes "Entry") sort.Entry _ h refl λ h.
-    one (codes "FixedValueEntry") sort.FixedValue _ h refl λ h.
-    one (codes "PaddingEntry") sort.Padding _ h refl λ h.
-    one (codes "ListEntry") sort.List _ h refl λ h.
-    one (codes "LengthEntry") sort.Length _ h refl λ h.
-    one (codes "ErrorControlEntry") sort.ErrorControl _ h refl λ h. absurd cc
+    next (codes "Entry") sort.Entry _ h refl λ h.
+    next (codes "FixedValueEntry") sort.FixedValue _ h refl λ h.
+    next (codes "PaddingEntry") sort.Padding _ h refl λ h.
+    next (codes "ListEntry") sort.List _ h refl λ h.
+    next (codes "LengthEntry") sort.Length _ h refl λ h.
+    next (codes "ErrorControlEntry") sort.ErrorControl _ h refl λ h. absurd cc
   where
-    one : (element : List ℕ) (r : PartSort) (rest : Option PartSort) → (if same name element then Some r else rest) ≡ Some s → element ≡ part_element r → (rest ≡ Some s → same name (part_element s) ≡ true) → same name (part_element s) ≡ true
-    one element r rest h is later = go (same name element) refl h
-      where
-        go : (b : Bool) → same name element ≡ b → (if b then Some r else rest) ≡ Some s → same name (part_element s) ≡ true
-        go true e k = let this : r ≡ s = cc in ap (λ x. same name (part_element x)) (sym this) ∙ (sym (ap (same name) is) ∙ e)
-        go false e k = later k
+    next : (element : List ℕ) (r : PartSort) (rest : Option PartSort) → (if same name element then Some r else rest) ≡ Some s → element ≡ part_element r → (rest ≡ Some s → same name (part_element s) ≡ true) → same name (part_element s) ≡ true
+    next = named_next part_element name s
 
 -- ---- scales
 

@@ -24,24 +24,28 @@ element_of sort.Array = codes "ArrayDataType"
 element_of sort.SubRange = codes "SubRangeDataType"
 element_of sort.Container = codes "ContainerDataType"
 
+-- what a list of names gives for the first of them that is the name has that name, if what comes behind it does
+pub named_next : {A : Type 0} (element_of : A → List ℕ) (name : List ℕ) (s : A) (element : List ℕ) (r : A) (rest : Option A) → (if same name element then Some r else rest) ≡ Some s → element ≡ element_of r → (rest ≡ Some s → same name (element_of s) ≡ true) → same name (element_of s) ≡ true
+named_next element_of name s element r rest h is later = go (same name element) refl h
+  where
+    go : (b : Bool) → same name element ≡ b → (if b then Some r else rest) ≡ Some s → same name (element_of s) ≡ true
+    go true e k = let this : r ≡ s = cc in ap (λ x. same name (element_of x)) (sym this) ∙ (sym (ap (same name) is) ∙ e)
+    go false e k = later k
+
 -- an element that declares a sort has its name
 pub sort_named : (name : List ℕ) (s : Sort) → sort_of name ≡ Some s → same name (element_of s) ≡ true
 sort_named name s h =
-    one (codes "IntegerDataType") sort.Integer _ h refl λ h.
-    one (codes "EnumeratedDataType") sort.Enumerated _ h refl λ h.
-    one (codes "BooleanDataType") sort.Boolean _ h refl λ h.
-    one (codes "StringDataType") sort.Text _ h refl λ h.
-    one (codes "BinaryDataType") sort.Binary _ h refl λ h.
-    one (codes "ArrayDataType") sort.Array _ h refl λ h.
-    one (codes "SubRangeDataType") sort.SubRange _ h refl λ h.
-    one (codes "ContainerDataType") sort.Container _ h refl λ h. absurd cc
+    next (codes "IntegerDataType") sort.Integer _ h refl λ h.
+    next (codes "EnumeratedDataType") sort.Enumerated _ h refl λ h.
+    next (codes "BooleanDataType") sort.Boolean _ h refl λ h.
+    next (codes "StringDataType") sort.Text _ h refl λ h.
+    next (codes "BinaryDataType") sort.Binary _ h refl λ h.
+    next (codes "ArrayDataType") sort.Array _ h refl λ h.
+    next (codes "SubRangeDataType") sort.SubRange _ h refl λ h.
+    next (codes "ContainerDataType") sort.Container _ h refl λ h. absurd cc
   where
-    one : (element : List ℕ) (r : Sort) (rest : Option Sort) → (if same name element then Some r else rest) ≡ Some s → element ≡ element_of r → (rest ≡ Some s → same name (element_of s) ≡ true) → same name (element_of s) ≡ true
-    one element r rest h is later = go (same name element) refl h
-      where
-        go : (b : Bool) → same name element ≡ b → (if b then Some r else rest) ≡ Some s → same name (element_of s) ≡ true
-        go true e k = let this : r ≡ s = cc in ap (λ x. same name (element_of x)) (sym this) ∙ (sym (ap (same name) is) ∙ e)
-        go false e k = later k
+    next : (element : List ℕ) (r : Sort) (rest : Option Sort) → (if same name element then Some r else rest) ≡ Some s → element ≡ element_of r → (rest ≡ Some s → same name (element_of s) ≡ true) → same name (element_of s) ≡ true
+    next = named_next element_of name s
 
 -- a binary has bits, and an open one whole octets
 pub binary_keeps : (t : List Node) (n : ℕ) → KindKeeps (binary_kind t n)

@@ -1,8 +1,11 @@
 //! The types of a sheet, each with the type that it derives from.
 
-ghost use Rattle.std.specs.Prelude.{◌≡◌, map, option_map, IfOk, length, slice_get};
+ghost use Rattle.std.specs.Prelude.{◌≡◌, ◌∷◌, ℕ, Bool, List, Option, map, option_map, IfOk, length, slice_get};
 ghost use Rattle.std.specs.List.{range_with_len, list_any};
-ghost use Rattle.eds_type_rows.specs.Bases.{may_derive as may_derive_at, base_named as base_named_in, base_found as base_found_by, bases_of as bases_in, base_at as base_in, is_in_cycle as is_in_cycle_of, bases_within, meets_cycle as meets_cycle_of};
+ghost use Rattle.eds_base.specs.declared.ids.Place.{Place};
+ghost use Rattle.eds_base.specs.declared.ids.TypeId.{TypeId};
+ghost use Rattle.eds_tree.specs.declared.tree.Node.{Node};
+ghost use Rattle.eds_type_rows.specs.Bases.{all_bases, may_derive as may_derive_at, base_named as base_named_in, base_found as base_found_by, bases_of as bases_in, base_at as base_in, is_in_cycle as is_in_cycle_of, bases_within, meets_cycle as meets_cycle_of};
 
 use crate::element::{attribute, is_container, is_sub_range};
 use crate::named_trees::NamedTrees;
@@ -128,9 +131,30 @@ pub fn is_cyclic(graph: &BaseGraph, id: usize) -> bool
     }
 }
 
-/// Whether one of the first bases of a type is its own base.
-fn bases_meet_cycle(graph: &BaseGraph, most: usize, id: usize) -> bool
-    ensures { result ≡ list_any (is_in_cycle_of graph.now.bases.now) (bases_within most graph.now.bases.now id) }
+/// A test of the type of a number.
+pub(crate) trait TypeTest {
+    /// It holds by the trees of a sheet, the elements of its types, and what these derive from.
+    ghost holds: { List (List Node) → List Place → List (Option TypeId) → ℕ → Bool };
+
+    /// Whether it does.
+    fn holds(graph: &BaseGraph, id: usize) -> bool
+        ensures { result ≡ holds graph.now.sheet.now.trees.now graph.now.sheet.now.types.now graph.now.bases.now id };
+}
+
+/// A type is its own base over one step or more.
+pub(crate) struct Cyclic;
+
+impl TypeTest for Cyclic {
+    ghost holds = { λ trees places bases id. is_in_cycle_of bases id };
+
+    fn holds(graph: &BaseGraph, id: usize) -> bool {
+        is_cyclic(graph, id)
+    }
+}
+
+/// Whether a test holds for one of the first bases of a type.
+fn holds_above<T: TypeTest>(graph: &BaseGraph, most: usize, id: usize) -> bool
+    ensures { result ≡ list_any (T.holds graph.now.sheet.now.trees.now graph.now.sheet.now.types.now graph.now.bases.now) (bases_within most graph.now.bases.now id) }
 {
     let mut at = id;
     let mut left = most;
@@ -139,7 +163,7 @@ fn bases_meet_cycle(graph: &BaseGraph, most: usize, id: usize) -> bool
             None => return false,
             Some(base) => {
                 at = base.0 as usize;
-                if is_cyclic(graph, at) {
+                if T::holds(graph, at) {
                     return true;
                 }
             }
@@ -149,9 +173,16 @@ fn bases_meet_cycle(graph: &BaseGraph, most: usize, id: usize) -> bool
     false
 }
 
+/// Whether a test holds for a type or one of its bases.
+pub(crate) fn holds_along<T: TypeTest>(graph: &BaseGraph, id: usize) -> bool
+    ensures { result ≡ list_any (T.holds graph.now.sheet.now.trees.now graph.now.sheet.now.types.now graph.now.bases.now) (id ∷ all_bases graph.now.bases.now id) }
+{
+    T::holds(graph, id) || holds_above::<T>(graph, graph.bases.len(), id)
+}
+
 /// Whether a type or one of its bases is its own base.
 pub(crate) fn meets_cycle(graph: &BaseGraph, id: usize) -> bool
     ensures { result ≡ meets_cycle_of graph.now.bases.now id }
 {
-    is_cyclic(graph, id) || bases_meet_cycle(graph, graph.bases.len(), id)
+    holds_along::<Cyclic>(graph, id)
 }

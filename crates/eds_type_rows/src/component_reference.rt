@@ -3,7 +3,7 @@
 ghost use Rattle.std.specs.Prelude.{◌≡◌, ◌++◌, IfOk, OnOk};
 ghost use Rattle.std.specs.List.{flat_map};
 ghost use Rattle.eds_type_rows.specs.FaceReferences.{held_in as held_in_sets};
-ghost use Rattle.eds_type_rows.specs.ComponentReferences.{end_places as ends_at, implemented as implemented_at, variable_places as variables_at, own_argument_places as own_arguments_at, typed_in_component, free_reference, references_of, component_places as component_places_of, component_references};
+ghost use Rattle.eds_type_rows.specs.ComponentReferences.{end_places as ends_at, implemented as implemented_at, variable_places as variables_at, own_argument_places as own_arguments_at, typed_in_component, free_reference, references_of, component_references};
 
 use crate::element::{attribute, push_held};
 use crate::face_reference::{
@@ -11,7 +11,6 @@ use crate::face_reference::{
 };
 use crate::named_trees::NamedTrees;
 use eds_base::{Memory, Place, Text};
-use eds_names::Space;
 use eds_tree::Tree;
 use std::alloc::Global;
 
@@ -144,18 +143,6 @@ fn push_references_of(
 
 // ---- all components
 
-fn component_places(alloc: Global, space: &Space) -> Result<Vec<Place>, Memory>
-    ensures { IfOk result (λ p. p.items ≡ component_places_of space.now) }
-{
-    let mut places = Vec::new(alloc);
-    for one in space.declared() {
-        if one.item.is_comp() {
-            places.push(one.place)?;
-        }
-    }
-    Ok(places)
-}
-
 /// Puts all references in the components of a sheet last.
 pub(crate) fn push_component_references(
     alloc: Global,
@@ -164,9 +151,10 @@ pub(crate) fn push_component_references(
 ) -> Result<(), Memory>
     ensures { OnOk result (references.new.items ≡ references.old.items ++ component_references sheet.now.trees.now sheet.now.space.now) }
 {
-    let places = component_places(alloc, sheet.space)?;
-    for at in places.as_slice() {
-        push_references_of(alloc, references, sheet.trees, *at)?;
+    for one in sheet.space.declared() {
+        if one.item.is_comp() {
+            push_references_of(alloc, references, sheet.trees, one.place)?;
+        }
     }
     Ok(())
 }

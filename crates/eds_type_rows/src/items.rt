@@ -1,14 +1,13 @@
 //! How many items arrays have.
 
 ghost use Rattle.std.specs.Prelude.{◌≡◌, ◌+◌, ◌∷◌, ◌≤ℤ◌, length, map, option_map, slice_get, if◌then◌else◌, IfOk, IfSome, Some};
-ghost use Rattle.std.specs.List.{list_any};
 ghost use Rattle.eds_base.specs.Spans.{bottom, top};
 ghost use Rattle.eds_type_rows.specs.Listings.{value as value_in};
-ghost use Rattle.eds_type_rows.specs.Bases.{bases_within, all_bases};
+ghost use Rattle.eds_type_rows.specs.Bases.{all_bases};
 ghost use Rattle.eds_type_rows.specs.Numbers.{numbers_within};
 ghost use Rattle.eds_type_rows.specs.Items.{span_size as span_size_of, set_size as set_size_of, different as different_of, values_in as values_in_tree, values_at as values_by_place, lacks_own_form as lacks_own_form_of, is_valueless as is_valueless_of, values_of as values_by_id, values_found as values_found_by, AreKnown, size_or as size_or_of, dimension_at as dimension_by, dimensions_of as dimensions_in, items_at as items_by, few as few_of, row_items as row_items_of};
 
-use crate::base_graph::{BaseGraph, base_at, meets_cycle, type_at};
+use crate::base_graph::{BaseGraph, TypeTest, base_at, holds_along, meets_cycle, type_at};
 use crate::element::{attribute, name_at, push_held, tree_at};
 use crate::lacking_form::lacks_form_at;
 use crate::listing::{add_value, listing_of};
@@ -147,40 +146,22 @@ fn numbers_over_bases(alloc: Global, graph: &BaseGraph, id: usize) -> Result<For
     Ok(numbers)
 }
 
-fn lacks_own_form(graph: &BaseGraph, id: usize) -> bool
-    ensures { result ≡ lacks_own_form_of graph.now.sheet.now.trees.now graph.now.sheet.now.types.now graph.now.bases.now id }
-{
-    lacks_form_at(graph.sheet.trees, type_at(graph, id))
-}
+/// A type has no form of its own.
+struct Formless;
 
-/// Whether one of the first bases of a type has no form.
-fn bases_lack_form(graph: &BaseGraph, most: usize, id: usize) -> bool
-    ensures { result ≡ list_any (lacks_own_form_of graph.now.sheet.now.trees.now graph.now.sheet.now.types.now graph.now.bases.now) (bases_within most graph.now.bases.now id) }
-{
-    let mut at = id;
-    let mut left = most;
-    while left > 0 {
-        match base_at(graph.bases, at) {
-            None => return false,
-            Some(base) => {
-                at = base.0 as usize;
-                if lacks_own_form(graph, at) {
-                    return true;
-                }
-            }
-        }
-        left -= 1;
+impl TypeTest for Formless {
+    ghost holds = { lacks_own_form_of };
+
+    fn holds(graph: &BaseGraph, id: usize) -> bool {
+        lacks_form_at(graph.sheet.trees, type_at(graph, id))
     }
-    false
 }
 
 /// Whether a type or one of its bases is its own base, or has no form.
 fn is_valueless(graph: &BaseGraph, id: usize) -> bool
     ensures { result ≡ is_valueless_of graph.now.sheet.now.trees.now graph.now.sheet.now.types.now graph.now.bases.now id }
 {
-    meets_cycle(graph, id)
-        || lacks_own_form(graph, id)
-        || bases_lack_form(graph, graph.bases.len(), id)
+    meets_cycle(graph, id) || holds_along::<Formless>(graph, id)
 }
 
 /// How many values a type has, where that is known.

@@ -1,4 +1,4 @@
-use Rattle.std.proofs.Common.{◌≡◌, ℕ, List, [], Bool, Option, map, option_map, Vec, Global, ap, sym, ◌∙◌}
+use Rattle.std.proofs.Common.{◌≡◌, ℕ, [], Bool, map, option_map, Vec, Global, ap, sym, ◌∙◌}
 use Rattle.std.specs.Prelude.{OnOk, Result, Ok, Err}
 use Rattle.eds_base.specs.declared.fail.Memory.{Memory}
 use Rattle.eds_types.specs.declared.value.Value.{Value}

@@ -1,4 +1,4 @@
-use Rattle.std.proofs.Common.{◌≡◌, ◌∙◌, ap, map}
+use Rattle.std.proofs.Common.{◌∙◌, ap, map}
 use Rattle.eds_types.specs.Plain.{plain}
 use Rattle.eds_plan.specs.Sends.{sent}
 use Rattle.eds_plan.specs.Statements.{stmts}

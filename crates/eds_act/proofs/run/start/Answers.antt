@@ -1,4 +1,4 @@
-use Rattle.std.proofs.Common.{◌≡◌, List, [], ◌∷◌, ◌++◌, refl, sym, ap, ◌∙◌, map, suc, subst, Some, None, true, false, slice_get, append_assoc, option_map, Vec, Global}
+use Rattle.std.proofs.Common.{[], ◌∷◌, sym, ap, ◌∙◌, map, suc}
 use Rattle.eds_types.specs.Plain.{plain}
 use Rattle.eds_plan.specs.Statements.{stmt, calculate, call, send_command}
 use Rattle.eds_act.specs.Does.{statement}

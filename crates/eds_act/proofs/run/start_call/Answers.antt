@@ -1,4 +1,4 @@
-use Rattle.std.proofs.Common.{◌≡◌, List, [], ◌∷◌, ◌++◌, refl, sym, ap, ◌∙◌, map, suc, subst, Some, None, true, false, slice_get, append_assoc, option_map, Vec, Global}
+use Rattle.std.proofs.Common.{List, [], ◌∷◌, sym, ap, ◌∙◌, map, suc, subst, Some, None, option_map, Vec, Global}
 use Rattle.eds_types.specs.Plain.{plain}
 use Rattle.eds_types.specs.declared.value.Value.{Value}
 use Rattle.eds_plan.specs.declared.run.Halt.TheVariants.{BadArgument}
@@ -6,7 +6,6 @@ use Rattle.eds_plan.specs.Statements.{stmts, call as calls}
 use Rattle.eds_act.specs.Does.{statement, items_of}
 use Rattle.eds_act.specs.declared.ending.ActEnd.TheVariants.{Done}
 use Rattle.eds_act.specs.Running.{world, types_of, Leads}
-use Rattle.eds_act.specs.Work.{frame_items}
 use Rattle.eds_act.proofs.Leading.{leads_halts, leads_goes, leads_same}
 use Rattle.eds_act.proofs.Starting.{starts_no_call, starts_call}
 use Rattle.eds_act.proofs.run.start_call.Goals as goal
