@@ -2,6 +2,7 @@
 """Measures how the time to find that no two containers of a family overlap grows with the family.
 
   bench/families.py [PROGRAM]
+  bench/families.py read [PROGRAM]
 
 Makes sheets with one family of 64 to 512 containers, the most that a family may have, under an abstract container that an entry
 names. In each shape one of several things tells the containers apart:
@@ -15,16 +16,22 @@ names. In each shape one of several things tells the containers apart:
 
 Runs `PROGRAM check FILE` on them (by default ./eds) and prints the least processor time of some turns, which other work on the
 machine hardly changes, and that time for each container. Where the time grows with the family, the last column stays.
+
+With `read`, PROGRAM (by default crates/eds_bench/out/eds_bench) reads and recognises a frame of the last container of a family of
+4 and of one of 512, where one path tells the containers apart (number, packet, levels) and where none does (range, three). The time
+of one turn is that of many turns less that of one. Where the choice goes by look-up, the two families take the same time.
 """
 
 import json
 import os
+import struct
 import subprocess
 import sys
 import tempfile
 
 SIZES = [64, 128, 256, 512]
 TURNS = 5
+READS = 200_000
 
 
 def entries(*names):
@@ -104,7 +111,50 @@ def run(words):
     return usage.ru_utime + usage.ru_stime, os.waitstatus_to_exitcode(status), report.strip()
 
 
+def last_frame(shape, size):
+    """The numbers of the entries of the last container of a family."""
+    last = {
+        "number": lambda: [size - 2],
+        "range": lambda: [10 * (size - 2)],
+        "three": lambda: [(size - 2) % 8, (size - 2) // 8 % 8, (size - 2) // 64],
+        "packet": lambda: [0, 0, 1, size - 3],
+        "levels": lambda: [(size - 10) % 8, (size - 10) // 8],
+    }
+    return b"".join(struct.pack(">H", number) for number in last[shape]())
+
+
+def turn(words):
+    """The least processor time of one of many turns, in seconds."""
+
+    def least(turns):
+        took = [run([*words, str(turns)]) for _ in range(TURNS)]
+        if took[0][1]:
+            sys.exit("%s ends with %d" % (" ".join(words), took[0][1]))
+        return min(one[0] for one in took)
+
+    return (least(READS) - least(1)) / (READS - 1)
+
+
+def read(program):
+    for name, make, wanted in SHAPES:
+        if wanted:
+            continue
+        for words in [[], ["recognise"]]:
+            times = []
+            for size in [12 if name == "levels" else 4, 512]:
+                with tempfile.TemporaryDirectory() as folder:
+                    sheet, frame = os.path.join(folder, "sheet.json"), os.path.join(folder, "frame")
+                    with open(sheet, "w", encoding="ascii") as file:
+                        file.write(sheet_of(make(size)))
+                    with open(frame, "wb") as file:
+                        file.write(last_frame(name, size))
+                    times.append(turn([program, *words, "Bench/Base", frame, sheet]))
+            print("%s, %s: %.2f us and %.2f us, ratio %.2f" % (name, "recognised" if words else "read", times[0] * 1e6, times[1] * 1e6, times[1] / times[0]))
+
+
 def main():
+    if sys.argv[1:2] == ["read"]:
+        return read(sys.argv[2] if sys.argv[2:] else "crates/eds_bench/out/eds_bench")
     program = sys.argv[1] if len(sys.argv) > 1 else "./eds"
     for name, make, wanted in SHAPES:
         for size in SIZES:

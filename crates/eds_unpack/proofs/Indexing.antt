@@ -1,5 +1,5 @@
 -- An index of paths holds as paths are put behind others, and it finds each path.
-use Rattle.std.proofs.Common.{◌≡◌, ◌≢◌, ℕ, zero, suc, ◌+◌, ◌<◌, ◌≤◌, ◌==◌, List, [], ◌∷◌, ◌++◌, length, get_or, set, drop, ◌-◌, Bool, true, false, cond, Some, refl, sym, ap, subst, ◌∙◌, append_assoc, append-nil, length-append, get_or-set_same, get_or-set_other, inl, inr, arith}
+use Rattle.std.proofs.Common.{◌≡◌, ◌≢◌, ℕ, zero, suc, ◌+◌, ◌<◌, ◌≤◌, ◌==◌, List, [], ◌∷◌, ◌++◌, length, get_or, set, drop, Bool, true, false, cond, Some, refl, sym, ap, subst, ◌∙◌, append_assoc, append-nil, length-append, get_or-set_same, get_or-set_other, inl, inr, arith}
 use Rattle.std.specs.Prelude.{slice_get, flat_map}
 use Rattle.std.specs.List.{AllByRecursion, range_with_len}
 use Rattle.std.proofs.lemmas.List.{drop_more, drop_all}

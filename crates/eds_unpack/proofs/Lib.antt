@@ -15,6 +15,7 @@ pub mod Steps
 pub mod StraightReads
 pub mod Meanings
 pub mod SegmentReads
+pub mod ItemReads
 pub mod SegmentPasses
 pub mod Tails
 pub mod Fronts
@@ -30,3 +31,5 @@ pub mod Indexing
 pub mod NotedSlots
 pub mod WalkLists
 pub mod WalkEnds
+pub mod Wanting
+pub mod Selecting

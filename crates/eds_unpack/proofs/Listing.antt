@@ -1,5 +1,5 @@
 -- Looking for a length entry, and for a candidate.
-use Rattle.std.proofs.Common.{◌≡◌, ℕ, ◌-◌, ◌<◌, true, false, cond, List, [], ◌∷◌, ◌++◌, length, get_or, drop, map, reverse, Option, Some, None, Err, refl, sym, ap, ◌∙◌, arith, ◌+◌}
+use Rattle.std.proofs.Common.{◌≡◌, ℕ, ◌<◌, Bool, true, false, cond, List, [], ◌∷◌, ◌++◌, length, get_or, drop, map, reverse, Option, Some, None, Err, refl, sym, ap, ◌∙◌, arith, ◌+◌}
 use Rattle.std.specs.List.{flat_map}
 use Rattle.std.proofs.lemmas.List.{drop_more}
 use Rattle.eds_base.specs.declared.ids.TypeId.{TypeId}
@@ -9,9 +9,8 @@ use Rattle.eds_types.specs.declared.row.Constraint.{Constraint}
 use Rattle.eds_types.specs.Failing.{fault_at, path_steps}
 use Rattle.eds_types.specs.Fields.{Field}
 use Rattle.eds_types.specs.Families.{first_of}
-use Rattle.eds_types.specs.Reading.{holds, check_all, candidate_under}
-use Rattle.eds_types.proofs.Candidates.{candidate_is_first}
-use Rattle.eds_types.specs.Rows.{Table, Placed, id_of, chain, family, sequence, placed_entries, placed_trailers, or_else}
+use Rattle.eds_types.specs.Reading.{holds, check_all}
+use Rattle.eds_types.specs.Rows.{Table, Placed, id_of, chain, sequence, numbers_of, placed_entries, placed_trailers, or_else}
 use Rattle.eds_types.specs.Seeking.{entries_in_turn, trailers_in_turn}
 use Rattle.eds_types.proofs.Seeking.{entries_are, trailers_are}
 use Rattle.eds_unpack.specs.Seeking.{if_length, length_among}
@@ -38,10 +37,10 @@ among_trailers t k r ids again e f h g = g ∙ ap length_among (trailers_are t k
 
 -- ---- candidates
 
-pub no_candidate : (t : Table) (x : ℕ) (fs : List Field) (ids : List TypeId) → ids ≡ map id_of (family t x) → length ids ≡ 0 → None ≡ candidate_under t x fs
+pub none_first : (p : ℕ → Bool) (ids : List TypeId) → length ids ≡ 0 → None ≡ first_of p (numbers_of ids)
 unfolding first_of
-no_candidate t x fs [] e n = candidate_is_first t x fs [] e
-no_candidate t x fs (id ∷ ids) e n = absurd (omega arith)
+none_first p [] n = refl
+none_first p (id ∷ ids) n = absurd (omega arith)
 
 -- ---- constraints
 

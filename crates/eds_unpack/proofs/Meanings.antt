@@ -1,6 +1,6 @@
 -- What operations make of bits is what the kinds of their types say.
 use Rattle.std.proofs.Common.{◌≡◌, ℕ, ◌+◌, ◌-◌, ◌/◌, ◌%◌, ◌^◌, ◌<◌, ◌≤◌, ℤ, pos, ◌-ℤ◌, ◌+ℤ◌, Bool, true, false, cond, eqb, not, List, [], ◌∷◌, ◌++◌, length, map, Option, Some, None, Ok, Err, refl, sym, ap, subst, ◌∙◌, arith, rules, inl, inr}
-use Rattle.std.specs.Prelude.{◌≤ℤ◌, Result, IfSome, slice_get}
+use Rattle.std.specs.Prelude.{◌≤ℤ◌, Result, IfSome, slice_get, is_none}
 use Rattle.std.specs.Bool.{OnTrue}
 use mathlib.Core.Bool.{beq}
 use Rattle.std.proofs.lemmas.Bool.{cases_lt, le-ltb, lt-ltb}
@@ -33,15 +33,20 @@ use Rattle.eds_types.specs.Plain.{Plain, plain, plain_step, num, label, truth}
 use Rattle.eds_types.specs.Reading.{is_within, ranged, label_of, label_as, named, truth_of}
 use Rattle.eds_types.proofs.ReadingTests.{within_in}
 use Rattle.eds_base.specs.declared.ids.TypeId.{TypeId}
+use Rattle.eds_types.specs.declared.row.Kind.{Kind}
+use Rattle.eds_types.specs.declared.row.Kind.TheVariants as kind
 use Rattle.eds_types.specs.declared.row.Part.{Part}
+use Rattle.eds_types.specs.declared.row.Part.TheVariants as part
 use Rattle.eds_types.specs.declared.row.TypeRow.{TypeRow}
 use Rattle.eds_types.specs.Fields.{type_by}
 use Rattle.eds_types.specs.Rows.{Table}
+use Rattle.eds_types.specs.Sizes.{open_by, open_in}
 use Rattle.eds_unpack.specs.declared.segment.Meaning.{Meaning}
 use Rattle.eds_unpack.specs.declared.segment.Meaning.TheVariants as meaning
 use Rattle.eds_unpack.specs.declared.segment.Numbers.{Numbers}
 use Rattle.eds_unpack.specs.declared.segment.Operation.{Operation}
-use Rattle.eds_unpack.specs.Segments.{scalar_bits, scalar_of, bits_in, value_in, in_order, signed, made, truth_by, Agrees, IsOperationOf, IsPut, IsSure}
+use Rattle.eds_unpack.specs.Segments.{scalar_bits, scalar_of, bits_in, value_in, in_order, signed, made, truth_by, Agrees, IsOperation, IsOperationOf, IsPut, IsSure}
+use Rattle.eds_unpack.specs.Straight.{is_straight_entry}
 
 -- ---- numbers
 
@@ -189,20 +194,46 @@ truth_is zero_is_false x = cases (eqb x 0) zero_is_false
 
 -- ---- operations
 
--- the operation that was made is that of the entry
-pub operation_is : (t : Table) (p : Part) (id : TypeId) (row : TypeRow) (n : ℕ) (m : Meaning) (o : Option Operation) → type_by (Some p) ≡ Some id.0 → slice_get t id.0 ≡ Some row → scalar_bits row.kind ≡ Some n → Agrees (scalar_of row.kind) n m
-    → IfSome o (λ x. x.id ≡ id) → IfSome o (λ x. x.bits ≡ n) → IfSome o (λ x. x.meaning ≡ m) → ((value : Bits → Result Plain Fault) → Agrees value n m → IfSome o (λ x. x.sure ≡ true → IsSure value n)) → IfSome o (IsOperationOf t p)
-operation_is t p id row n m None h e s g a b c f = tt
-operation_is t p id row n m (Some x) h e s g a b c f =
+no_tail : (k : Kind) (n : ℕ) → scalar_bits k ≡ Some n → open_by k ≡ None
+no_tail (kind.Int form spans) n e = refl
+no_tail (kind.Enum form listing) n e = refl
+no_tail (kind.Bool form) n e = refl
+no_tail (kind.Str form) n e = refl
+no_tail (kind.Bin m free) n e = absurd cc
+no_tail (kind.Arr item m) n e = refl
+no_tail (kind.Con c) n e = refl
+
+-- a scalar is no open binary
+scalar_entry : (t : Table) (p : Part) (name : List ℕ) (id : TypeId) (row : TypeRow) (n : ℕ) → p ≡ part.Plain name id → slice_get t id.0 ≡ Some row → scalar_bits row.kind ≡ Some n → is_straight_entry t p ≡ true
+scalar_entry t p name id row n is e s = ap (is_straight_entry t) is ∙ ap (λ r. is_none (open_in r)) e ∙ ap is_none (no_tail row.kind n s)
+
+-- the operation that was made is one of the type
+pub operation_is : (t : Table) (id : TypeId) (row : TypeRow) (n : ℕ) (m : Meaning) (o : Option Operation) → slice_get t id.0 ≡ Some row → scalar_bits row.kind ≡ Some n → Agrees (scalar_of row.kind) n m
+    → IfSome o (λ x. x.id ≡ id) → IfSome o (λ x. x.bits ≡ n) → IfSome o (λ x. x.meaning ≡ m) → ((value : Bits → Result Plain Fault) → Agrees value n m → IfSome o (λ x. x.sure ≡ true → IsSure value n)) → IfSome o (IsOperation t)
+operation_is t id row n m None e s g a b c f = tt
+operation_is t id row n m (Some x) e s g a b c f =
     let here : Agrees (value_in (slice_get t id.0)) n m = subst (λ (r : Option TypeRow). Agrees (value_in r) n m) (sym e) g in
     let same : id.0 ≡ x.id.0 = ap (λ (i : TypeId). i.0) (sym a) in
     record {
-      typed = h ∙ ap Some same;
-      is = record {
-        size = sym (ap (λ i. bits_in (slice_get t i)) same) ∙ ap bits_in e ∙ s ∙ ap Some (sym b);
-        agrees = subst (λ i. Agrees (value_in (slice_get t i)) x.bits x.meaning) same (subst (λ k. Agrees (value_in (slice_get t id.0)) k x.meaning) (sym b) (subst (Agrees (value_in (slice_get t id.0)) n) (sym c) here));
-        sure = λ k. subst (λ i. IsSure (value_in (slice_get t i)) x.bits) same (subst (IsSure (value_in (slice_get t id.0))) (sym b) (f (value_in (slice_get t id.0)) here k));
-      };
+      size = sym (ap (λ i. bits_in (slice_get t i)) same) ∙ ap bits_in e ∙ s ∙ ap Some (sym b);
+      agrees = subst (λ i. Agrees (value_in (slice_get t i)) x.bits x.meaning) same (subst (λ k. Agrees (value_in (slice_get t id.0)) k x.meaning) (sym b) (subst (Agrees (value_in (slice_get t id.0)) n) (sym c) here));
+      sure = λ k. subst (λ i. IsSure (value_in (slice_get t i)) x.bits) same (subst (IsSure (value_in (slice_get t id.0))) (sym b) (f (value_in (slice_get t id.0)) here k));
+    }
+
+-- an entry whose type has such bits has a value, and is no open binary
+entry_by : (t : Table) (p : Part) (name : List ℕ) (id : TypeId) (row : Option TypeRow) (n : ℕ) → p ≡ part.Plain name id → slice_get t id.0 ≡ row → bits_in row ≡ Some n → is_straight_entry t p ≡ true
+entry_by t p name id None n is e s = absurd cc
+entry_by t p name id (Some row) n is e s = scalar_entry t p name id row n is e s
+
+-- and that of an entry of the type
+pub entry_operation : (t : Table) (p : Part) (name : List ℕ) (id : TypeId) (o : Option Operation) → p ≡ part.Plain name id → IfSome o (λ x. x.id ≡ id) → IfSome o (IsOperation t) → IfSome o (IsOperationOf t p)
+entry_operation t p name id None is a op = tt
+entry_operation t p name id (Some x) is a op =
+    let same : id.0 ≡ x.id.0 = ap (λ (i : TypeId). i.0) (sym a) in
+    record {
+      entry = entry_by t p name id (slice_get t id.0) x.bits is refl (ap (λ i. bits_in (slice_get t i)) same ∙ op.size);
+      typed = ap (λ q. type_by (Some q)) is ∙ ap Some same;
+      is = op;
     }
 
 pub on_true : {P : Type 0} (b : Bool) → OnTrue b P → b ≡ true → P

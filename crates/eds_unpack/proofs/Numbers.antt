@@ -1,18 +1,14 @@
 -- Numbers as they are taken from the bits that are left.
-use Rattle.std.proofs.Common.{◌≡◌, ℕ, ◌<◌, ◌≤◌, ℤ, Bool, true, false, cond, List, length, take, drop, Option, Ok, Err, refl, sym, ap, ◌∙◌, IsTrue}
-use Rattle.std.specs.Prelude.{◌↔◌}
-use Rattle.std.proofs.lemmas.Bool.{le-ltb, lt-ltb, false_from_ne_true}
+use Rattle.std.proofs.Common.{◌≡◌, ℕ, ◌<◌, ◌≤◌, ℤ, Bool, cond, length, take, drop, Option, Ok, Err, sym, ap, ◌∙◌}
+use Rattle.std.proofs.lemmas.Bool.{le-ltb, lt-ltb}
 use Rattle.std.proofs.lemmas.List.{length-take-le}
 use Rattle.eds_base.specs.declared.fault.Reason.TheVariants.{Short}
-use Rattle.eds_base.specs.declared.spans.Span.{Span}
-use Rattle.eds_base.specs.Spans.{IsWithin}
 use Rattle.eds_bits.specs.declared.forms.IntForm.{IntForm}
 use Rattle.eds_bits.specs.Bits.{Bits, low_bits, unsigned_of}
 use Rattle.eds_bits.specs.IntForms.{number_of}
 use Rattle.eds_bits.proofs.BitLaws.{low-unsigned}
 use Rattle.eds_types.specs.Failing.{fault_here}
-use Rattle.eds_types.specs.Reading.{Read, judged, judge, read_bits, is_within}
-use Rattle.eds_types.proofs.ReadingTests.{within_from, within_in}
+use Rattle.eds_types.specs.Reading.{Read, judged, judge, read_bits}
 use Rattle.eds_unpack.specs.Entries.{decimal, read_number}
 
 bits_by : ℕ → Bits → Bool → Read Bits

@@ -1,33 +1,40 @@
 -- A container is read by its segment as the reading function reads it.
-use Rattle.std.proofs.Common.{◌≡◌, ℕ, zero, suc, ◌+◌, ◌^◌, ◌<◌, ◌≤◌, Bool, true, List, [], ◌∷◌, ◌++◌, length, map, get_or, take, drop, Option, Some, None, Result, Ok, Err, refl, sym, ap, subst, ◌∙◌, arith, ◌⊎◌, inl, inr, append_assoc, length-drop}
+use Rattle.std.proofs.Common.{◌≡◌, ℕ, zero, suc, ◌+◌, ◌-◌, ◌^◌, ◌<◌, ◌≤◌, true, List, [], ◌∷◌, ◌++◌, length, map, get_or, take, drop, Option, Some, None, Result, Ok, refl, sym, ap, ap₂, subst, ◌∙◌, arith, ◌⊎◌, inl, inr, append_assoc, length-drop}
 use Rattle.std.specs.Prelude.{slice_get}
 use Rattle.std.specs.List.{All, AllByRecursion, AllZip, list_all}
-use Rattle.std.proofs.lemmas.List.{append-nil, drop-drop, length-take-le, take_more}
+use Rattle.std.proofs.Math.Seq.{take-length}
+use Rattle.std.proofs.lemmas.List.{append-nil, drop-drop, length-map, length-take, length-take-le, map-append, take_more}
+use Rattle.std.proofs.lemmas.Bool.{and_parts}
 use Rattle.std.proofs.lemmas.List.Elements.{All-from_recursion, All-get_or}
-use Rattle.std.proofs.lemmas.Option.{slice_get_within, slice_get_past}
+use Rattle.std.proofs.lemmas.Option.{slice_get_within}
 use Rattle.eds_base.specs.declared.fault.Fault.{Fault}
 use Rattle.eds_base.specs.declared.fault.Step.TheVariants as step
 use Rattle.eds_bits.specs.Bits.{Bits, low_bits, unsigned_of}
 use Rattle.eds_bits.specs.IntForms.{number_of}
+use Rattle.eds_bits.specs.Reader.{bits_left}
 use Rattle.eds_bits.proofs.BitLaws.{unsigned-lt}
 use Rattle.eds_types.specs.declared.row.Kind.{Kind}
 use Rattle.eds_types.specs.declared.row.Kind.TheVariants as kind
 use Rattle.eds_types.specs.declared.row.Part.{Part}
 use Rattle.eds_types.specs.declared.row.TypeRow.{TypeRow}
-use Rattle.eds_types.specs.Fields.{type_by, values_of}
+use Rattle.eds_types.specs.Fields.{Field, field_at, values_of}
 use Rattle.eds_types.specs.declared.value.Value.{Value}
 use Rattle.eds_types.specs.Plain.{Plain, plain, truth, fields, plains_of}
-use Rattle.eds_types.specs.Reading.{Read, inside, judged, judge, read_bits, ranged, named, truth_of, read_kind, read_row, read_within, read_parts, read_to_end, ended}
-use Rattle.eds_types.specs.Rows.{Table, id_of, entries_of, placed_entries}
-use Rattle.eds_types.specs.Spelling.{Progress, started}
+use Rattle.eds_types.specs.Reading.{Read, ◌>>=◌, inside, advance, front, judged, judge, read_bits, ranged, named, truth_of, read_kind, read_row, read_within, read_entry, read_parts}
+use Rattle.eds_types.specs.Rows.{Table, id_of, entries_of, placed_from, placed_entries}
+use Rattle.eds_types.specs.Spelling.{Progress, started, with_value}
+use Rattle.eds_unpack.specs.declared.progress.Reached.{Reached}
 use Rattle.eds_unpack.specs.declared.segment.Operation.{Operation}
 use Rattle.eds_unpack.specs.declared.segment.Segment.{Segment}
-use Rattle.eds_unpack.specs.Entries.{IsInner, IsLow, PartIsRead}
-use Rattle.eds_unpack.specs.Segments.{scalar_bits, scalar_of, bits_in, value_in, IsOperation, IsOperationOf, AreOperationsOf, IsSegmentOf, AreSegments, Says, HasValue, IsPut, ReadsAs}
-use Rattle.eds_unpack.specs.Straight.{is_straight_entry}
+use Rattle.eds_unpack.specs.Courses.{MovesOn, fields_of, progress_of}
+use Rattle.eds_unpack.specs.Entries.{IsInner, IsLow, PartIsRead, placed}
+use Rattle.eds_unpack.specs.Segments.{scalar_bits, scalar_of, bits_in, value_in, IsOperation, IsOperationOf, AreOperationsOf, IsHeadOf, IsSegmentOf, AreSegments, Says, HasValue, IsPut, BeginsWith, ReadsAs, ReadsFirst, fields_from, with_fields}
+use Rattle.eds_unpack.specs.Straight.{is_straight, is_straight_entry}
 use Rattle.eds_unpack.proofs.Numbers.{bits_enough, pattern}
+use Rattle.eds_unpack.proofs.OnReads.{drops}
+use Rattle.eds_unpack.proofs.Reaches.{front_more, parts_append}
 use Rattle.eds_unpack.proofs.Steps.{entries_low}
-use Rattle.eds_unpack.proofs.StraightReads.{IsStraightSoFar, first_straight, straight_begins, straight_goes, straight_done, straight_ends, entries_straight}
+use Rattle.eds_unpack.proofs.StraightReads.{IsStraightSoFar, entry_is, parts_step, straight_ends}
 
 -- ---- scalars
 
@@ -47,7 +54,8 @@ row_reads t read id (Some row) n b v e h k = go row.kind e k
     go (kind.Arr item m) e k = absurd cc
     go (kind.Con c) e k = absurd cc
 
-type_reads : (t : Table) (n id m : ℕ) (b : Bits) (v : Plain) → IsInner t n id → bits_in (slice_get t id) ≡ Some m → m ≤ length b → value_in (slice_get t id) (take m b) ≡ Ok v → read_within n t id b ≡ Ok (v, drop m b)
+-- a scalar is read as the value of its bits
+pub type_reads : (t : Table) (n id m : ℕ) (b : Bits) (v : Plain) → IsInner t n id → bits_in (slice_get t id) ≡ Some m → m ≤ length b → value_in (slice_get t id) (take m b) ≡ Ok v → read_within n t id b ≡ Ok (v, drop m b)
 unfolding read_within
 type_reads t zero id m b v inner e h k = let low = inner.low.low in absurd (omega arith)
 type_reads t (suc n) id m b v inner e h k = row_reads t (read_within n t) id (slice_get t id) m b v e h k
@@ -111,11 +119,41 @@ are_within t at last m (p ∷ ps) (o ∷ os) few h =
     let more = runs_to t (at + o.bits) last ps os h.2 in
     (omega arith, are_within t (at + o.bits) last m ps os few h.2)
 
+-- the operations of a segment, which are those of some entries
+
+pub all_are : (t : Table) (ps : List Part) (s : Segment) → AreOperationsOf t 0 s.bits ps s.operations.items → All (IsOperation t) s.operations.items
+all_are t ps s are = All-from_recursion (IsOperation t) s.operations.items (are_operations t 0 s.bits ps s.operations.items are)
+
+pub all_within : (t : Table) (ps : List Part) (m : ℕ) (s : Segment) → s.bits ≤ m → AreOperationsOf t 0 s.bits ps s.operations.items → All (λ (o : Operation). o.at + o.bits ≤ m) s.operations.items
+all_within t ps m s few are = All-from_recursion (λ (o : Operation). o.at + o.bits ≤ m) s.operations.items (are_within t 0 s.bits m ps s.operations.items few are)
+
 pub each_is : (t : Table) (id : ℕ) (s : Segment) → IsSegmentOf t id s → All (IsOperation t) s.operations.items
-each_is t id s is = All-from_recursion (IsOperation t) s.operations.items (are_operations t 0 s.bits (entries_of t id) s.operations.items is.operations)
+each_is t id s is = all_are t (entries_of t id) s is.operations
 
 pub each_within : (t : Table) (id m : ℕ) (s : Segment) → s.bits ≤ m → IsSegmentOf t id s → All (λ (o : Operation). o.at + o.bits ≤ m) s.operations.items
-each_within t id m s few is = All-from_recursion (λ (o : Operation). o.at + o.bits ≤ m) s.operations.items (are_within t 0 s.bits m (entries_of t id) s.operations.items few is.operations)
+each_within t id m s few is = all_within t (entries_of t id) m s few is.operations
+
+as_many : (t : Table) (at last : ℕ) (ps : List Part) (os : List Operation) → AreOperationsOf t at last ps os → length ps ≡ length os
+as_many t at last [] [] h = refl
+as_many t at last [] (o ∷ os) h = absurd h
+as_many t at last (p ∷ ps) [] h = absurd h
+as_many t at last (p ∷ ps) (o ∷ os) h = ap suc (as_many t (at + o.bits) last ps os h.2)
+
+-- there are no more operations than entries
+pub no_more : (t : Table) (id : ℕ) (s : Segment) → IsHeadOf t id s → length s.operations.items ≤ length (entries_of t id)
+no_more t id s is =
+    let same = as_many t 0 s.bits (take (length s.operations.items) (entries_of t id)) s.operations.items is.operations in
+    omega (arith, same, length-take (length s.operations.items) (entries_of t id))
+
+-- the segment that was made of a container's first entries
+pub head_is : (t : Table) (id : ℕ) (ps : List Part) (s : Segment) → ps ≡ entries_of t id → AreOperationsOf t 0 s.bits (take (length s.operations.items) ps) s.operations.items → (s.whole ≡ true → (length s.operations.items ≡ length ps) × (is_straight t id ≡ true)) → IsHeadOf t id s
+head_is t id ps s e are whole = record {
+  operations = subst (λ qs. AreOperationsOf t 0 s.bits (take (length s.operations.items) qs) s.operations.items) e are;
+  whole = λ w. record {
+    straight = (whole w).1;
+    operations = subst (λ qs. AreOperationsOf t 0 s.bits qs s.operations.items) (ap (λ m. take m ps) (whole w).0 ∙ take-length ps ∙ e) are;
+  };
+}
 
 -- one operation more
 pub operations_more : (t : Table) (at last : ℕ) (ps : List Part) (os : List Operation) (p : Part) (o : Operation) → AreOperationsOf t at last ps os → o.at ≡ last → IsOperationOf t p o → AreOperationsOf t at (last + o.bits) (ps ++ p ∷ []) (os ++ o ∷ [])
@@ -135,43 +173,147 @@ last_place [] x y (suc i) e = absurd cc
 last_place (z ∷ xs) x y zero e = inl e
 last_place (z ∷ xs) x y (suc i) e = elim (last_place xs x y i e) [ inl h ↦ inl h | inr h ↦ inr (ap suc h.0, h.1) ]
 
--- the next type's segment, if it has one
-pub segments_more : (t : Table) (each : List (Option Segment)) (o : Option Segment) (number : ℕ) → AreSegments t each → length each ≡ number → ((s : Segment) → o ≡ Some s → IsSegmentOf t number s) → AreSegments t (each ++ o ∷ [])
-segments_more t each o number are l is = λ id s e. elim (last_place each o (Some s) id e) [
+-- what the next type has, if it has something
+pub one_more : {A : Type 0} (Is : ℕ → A → Type 0) (each : List (Option A)) (o : Option A) (number : ℕ) → ((id : ℕ) (s : A) → slice_get each id ≡ Some (Some s) → Is id s) → length each ≡ number → ((s : A) → o ≡ Some s → Is number s) → (id : ℕ) (s : A) → slice_get (each ++ o ∷ []) id ≡ Some (Some s) → Is id s
+one_more Is each o number are l is id s e = elim (last_place each o (Some s) id e) [
   | inl h ↦ are id s h
-  | inr h ↦ subst (λ k. IsSegmentOf t k s) (sym (h.0 ∙ l)) (is s h.1)
+  | inr h ↦ subst (λ k. Is k s) (sym (h.0 ∙ l)) (is s h.1)
 ]
 
--- ---- the container
+-- ---- entries
 
+parts_first : (P : Part → Type 0) (k : ℕ) (ps : List Part) → AllByRecursion P ps → AllByRecursion P (take k ps)
+parts_first P zero ps h = tt
+parts_first P (suc k) [] h = tt
+parts_first P (suc k) (p ∷ ps) h = (h.0, parts_first P k ps h.1)
+
+pub parts_behind : (P : Part → Type 0) (k : ℕ) (ps : List Part) → AllByRecursion P ps → AllByRecursion P (drop k ps)
+parts_behind P zero ps h = h
+parts_behind P (suc k) [] h = tt
+parts_behind P (suc k) (p ∷ ps) h = parts_behind P k ps h.1
+
+pub straight_behind : (t : Table) (k : ℕ) (ps : List Part) → list_all (is_straight_entry t) ps ≡ true → list_all (is_straight_entry t) (drop k ps) ≡ true
+straight_behind t zero ps h = h
+straight_behind t (suc k) [] h = h
+straight_behind t (suc k) (p ∷ ps) h = straight_behind t k ps (and_parts (is_straight_entry t p) (list_all (is_straight_entry t) ps) h).1
+
+no_front : (d : Bits) → front d d ≡ []
+no_front d = let none : length d - length d ≡ 0 = omega arith in ap (λ k. take k d) none
+
+-- entries of which these are the operations, in the bits of the container
 module _ (t : Table) (n y : ℕ) (b : Bits) (last : ℕ) (enough : last ≤ length b) where
-  pub record AreRead (vs : List Plain) : Type 0 where
-    pub s : Progress
-    pub values : values_of s.fields ≡ vs
-    pub octets : s.octets ≡ None
-    pub reads : read_parts t (read_within n t) (placed_entries t y) started b ≡ Ok (s, drop last b)
+  no_parts : (s : Progress) (d : Bits) → read_parts t (read_within n t) [] s d ≡ Ok (s, d)
+  unfolding read_parts
+  no_parts s d = refl
 
-  are_read : (ps : List Part) (os : List Operation) (vs us : List Plain) (place at : ℕ) → list_all (is_straight_entry t) ps ≡ true → AllByRecursion (PartIsRead t n) ps → AreOperationsOf t at last ps os → AllZip (Says t b) os vs → IsStraightSoFar t (read_within n t) y b place ps us (drop at b) → AreRead (us ++ vs)
-  are_read [] [] [] us place at st low are says so = record {
-    s = so.s;
-    values = so.values ∙ sym (append-nil us);
-    octets = so.octets;
-    reads = straight_done t (read_within n t) y b place [] us (drop at b) so refl ∙ ap (λ k. Ok (so.s, drop k b)) are;
-  }
-  are_read [] [] (v ∷ vs) us place at st low are says so = absurd says
-  are_read [] (o ∷ os) vs us place at st low are says so = absurd are
-  are_read (p ∷ ps) [] vs us place at st low are says so = absurd are
-  are_read (p ∷ ps) (o ∷ os) [] us place at st low are says so = absurd says
-  are_read (p ∷ ps) (o ∷ os) (v ∷ vs) us place at st low are says so =
-      let plain_one = first_straight t (p ∷ ps) ps p refl st in
+  to_last : (at : ℕ) → at ≤ last → MovesOn (drop at b) (drop last b)
+  to_last at le =
+      let all : at + (last - at) ≡ last = omega arith in
+      subst (MovesOn (drop at b)) (drop-drop (last - at) at b ∙ ap (λ k. drop k b) all) (drops (last - at) (drop at b))
+
+  entries_read : (ps : List Part) (os : List Operation) (vs : List Plain) (s : Progress) (place at : ℕ) → AllByRecursion (PartIsRead t n) ps → AreOperationsOf t at last ps os → AllZip (Says t b) os vs
+      → read_parts t (read_within n t) (placed_from y place ps) s (drop at b) ≡ Ok (with_fields s (fields_from y place vs) (front (drop at b) (drop last b)), drop last b)
+  entries_read [] [] [] s place at low are says =
+      no_parts s (drop at b)
+      ∙ ap₂ (λ fs c. Ok (record { fields = fs; before = c; octets = s.octets }, drop at b)) (sym (append-nil s.fields)) (sym (ap (λ c. s.before ++ c) (no_front (drop at b)) ∙ append-nil s.before))
+      ∙ ap (λ k. Ok (with_fields s [] (front (drop at b) (drop k b)), drop k b)) are
+  entries_read [] [] (v ∷ vs) s place at low are says = absurd says
+  entries_read [] (o ∷ os) vs s place at low are says = absurd are
+  entries_read (p ∷ ps) [] vs s place at low are says = absurd are
+  entries_read (p ∷ ps) (o ∷ os) [] s place at low are says = absurd says
+  entries_read (p ∷ ps) (o ∷ os) (v ∷ vs) s place at low are says =
       let more = runs_to t (at + o.bits) last ps os are.2 in
       let few : o.bits ≤ length (drop at b) = omega (arith, length-drop at b) in
       let here : value_in (slice_get t o.id.0) (take o.bits (drop at b)) ≡ Ok v = subst (λ k. value_in (slice_get t o.id.0) (take o.bits (drop k b)) ≡ Ok v) are.0 says.0 in
       let reads : read_within n t o.id.0 (drop at b) ≡ Ok (v, drop (at + o.bits) b) = type_reads t n o.id.0 o.bits (drop at b) v ((low.0).inner o.id.0 (are.1).typed) ((are.1).is).size few here ∙ ap (λ d. Ok (v, d)) (drop-drop o.bits at b) in
-      let next = straight_goes t (read_within n t) y b place p ps us (drop at b) so o.id.0 plain_one.0 (are.1).typed v (us ++ v ∷ []) (drop (at + o.bits) b) refl (ap (inside (step.Part (id_of y) place)) reads) in
-      subst AreRead (append_assoc us (v ∷ []) vs) (are_read ps os vs (us ++ v ∷ []) (place + 1) (at + o.bits) plain_one.1 low.1 are.2 says.1 next)
+      let next : MovesOn (drop at b) (drop (at + o.bits) b) = subst (MovesOn (drop at b)) (drop-drop o.bits at b) (drops o.bits (drop at b)) in
+      let one : read_entry t (read_within n t) s (placed y place p) (drop at b) ≡ Ok (with_fields s (field_at y place v ∷ []) (front (drop at b) (drop (at + o.bits) b)), drop (at + o.bits) b) =
+      entry_is t (read_within n t) y place s (drop at b) p o.id.0 (are.1).entry (are.1).typed
+      ∙ ap (λ r. inside (step.Part (id_of y) place) (advance (with_value s (placed y place p)) (drop at b) r)) reads
+      in
+      parts_step t (read_within n t) y place s (drop at b) p ps
+      ∙ ap (λ r. r >>= λ u. read_parts t (read_within n t) (placed_from y (place + 1) ps) u.0 u.1) one
+      ∙ entries_read ps os vs (with_fields s (field_at y place v ∷ []) (front (drop at b) (drop (at + o.bits) b))) (place + 1) (at + o.bits) low.1 are.2 says.1
+      ∙ ap₂ (λ fs c. Ok (record { fields = fs; before = c; octets = s.octets }, drop last b))
+      (append_assoc s.fields (field_at y place v ∷ []) (fields_from y (place + 1) vs))
+      (append_assoc s.before (front (drop at b) (drop (at + o.bits) b)) (front (drop (at + o.bits) b) (drop last b)) ∙ ap (λ c. s.before ++ c) (front_more (drop at b) (drop (at + o.bits) b) (drop last b) next (to_last (at + o.bits) more)))
+
+-- one field more
+pub fields_more : (y i : ℕ) (vs : List Plain) (v : Plain) → fields_from y i (vs ++ v ∷ []) ≡ fields_from y i vs ++ field_at y (i + length vs) v ∷ []
+fields_more y i [] v = ap (λ k. field_at y k v ∷ []) (omega arith)
+fields_more y i (u ∷ vs) v = ap (λ fs. field_at y i u ∷ fs) (fields_more y (i + 1) vs v ∙ ap (λ k. fields_from y (i + 1) vs ++ field_at y k v ∷ []) (omega arith))
+
+pub fields_kept : (y i : ℕ) (new old all : List Field) (xs : List Value) (x : Value) → new ≡ old ++ field_at y i (plain x) ∷ [] → old ≡ all ++ fields_from y 0 (map plain xs) → i ≡ length xs → new ≡ all ++ fields_from y 0 (map plain (xs ++ x ∷ []))
+fields_kept y i new old all xs x e f l =
+    let place : i ≡ 0 + length (map plain xs) = omega (arith, l, length-map xs plain) in
+    e ∙ ap (λ gs. gs ++ field_at y i (plain x) ∷ []) f ∙ append_assoc all (fields_from y 0 (map plain xs)) (field_at y i (plain x) ∷ [])
+    ∙ ap (λ gs. all ++ gs) (ap (λ k. fields_from y 0 (map plain xs) ++ field_at y k (plain x) ∷ []) place ∙ sym (fields_more y 0 (map plain xs) (plain x)) ∙ ap (fields_from y 0) (sym (map-append plain xs (x ∷ []))))
+
+values_from : (y i : ℕ) (vs : List Plain) → values_of (fields_from y i vs) ≡ vs
+values_from y i [] = refl
+values_from y i (v ∷ vs) = ap (λ us. v ∷ us) (values_from y (i + 1) vs)
+
+-- ---- the first entries
+
+pub as_many_values : {A B : Type 0} (R : A → B → Type 0) (xs : List A) (ys : List B) → AllZip R xs ys → length ys ≡ length xs
+as_many_values R [] [] h = refl
+as_many_values R [] (y ∷ ys) h = absurd h
+as_many_values R (x ∷ xs) [] h = absurd h
+as_many_values R (x ∷ xs) (y ∷ ys) h = ap suc (as_many_values R xs ys h.1)
+
+-- the segment of a container's first entries tells their values
+pub head_begins : (t : Table) (id : ℕ) (s : Segment) (b d : Bits) (vs : List Plain) → IsHeadOf t id s → s.bits ≤ length b → AllZip (Says t b) s.operations.items vs → d ≡ drop s.bits b → BeginsWith t id b vs d
+head_begins t id s b d vs is enough says e = λ n u low.
+    let are = subst (λ k. AreOperationsOf t 0 s.bits (take k (entries_of t id)) s.operations.items) (sym (as_many_values (Says t b) s.operations.items vs says)) is.operations in
+    entries_read t n id b s.bits enough (take (length vs) (entries_of t id)) s.operations.items vs u 0 0 (parts_first (PartIsRead t n) (length vs) (entries_of t id) (entries_low t n id low)) are says
+    ∙ ap (λ c. Ok (with_fields u (fields_from id 0 vs) (front b c), c)) (sym e)
+
+pub none_begins : (t : Table) (id : ℕ) (b : Bits) → BeginsWith t id b [] b
+none_begins t id b = λ n s low.
+    no_parts t n id b 0 (omega arith) s b
+    ∙ ap₂ (λ fs c. Ok (record { fields = fs; before = c; octets = s.octets }, b)) (sym (append-nil s.fields)) (sym (ap (λ c. s.before ++ c) (no_front b) ∙ append-nil s.before))
+
+-- the values are kept with their places
+pub head_reads : (t : Table) (id k : ℕ) (r u : Reached) (b d : Bits) (vs : List Plain) → BeginsWith t id b vs d → MovesOn (bits_left r.start) b → MovesOn b d → length vs ≡ k
+    → fields_of u.fields.items ≡ fields_of r.fields.items ++ fields_from id 0 vs → u.octets ≡ r.octets → u.start ≡ r.start → ReadsFirst t id k (progress_of r b) b (progress_of u d) d
+head_reads t id k r u b d vs begins on next l f o g = λ n low.
+    ap (λ j. read_parts t (read_within n t) (placed_from id 0 (take j (entries_of t id))) (progress_of r b) b) (sym l)
+    ∙ begins n (progress_of r b) low
+    ∙ ap₂ (λ fs c. Ok (record { fields = fs; before = c; octets = r.octets }, d)) (sym f) (front_more (bits_left r.start) b d on next)
+    ∙ ap₂ (λ x y. Ok (record { fields = fields_of u.fields.items; before = front (bits_left x) d; octets = y }, d)) (sym g) (sym o)
+
+placed_split : (y i k : ℕ) (ps : List Part) → placed_from y i ps ≡ placed_from y i (take k ps) ++ placed_from y (i + k) (drop k ps)
+placed_split y i zero ps = ap (λ m. placed_from y m ps) (omega arith)
+placed_split y i (suc k) [] = refl
+placed_split y i (suc k) (p ∷ ps) = ap (λ qs. placed y i p ∷ qs) (placed_split y (i + 1) k ps ∙ ap (λ m. placed_from y (i + 1) (take k ps) ++ placed_from y m (drop k ps)) (omega arith))
+
+-- the slice of the parts behind the first ones
+pub slice_behind : (k : ℕ) (ps : List Part) → take (length ps - k) (drop k ps) ≡ drop k ps
+slice_behind k ps =
+    let long : length ps - k ≡ length (drop k ps) = omega (arith, length-drop k ps) in
+    ap (λ j. take j (drop k ps)) long ∙ take-length (drop k ps)
+
+-- reading goes on behind the first entries
+pub head_goes : (t : Table) (n id k : ℕ) (s u : Progress) (b d : Bits) (rest : List Part) → IsLow t (n + 1) id → rest ≡ drop k (entries_of t id) → ReadsFirst t id k s b u d → read_parts t (read_within n t) (placed_entries t id) s b ≡ read_parts t (read_within n t) (placed_from id k rest) u d
+head_goes t n id k s u b d rest low e reads =
+    ap (λ ps. read_parts t (read_within n t) ps s b) (placed_split id 0 k (entries_of t id) ∙ ap (λ m. placed_from id 0 (take k (entries_of t id)) ++ placed_from id m (drop k (entries_of t id))) (omega arith))
+    ∙ parts_append t (read_within n t) (placed_from id 0 (take k (entries_of t id))) (placed_from id k (drop k (entries_of t id))) s b
+    ∙ ap (λ r. r >>= λ v. read_parts t (read_within n t) (placed_from id k (drop k (entries_of t id))) v.0 v.1) (reads n low)
+    ∙ ap (λ ps. read_parts t (read_within n t) (placed_from id k ps) u d) (sym e)
+
+-- a container that is read straight begins so
+pub head_straight : (t : Table) (n id k : ℕ) (b d : Bits) (rest : List Part) (vs : List Plain) → IsLow t (n + 1) id → BeginsWith t id b vs d → length vs ≡ k → rest ≡ drop k (entries_of t id) → IsStraightSoFar t (read_within n t) id b k rest vs d
+head_straight t n id k b d rest vs low begins l e = record {
+  s = record { fields = fields_from id 0 vs; before = front b d; octets = None };
+  values = values_from id 0 vs;
+  octets = refl;
+  reads = sym (head_goes t n id k started (record { fields = fields_from id 0 vs; before = front b d; octets = None }) b d rest low e (λ m h. ap (λ j. read_parts t (read_within m t) (placed_from id 0 (take j (entries_of t id))) started b) (sym l) ∙ begins m started h));
+}
+
+-- ---- the container
 
 pub segment_reads : (t : Table) (id : ℕ) (s : Segment) (b : Bits) (vs : List Plain) → IsSegmentOf t id s → s.bits ≤ length b → AllZip (Says t b) s.operations.items vs → ReadsAs t id b (fields id (plains_of vs)) (drop s.bits b)
 segment_reads t id s b vs is enough says = λ n low.
-    let done = are_read t n id b s.bits enough (entries_of t id) s.operations.items vs [] 0 0 (entries_straight t id is.straight) (entries_low t n id low) is.operations says (straight_begins t (read_within n t) id b (entries_of t id) [] refl refl) in
-    straight_ends t id is.straight (read_within n t) b done.s (drop s.bits b) done.octets done.reads ∙ ap (λ us. Ok (fields id (plains_of us), drop s.bits b)) done.values
+    let done = entries_read t n id b s.bits enough (entries_of t id) s.operations.items vs started 0 0 (entries_low t n id low) is.operations says in
+    straight_ends t id is.straight (read_within n t) b (record { fields = fields_from id 0 vs; before = front b (drop s.bits b); octets = None }) (drop s.bits b) refl done
+    ∙ ap (λ us. Ok (fields id (plains_of us), drop s.bits b)) (values_from id 0 vs)

@@ -3,6 +3,7 @@ use Rattle.std.proofs.Common.{◌≡◌, ℕ, zero, suc, ◌+◌, ◌-◌, ◌*�
 use Rattle.std.specs.Prelude.{IfSome, nat_lt}
 use Rattle.std.specs.List.{AllByRecursion}
 use Rattle.std.proofs.lemmas.Int.{ints}
+use Rattle.std.proofs.lemmas.List.{drop_more}
 use Rattle.eds_base.specs.declared.ids.TypeId.{TypeId}
 use Rattle.eds_base.specs.declared.fail.Fail.{Fail}
 use Rattle.eds_base.specs.declared.fail.Fail.TheVariants.{Named, Memory}
@@ -28,8 +29,8 @@ use Rattle.eds_types.specs.declared.value.Value.{Value}
 use Rattle.eds_types.specs.Failing.{fault_at, fault_here, fault_behind, part_step, length_path}
 use Rattle.eds_types.specs.Fields.{Field, field_at, values_of}
 use Rattle.eds_types.specs.Plain.{Plain, plain, num, bits, items, fields, plains_of}
-use Rattle.eds_types.specs.Reading.{Read, Ends, Next, stay, nowhere, under, ◌>>=◌, judged, judge, advance, front, expected, number_in, after_number, ranged, is_within, read_bits, read_items, read_part, read_parts, read_chain, read_under, read_to_end, go_on, next, finish, size_fits, ended, read_tail, inside, read_kind, read_row, read_within}
-use Rattle.eds_types.specs.Rows.{Table, id_of, chain, constraints_of, entries_of, trailers_of, Placed, placed_from, placed_entries, placed_trailers}
+use Rattle.eds_types.specs.Reading.{Read, Ends, Next, stay, nowhere, under, ◌>>=◌, judged, judge, advance, front, expected, number_in, after_number, ranged, is_within, read_bits, read_items, read_part, read_parts, check_all, read_own, read_chain, read_under, read_to_end, go_on, next, finish, size_fits, ended, read_tail, inside, read_kind, read_row, read_within}
+use Rattle.eds_types.specs.Rows.{Table, id_of, chain, constraints_of, entries_of, trailers_of, Placed, placed_from, placed_entries, placed_trailers, numbers_of}
 use Rattle.eds_types.specs.Rules.{KeepsRules, IsInt, IsIntBy, KindKeeps}
 use Rattle.eds_types.specs.Spelling.{Progress, started, with_bits, with_value, count_at}
 use Rattle.eds_types.proofs.ReadingTests.{within_from}
@@ -251,6 +252,22 @@ module _ (t : Table) (read : ℕ → Bits → Read Plain) where
   unfolding read_parts
   trailers_done [] s b total lt e = sym e
   trailers_done (x ∷ ids) s b total lt e = absurd (omega arith)
+
+  -- ---- the entries of a chain
+
+  module _ (ids : List TypeId) (i : ℕ) (d : TypeId) (s : Progress) (b : Bits) (total : Read Progress) (lt : i < length ids) (inv : read_chain t read (numbers_of (drop i ids)) s b ≡ total) where
+    chain_step : read_chain t read (numbers_of (drop i ids)) s b ≡ (read_own t read (get_or ids i d).0 s b >>= λ v. read_chain t read (numbers_of (drop (i + 1) ids)) v.0 v.1)
+    unfolding read_chain
+    chain_step = ap (λ xs. read_chain t read (numbers_of xs) s b) (drop_more ids i d lt)
+
+    own_stops : (e : Fail Fault) → Stops e (read_own t read (get_or ids i d).0 s b) → Stops e total
+    own_stops e stop = stops_as e _ _ (sym chain_step ∙ inv) (stops_on e (read_own t read (get_or ids i d).0 s b) (λ v. read_chain t read (numbers_of (drop (i + 1) ids)) v.0 v.1) stop)
+
+    pub chain_refused : (e : Fail Fault) → Stops e (check_all t (constraints_of t (get_or ids i d).0) s.fields) → Stops e total
+    chain_refused e stop = own_stops e (stops_on e (check_all t (constraints_of t (get_or ids i d).0) s.fields) (λ u. read_parts t read (placed_entries t (get_or ids i d).0) s b) stop)
+
+    pub chain_fails : (e : Fail Fault) → check_all t (constraints_of t (get_or ids i d).0) s.fields ≡ Ok tt → Stops e (read_parts t read (placed_entries t (get_or ids i d).0) s b) → Stops e total
+    chain_fails e passed stop = own_stops e (stops_as e _ _ (ap (λ r. r >>= λ u. read_parts t read (placed_entries t (get_or ids i d).0) s b) (sym passed)) stop)
 
   -- ---- the choice
 

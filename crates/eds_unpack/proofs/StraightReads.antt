@@ -1,6 +1,6 @@
 -- Reading a container whose value is that of its entries alone.
 use Rattle.std.proofs.Common.{◌≡◌, ℕ, ◌+◌, ◌<◌, Bool, true, false, cond, List, [], ◌∷◌, ◌++◌, length, map, reverse, get_or, Option, Some, None, Result, Ok, Err, refl, sym, ap, ◌∙◌, arith}
-use Rattle.std.specs.Prelude.{◌-◌, ◌==◌, ◌&&◌, is_none, not, drop}
+use Rattle.std.specs.Prelude.{◌==◌, ◌&&◌, is_none, not, drop}
 use Rattle.std.specs.List.{list_all, flat_map}
 use Rattle.std.proofs.lemmas.List.{drop_more}
 use Rattle.std.proofs.lemmas.Bool.{eqb-true, eq-eqb, and_parts, false≢true}
@@ -67,10 +67,7 @@ first_type t (part.Check name own c) id e k = absurd (false≢true e)
 pub first_straight : (t : Table) (ps rest : List Part) (p : Part) → ps ≡ p ∷ rest → list_all (is_straight_entry t) ps ≡ true → (is_straight_entry t p ≡ true) × (list_all (is_straight_entry t) rest ≡ true)
 first_straight t ps rest p e h = and_parts (is_straight_entry t p) (list_all (is_straight_entry t) rest) (sym (ap (list_all (is_straight_entry t)) e) ∙ h)
 
-module _ (t : Table) (read : ℕ → Bits → Read Plain) (y : ℕ) (b : Bits) where
-  pub straight_begins : (rest : List Part) (vs : List Plain) → rest ≡ entries_of t y → vs ≡ [] → IsStraightSoFar t read y b 0 rest vs b
-  straight_begins rest vs e n = record { s = started; values = sym n; octets = refl; reads = ap (λ ps. read_parts t read (placed_from y 0 ps) started b) e }
-
+module _ (t : Table) (read : ℕ → Bits → Read Plain) (y place : ℕ) (s : Progress) (d : Bits) where
   type_is : (a c : ℕ) → ◌≡◌ {A = Option ℕ} (Some a) (Some c) → a ≡ c
   type_is a c e = cc
 
@@ -78,31 +75,33 @@ module _ (t : Table) (read : ℕ → Bits → Read Plain) (y : ℕ) (b : Bits) w
   tail_is_none None e = refl
   tail_is_none (Some n) e = absurd (false≢true e)
 
+  -- such an entry is read as its type is
+  pub entry_is : (q : Part) (id : ℕ) → is_straight_entry t q ≡ true → type_by (Some q) ≡ Some id → read_entry t read s (placed y place q) d ≡ inside (step.Part (id_of y) place) (advance (with_value s (placed y place q)) d (read id d))
+  entry_is (part.Plain name own) id e k = ap (λ o. read_entry_by t read o s (placed y place (part.Plain name own)) d) (tail_is_none (tail_of t (part.Plain name own)) e) ∙ ap (λ i. inside (step.Part (id_of y) place) (advance (with_value s (placed y place (part.Plain name own))) d (read i d))) (type_is own.0 id k)
+  entry_is (part.Fixed name own v) id e k = absurd (false≢true e)
+  entry_is (part.Pad n) id e k = absurd (false≢true e)
+  entry_is (part.List name own z i) id e k = absurd (false≢true e)
+  entry_is (part.Length name own c0 c1) id e k = absurd (false≢true e)
+  entry_is (part.Check name own c) id e k = absurd (false≢true e)
+
+  pub parts_step : (p : Part) (rest : List Part) → read_parts t read (placed_from y place (p ∷ rest)) s d ≡ (read_entry t read s (placed y place p) d >>= λ v. read_parts t read (placed_from y (place + 1) rest) v.0 v.1)
+  unfolding read_parts
+  parts_step p rest = refl
+
+module _ (t : Table) (read : ℕ → Bits → Read Plain) (y : ℕ) (b : Bits) where
   module _ (place : ℕ) (p : Part) (rest : List Part) (vs : List Plain) (d : Bits) (so : IsStraightSoFar t read y b place (p ∷ rest) vs d) where
-    entry_is : (q : Part) (id : ℕ) → is_straight_entry t q ≡ true → type_by (Some q) ≡ Some id → read_entry t read so.s (placed y place q) d ≡ inside (step.Part (id_of y) place) (advance (with_value so.s (placed y place q)) d (read id d))
-    entry_is (part.Plain name own) id e k = ap (λ o. read_entry_by t read o so.s (placed y place (part.Plain name own)) d) (tail_is_none (tail_of t (part.Plain name own)) e) ∙ ap (λ i. inside (step.Part (id_of y) place) (advance (with_value so.s (placed y place (part.Plain name own))) d (read i d))) (type_is own.0 id k)
-    entry_is (part.Fixed name own v) id e k = absurd (false≢true e)
-    entry_is (part.Pad n) id e k = absurd (false≢true e)
-    entry_is (part.List name own z i) id e k = absurd (false≢true e)
-    entry_is (part.Length name own c0 c1) id e k = absurd (false≢true e)
-    entry_is (part.Check name own c) id e k = absurd (false≢true e)
-
-    parts_step : read_parts t read (placed_from y place (p ∷ rest)) so.s d ≡ (read_entry t read so.s (placed y place p) d >>= λ v. read_parts t read (placed_from y (place + 1) rest) v.0 v.1)
-    unfolding read_parts
-    parts_step = refl
-
     module _ (id : ℕ) (plain_part : is_straight_entry t p ≡ true) (id_is : type_by (Some p) ≡ Some id) where
       pub straight_stops : (e : Fail Fault) → Stops e (inside (step.Part (id_of y) place) (read id d)) → Stops e (read_parts t read (placed_entries t y) started b)
-      straight_stops e h = stops_as e _ _ (sym parts_step ∙ so.reads) (stops_on e (read_entry t read so.s (placed y place p) d) (λ v. read_parts t read (placed_from y (place + 1) rest) v.0 v.1) (stops_as e _ _ (sym (entry_is p id plain_part id_is)) (stops_inside e (step.Part (id_of y) place) (with_value so.s (placed y place p)) d (read id d) h)))
+      straight_stops e h = stops_as e _ _ (sym (parts_step t read y place so.s d p rest) ∙ so.reads) (stops_on e (read_entry t read so.s (placed y place p) d) (λ v. read_parts t read (placed_from y (place + 1) rest) v.0 v.1) (stops_as e _ _ (sym (entry_is t read y place so.s d p id plain_part id_is)) (stops_inside e (step.Part (id_of y) place) (with_value so.s (placed y place p)) d (read id d) h)))
 
       pub straight_goes : (v : Plain) (ws : List Plain) (c : Bits) → ws ≡ vs ++ v ∷ [] → inside (step.Part (id_of y) place) (read id d) ≡ Ok (v, c) → IsStraightSoFar t read y b (place + 1) rest ws c
       straight_goes v ws c w h =
-          let k : read_entry t read so.s (placed y place p) d ≡ Ok (with_value so.s (placed y place p) v (front d c), c) = entry_is p id plain_part id_is ∙ ap (λ r. inside (step.Part (id_of y) place) (advance (with_value so.s (placed y place p)) d r)) (inside_ok (step.Part (id_of y) place) (read id d) (v, c) h) in
+          let k : read_entry t read so.s (placed y place p) d ≡ Ok (with_value so.s (placed y place p) v (front d c), c) = entry_is t read y place so.s d p id plain_part id_is ∙ ap (λ r. inside (step.Part (id_of y) place) (advance (with_value so.s (placed y place p)) d r)) (inside_ok (step.Part (id_of y) place) (read id d) (v, c) h) in
           record {
             s = with_value so.s (placed y place p) v (front d c);
             values = values_append so.s.fields (field_of (placed y place p) v ∷ []) ∙ ap (λ us. us ++ v ∷ []) so.values ∙ sym w;
             octets = so.octets;
-            reads = sym (ap (λ r. r >>= λ u. read_parts t read (placed_from y (place + 1) rest) u.0 u.1) k) ∙ sym parts_step ∙ so.reads;
+            reads = sym (ap (λ r. r >>= λ u. read_parts t read (placed_from y (place + 1) rest) u.0 u.1) k) ∙ sym (parts_step t read y place so.s d p rest) ∙ so.reads;
           }
 
   pub straight_done : (place : ℕ) (rest : List Part) (vs : List Plain) (d : Bits) (so : IsStraightSoFar t read y b place rest vs d) → rest ≡ [] → read_parts t read (placed_entries t y) started b ≡ Ok (so.s, d)

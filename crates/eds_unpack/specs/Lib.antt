@@ -17,3 +17,6 @@ pub mod Noted
 pub mod Walks
 pub mod Programs
 pub mod Segments
+pub mod Items
+pub mod Selectors
+pub mod Labels

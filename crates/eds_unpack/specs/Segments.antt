@@ -1,5 +1,5 @@
 -- Containers as operations: entries at fixed places, which are read one after another.
-use Rattle.std.specs.Prelude.{◌≡◌, ℕ, ◌+◌, ◌%◌, ◌^◌, ◌<◌, ◌≤◌, ℤ, pos, ◌-ℤ◌, ◌≤ℤ◌, List, [], ◌∷◌, ◌++◌, map, Bool, true, not, ◌==◌, Option, Some, None, Result, Ok, Err, slice_get, nat_lt, take, drop, if◌then◌else◌}
+use Rattle.std.specs.Prelude.{◌≡◌, ℕ, ◌+◌, ◌%◌, ◌^◌, ◌<◌, ◌≤◌, ℤ, pos, ◌-ℤ◌, ◌≤ℤ◌, List, [], ◌∷◌, ◌++◌, length, map, Bool, true, not, ◌==◌, Option, Some, None, Result, Ok, Err, slice_get, nat_lt, take, drop, if◌then◌else◌}
 use Rattle.eds_base.specs.declared.fault.Fault.{Fault}
 use Rattle.eds_base.specs.declared.fault.Reason.TheVariants.{Short}
 use Rattle.eds_bits.specs.declared.forms.ByteOrder.TheVariants.{Little}
@@ -12,17 +12,18 @@ use Rattle.eds_types.specs.declared.row.Part.{Part}
 use Rattle.eds_types.specs.declared.row.TypeRow.{TypeRow}
 use Rattle.eds_types.specs.declared.value.Value.{Value}
 use Rattle.eds_types.specs.Failing.{fault_here}
-use Rattle.eds_types.specs.Fields.{type_by}
+use Rattle.eds_types.specs.Fields.{Field, field_at, type_by}
 use Rattle.eds_types.specs.Plain.{Plain, plain, num, truth}
-use Rattle.eds_types.specs.Reading.{ranged, named, truth_of, read_within, read_to_end, ended}
-use Rattle.eds_types.specs.Rows.{Table, entries_of}
+use Rattle.eds_types.specs.Reading.{ranged, named, truth_of, front, read_within, read_parts, read_to_end, ended}
+use Rattle.eds_types.specs.Rows.{Table, entries_of, placed_from}
+use Rattle.eds_types.specs.Spelling.{Progress}
 use Rattle.eds_unpack.specs.declared.segment.Meaning.{Meaning}
 use Rattle.eds_unpack.specs.declared.segment.Meaning.TheVariants as meaning
 use Rattle.eds_unpack.specs.declared.segment.Numbers.{Numbers}
 use Rattle.eds_unpack.specs.declared.segment.Operation.{Operation}
 use Rattle.eds_unpack.specs.declared.segment.Segment.{Segment}
 use Rattle.eds_unpack.specs.Entries.{IsLow}
-use Rattle.eds_unpack.specs.Straight.{is_straight}
+use Rattle.eds_unpack.specs.Straight.{is_straight, is_straight_entry}
 
 -- ---- scalars
 
@@ -90,8 +91,9 @@ pub record IsOperation (t : Table) (o : Operation) : Type 0 where
   pub agrees : Agrees (value_in (slice_get t o.id.0)) o.bits o.meaning
   pub sure : o.sure ≡ true → IsSure (value_in (slice_get t o.id.0)) o.bits
 
--- it is that of an entry
+-- it is that of an entry with a value
 pub record IsOperationOf (t : Table) (p : Part) (o : Operation) : Type 0 where
+  pub entry : is_straight_entry t p ≡ true
   pub typed : type_by (Some p) ≡ Some o.id.0
   pub is : IsOperation t o
 
@@ -109,15 +111,30 @@ pub record IsSegmentOf (t : Table) (id : ℕ) (s : Segment) : Type 0 where
   pub straight : is_straight t id ≡ true
   pub operations : AreOperationsOf t 0 s.bits (entries_of t id) s.operations.items
 
--- each segment is that of the container whose number is its place
+-- a segment is that of as many of a container's first entries as it has operations, and says of none without reason that its
+-- value is that of these alone
+pub record IsHeadOf (t : Table) (id : ℕ) (s : Segment) : Type 0 where
+  pub operations : AreOperationsOf t 0 s.bits (take (length s.operations.items) (entries_of t id)) s.operations.items
+  pub whole : s.whole ≡ true → IsSegmentOf t id s
+
+-- each segment is that of the first entries of the container whose number is its place
 abbrev pub AreSegments : Table → List (Option Segment) → Type 0
-AreSegments t each = (id : ℕ) (s : Segment) → slice_get each id ≡ Some (Some s) → IsSegmentOf t id s
+AreSegments t each = (id : ℕ) (s : Segment) → slice_get each id ≡ Some (Some s) → IsHeadOf t id s
 
 -- ---- values
 
 -- the value of an operation, in the bits of its container
 abbrev pub Says : Table → Bits → Operation → Plain → Type 0
 Says t b o v = value_in (slice_get t o.id.0) (take o.bits (drop o.at b)) ≡ Ok v
+
+-- the fields of a container with these values, the first at a place
+abbrev pub fields_from : ℕ → ℕ → List Plain → List Field
+fields_from y i [] = []
+fields_from y i (v ∷ vs) = field_at y i v ∷ fields_from y (i + 1) vs
+
+-- after the bits of parts and their values
+abbrev pub with_fields : Progress → List Field → Bits → Progress
+with_fields s fs b = record { fields = s.fields ++ fs; before = s.before ++ b; octets = s.octets }
 
 -- there is such a value
 abbrev pub HasValue : Table → Bits → Operation → Type 0
@@ -132,3 +149,12 @@ pub record IsPut (found : Result Plain Fault) (old new : List Value) : Type 0 wh
 -- the container is read as this value, before the rest, wherever it is nested
 abbrev pub ReadsAs : Table → ℕ → Bits → Plain → Bits → Type 0
 ReadsAs t id b v rest = (n : ℕ) → IsLow t (n + 1) id → ended t (read_within n t) (read_to_end t (read_within n t) id b) ≡ Ok (v, rest)
+
+-- the container begins with entries that have these values and are read before the rest, wherever it is nested and whatever
+-- was read before it
+abbrev pub BeginsWith : Table → ℕ → Bits → List Plain → Bits → Type 0
+BeginsWith t id b vs rest = (n : ℕ) (s : Progress) → IsLow t (n + 1) id → read_parts t (read_within n t) (placed_from id 0 (take (length vs) (entries_of t id))) s b ≡ Ok (with_fields s (fields_from id 0 vs) (front b rest), rest)
+
+-- the first k entries of the container are read from one state to another, wherever it is nested
+abbrev pub ReadsFirst : Table → ℕ → ℕ → Progress → Bits → Progress → Bits → Type 0
+ReadsFirst t id k s b u rest = (n : ℕ) → IsLow t (n + 1) id → read_parts t (read_within n t) (placed_from id 0 (take k (entries_of t id))) s b ≡ Ok (u, rest)

@@ -10,9 +10,12 @@ ghost use Rattle.eds_types.specs.Rows.{chain, chain as chain_of, constraints_of,
 ghost use Rattle.eds_types.specs.Choices.{meets, fits_choice};
 ghost use Rattle.eds_unpack.specs.Courses.{fields_of};
 ghost use Rattle.eds_unpack.specs.Choices.{TellsAbove, TellsChoice, next_in};
+ghost use Rattle.eds_unpack.specs.Selectors.{IsSelectorOf};
 
 use crate::fields::ReadField;
-use crate::known::{Known, holds_known};
+use crate::known::{Known, holds_known, number_known};
+use crate::segments::Segments;
+use crate::selector::{Selector, group};
 use eds_base::TypeId;
 use eds_types::{Constraint, TypeTable, is_among};
 
@@ -27,7 +30,12 @@ pub(crate) enum Next {
 }
 
 /// Whether a path starts in an entry of a container or of its bases.
-fn starts_above(table: &TypeTable, id: TypeId, chain: &[TypeId], path: &[(TypeId, u16)]) -> bool
+pub(crate) fn starts_above(
+    table: &TypeTable,
+    id: TypeId,
+    chain: &[TypeId],
+    path: &[(TypeId, u16)],
+) -> bool
     requires { numbers_of chain.now ≡ chain_of table.now id.0 }
     ensures { result ≡ starts_above table.now id.0 path.now }
 {
@@ -127,31 +135,82 @@ fn first_candidate(
     None
 }
 
+/// The members of a family that want the number that is known on a selector's path, none where there is no number.
+fn selected<'a>(
+    table: &TypeTable,
+    selector: &'a Selector,
+    id: TypeId,
+    known: &Known<'_>,
+) -> &'a [TypeId]
+    requires { IsSelectorOf table.now id.0 selector.now }
+    ensures { (fs : List Field) → TellsChoice table.now id.0 fs known.now → first_of (fits_choice table.now id.0 fs) (numbers_of result.now) ≡ candidate_under table.now id.0 fs }
+{
+    match number_known(table, known, selector.path.as_slice()) {
+        Some(number) => group(&selector.groups, number),
+        None => &[],
+    }
+}
+
+/// The members of a container's family among which a candidate is the first: those that its selector leaves, and all of them
+/// where it has none.
+fn members_left<'a>(
+    table: &'a TypeTable,
+    segments: &'a Segments<'_>,
+    id: TypeId,
+    known: &Known<'_>,
+) -> &'a [TypeId]
+    requires { segments.now ≡ table.now }
+    ensures { (fs : List Field) → TellsChoice table.now id.0 fs known.now → first_of (fits_choice table.now id.0 fs) (numbers_of result.now) ≡ candidate_under table.now id.0 fs }
+{
+    match segments.selector(id) {
+        Some(selector) => selected(table, selector, id, known),
+        None => table.family_of(id),
+    }
+}
+
 /// The first container strictly under one that may be that of the fields.
-fn candidate_under(table: &TypeTable, id: TypeId, known: &Known<'_>) -> Option<TypeId>
+fn candidate_under(
+    table: &TypeTable,
+    segments: &Segments<'_>,
+    id: TypeId,
+    known: &Known<'_>,
+) -> Option<TypeId>
+    requires { segments.now ≡ table.now }
     ensures { (fs : List Field) → TellsChoice table.now id.0 fs known.now → option_map (λ (l : Id). l.0) result ≡ candidate_under table.now id.0 fs }
 {
-    let family = table.family_of(id);
-    if family.is_empty() {
+    let members = members_left(table, segments, id, known);
+    if members.is_empty() {
         return None;
     }
     let chain = table.chain_of(id);
-    first_candidate(table, id, chain.as_slice(), known, family)
+    first_candidate(table, id, chain.as_slice(), known, members)
 }
 
 /// Where reading goes on behind the entries of a container, by its fields.
-pub(crate) fn next_container(table: &TypeTable, id: TypeId, fields: &[ReadField]) -> Next
+pub(crate) fn next_container(
+    table: &TypeTable,
+    segments: &Segments<'_>,
+    id: TypeId,
+    fields: &[ReadField],
+) -> Next
+    requires { segments.now ≡ table.now }
     ensures { next_in result ≡ next table.now id.0 (fields_of fields.now) }
 {
     let known = Known::Fields(fields);
-    next_known(table, id, &known)
+    next_known(table, segments, id, &known)
 }
 
 /// Where it goes on, by what is known of them.
-pub(crate) fn next_known(table: &TypeTable, id: TypeId, known: &Known<'_>) -> Next
+pub(crate) fn next_known(
+    table: &TypeTable,
+    segments: &Segments<'_>,
+    id: TypeId,
+    known: &Known<'_>,
+) -> Next
+    requires { segments.now ≡ table.now }
     ensures { (fs : List Field) → TellsChoice table.now id.0 fs known.now → next_in result ≡ next table.now id.0 fs }
 {
-    match candidate_under(table, id, known) {
+    match candidate_under(table, segments, id, known) {
         None if table.is_concrete(id) => Next::Stay,
         None => Next::Nowhere,
         Some(under) => Next::Under(child(table, id, under)),

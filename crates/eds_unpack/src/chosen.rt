@@ -14,19 +14,22 @@ ghost use Rattle.eds_unpack.specs.Noted.{IsNoted};
 use crate::choice::{Next, next_known};
 use crate::known::Known;
 use crate::notes::Notes;
+use crate::segments::Segments;
 use eds_base::TypeId;
 use eds_types::TypeTable;
 
 /// Where reading goes on behind the entries of a container, by the numbers that were noted of them.
 pub(crate) fn next_noted(
     table: &TypeTable,
+    segments: &Segments<'_>,
     notes: &Notes,
     numbers: &[Option<i128>],
     id: TypeId,
 ) -> Next
+    requires segments { segments.now ≡ table.now }
     requires asked { (y : ℕ) → AllByRecursion (λ (c : Constraint). Among notes.now c.path) (constraints_of table.now y) }
     ensures { (fs : List Field) → ((path : Steps) → starts_above table.now id.0 path ≡ true → IsNoted table.now notes.now numbers.now fs path) → next_in result ≡ next table.now id.0 fs }
 {
     let known = Known::Numbers(notes, numbers);
-    next_known(table, id, &known)
+    next_known(table, segments, id, &known)
 }

@@ -19,7 +19,11 @@ use eds_base::{Path, Reason, TypeId};
 use eds_types::Constraint;
 
 /// The number that is noted on a path.
-fn number_noted(notes: &Notes, numbers: &[Option<i128>], path: &[(TypeId, u16)]) -> Option<i128>
+pub(crate) fn number_noted(
+    notes: &Notes,
+    numbers: &[Option<i128>],
+    path: &[(TypeId, u16)],
+) -> Option<i128>
     ensures { Among notes.now path.now → (h : ℕ) × (slice_get notes.now h ≡ Some path.now) × (result ≡ unwrap_or (slice_get numbers.now h) None) }
 {
     let at = notes.find(path)?;

@@ -1,6 +1,6 @@
 //! Making the segments of the containers of a table.
 
-ghost use Rattle.std.specs.Prelude.{◌≡◌, ◌+◌, ◌*◌, ◌^◌, ◌<◌, ◌≤◌, ◌≤ℤ◌, ℕ, ℤ, pos, ◌+ℤ◌, ◌-ℤ◌, Result, Some, Bool, true, false, length, IfOk, IfSome};
+ghost use Rattle.std.specs.Prelude.{◌≡◌, ◌+◌, ◌*◌, ◌^◌, ◌<◌, ◌≤◌, ◌≤ℤ◌, ℕ, ℤ, pos, ◌+ℤ◌, ◌-ℤ◌, Result, Some, Bool, true, false, length, take, IfOk, IfSome};
 ghost use Rattle.eds_base.specs.declared.fault.Fault.{Fault};
 ghost use Rattle.eds_bits.specs.Bits.{Bits, low_bits};
 ghost use Rattle.eds_bits.specs.Encodings.{number_by};
@@ -8,7 +8,7 @@ ghost use Rattle.eds_bits.specs.IntForms.{number_of};
 ghost use Rattle.eds_bits.specs.declared.forms.ByteOrder.TheVariants.{Big, Little};
 ghost use Rattle.eds_types.specs.Plain.{Plain};
 ghost use Rattle.eds_types.specs.Reading.{is_within, ranged};
-ghost use Rattle.eds_unpack.specs.Segments.{Agrees, AreOperationsOf, IsOperationOf, IsSegmentOf, IsSure, scalar_bits, scalar_of, signed};
+ghost use Rattle.eds_unpack.specs.Segments.{Agrees, AreOperationsOf, IsHeadOf, IsOperation, IsOperationOf, IsSure, scalar_bits, scalar_of, signed};
 
 use crate::segment::{Meaning, Numbers, Operation, Segment};
 use crate::straight::is_straight;
@@ -167,6 +167,21 @@ fn operation_at(id: TypeId, at: u32, bits: u32, meaning: Meaning) -> Option<Oper
     })
 }
 
+/// The operation of a type at a place, if the type is a scalar and eight octets hold it.
+pub(crate) fn operation_of_type(table: &TypeTable, at: u32, id: TypeId) -> Option<Operation>
+    requires { at ≤ 2 ^ 24 }
+    ensures typed { IfSome result (λ o. o.id ≡ id) }
+    ensures place { IfSome result (λ o. o.at ≡ at) }
+    ensures few { IfSome result (λ o. o.bits ≤ 64) }
+    ensures is { IfSome result (IsOperation table.now) }
+{
+    if id.0 >= table.len() {
+        return None;
+    }
+    let (bits, meaning) = meaning_of(&table.row(id).kind)?;
+    operation_at(id, at, bits, meaning)
+}
+
 /// The operation of an entry at a place, if its type is a scalar and eight octets hold it.
 fn operation_of(table: &TypeTable, at: u32, part: &Part) -> Option<Operation>
     requires { at ≤ 2 ^ 24 }
@@ -174,48 +189,55 @@ fn operation_of(table: &TypeTable, at: u32, part: &Part) -> Option<Operation>
     ensures few { IfSome result (λ o. o.bits ≤ 64) }
     ensures is { IfSome result (IsOperationOf table.now part.now) }
 {
-    let Part::Plain(_, id) = part else {
-        return None;
-    };
-    if id.0 >= table.len() {
-        return None;
+    match part {
+        Part::Plain(_, id) => operation_of_type(table, at, *id),
+        _ => None,
     }
-    let (bits, meaning) = meaning_of(&table.row(*id).kind)?;
-    operation_at(*id, at, bits, meaning)
 }
 
-/// The operations of entries, one right behind the other, if each has one.
+/// The operations of entries, one right behind the other, up to the first entry that has none, and how many bits they have.
 fn operations_of(
     alloc: Global,
     table: &TypeTable,
     entries: &[Part],
-) -> Result<Option<Segment>, Memory>
+) -> Result<(Vec<Operation>, u32), Memory>
     requires { length entries.now ≤ 32767 }
-    ensures { IfOk result (λ o. IfSome o (λ s. AreOperationsOf table.now 0 s.bits entries.now s.operations.items)) }
+    ensures are { IfOk result (λ x. AreOperationsOf table.now 0 x.1 (take (length x.0.items) entries.now) x.0.items) }
+    ensures few { IfOk result (λ x. length x.0.items ≤ length entries.now) }
 {
-    let mut operations = Vec::with_capacity(alloc, entries.len())?;
+    let mut operations = Vec::new(alloc);
     let mut bits = 0;
     for part in entries {
         let Some(operation) = operation_of(table, bits, part) else {
-            return Ok(None);
+            return Ok((operations, bits));
         };
         bits += operation.bits;
         operations.push(operation)?;
     }
-    Ok(Some(Segment { operations, bits }))
+    Ok((operations, bits))
 }
 
-/// The segment of a container whose entries are all that it has, and are scalars.
+/// The fewest entries that are read by a segment where others follow them.
+const FEWEST: usize = 2;
+
+/// The segment of the scalars that a container begins with: of all its entries, where these are all that it has, or else of
+/// two at least.
 pub(crate) fn segment_of(
     alloc: Global,
     table: &TypeTable,
     id: TypeId,
 ) -> Result<Option<Segment>, Memory>
-    ensures { IfOk result (λ o. IfSome o (IsSegmentOf table.now id.0)) }
+    ensures { IfOk result (λ o. IfSome o (IsHeadOf table.now id.0)) }
 {
-    if is_straight(table, id) {
-        operations_of(alloc, table, table.entries_of(id))
-    } else {
-        Ok(None)
+    let entries = table.entries_of(id);
+    let (operations, bits) = operations_of(alloc, table, entries)?;
+    let whole = operations.len() == entries.len() && is_straight(table, id);
+    if !whole && operations.len() < FEWEST {
+        return Ok(None);
     }
+    Ok(Some(Segment {
+        operations,
+        bits,
+        whole,
+    }))
 }

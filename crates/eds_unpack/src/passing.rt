@@ -1,22 +1,22 @@
 //! Passing over a container by its segment.
 
 ghost use Rattle.std.specs.Prelude.{◌≡◌, ◌+◌, ◌^◌, ◌<◌, ◌≤◌, ℕ, List, Ok, Some, true, length, slice_get, IfSome};
-ghost use Rattle.std.specs.List.{All, AllByRecursion};
+ghost use Rattle.std.specs.List.{All};
 ghost use Rattle.eds_bits.specs.Bits.{bits_of, low_bits};
 ghost use Rattle.eds_bits.specs.IntForms.{number_of};
 ghost use Rattle.eds_bits.specs.Reader.{bits_left, view_bits};
 ghost use Rattle.eds_overlap.specs.Laws.{read_type};
-ghost use Rattle.eds_types.specs.Fields.{listed};
 ghost use Rattle.eds_types.specs.Plain.{Plain};
 ghost use Rattle.eds_types.specs.Reading.{named, ranged};
 ghost use Rattle.eds_types.specs.Rules.{KindKeeps};
+ghost use Rattle.eds_unpack.specs.Labels.{AreLabels};
 ghost use Rattle.eds_unpack.specs.Readers.{sized};
 ghost use Rattle.eds_unpack.specs.Segments.{HasValue, IsOperation, scalar_bits, scalar_of, value_in};
 ghost use Rattle.eds_unpack.specs.Walks.{type_of};
 
+use crate::lookup::label_of;
 use crate::segment::{Meaning, Operation};
 use crate::segments::Segments;
-use crate::skim::label_of;
 use crate::values::{made, number_of_bits, octets_left};
 use eds_base::{Spans, TypeId};
 use eds_bits::{BitReader, BitView, IntForm, decode_int};
@@ -33,10 +33,10 @@ fn has_integer(form: IntForm, spans: &Spans, number: u64) -> bool
     }
 }
 
-/// Whether these bits have a label of an enumerated type, in which each label is listed once.
+/// Whether these bits have a label of an enumerated type, in which each label and number is listed once.
 fn has_label(form: IntForm, listing: &Listing, number: u64) -> bool
     requires bound { number < 2 ^ form.bits }
-    requires once { AllByRecursion (λ e. listed listing.now e.0 ≡ Some e.1) listing.now }
+    requires once { AreLabels listing.now }
     ensures { result ≡ true → (v : Plain) × (named listing.now (number_of form (low_bits form.bits number)) ≡ Ok v) }
 {
     match decode_int(form, number) {

@@ -1,6 +1,6 @@
 //! How far the reader of a container has come.
 
-ghost use Rattle.std.specs.Prelude.{◌≡◌, ◌++◌, ◌∷◌, [], length, None, IfOk, OnOk};
+ghost use Rattle.std.specs.Prelude.{◌≡◌, ◌≤◌, ◌++◌, ◌∷◌, [], length, map, None, IfOk, OnOk};
 ghost use Rattle.eds_bits.specs.Bits.{octets_for};
 ghost use Rattle.eds_bits.specs.Reader.{bits_left};
 ghost use Rattle.eds_types.specs.Fields.{field_at};
@@ -8,6 +8,7 @@ ghost use Rattle.eds_types.specs.Plain.{plain};
 ghost use Rattle.eds_types.specs.Reading.{front, size_fits};
 ghost use Rattle.eds_types.specs.Spelling.{started};
 ghost use Rattle.eds_unpack.specs.Courses.{IsUnderWay, MovesOn, fields_of, progress_of};
+ghost use Rattle.eds_unpack.specs.Segments.{fields_from};
 
 use crate::fields::ReadField;
 use eds_base::{Memory, TypeId};
@@ -62,6 +63,25 @@ pub(crate) fn keep_field(
         value,
     };
     reached.fields.push(field)?;
+    Ok(())
+}
+
+/// Puts the values of the first entries of a container last.
+pub(crate) fn keep_values(
+    reached: &mut Reached<'_>,
+    container: TypeId,
+    values: Vec<Value>,
+) -> Result<(), Memory>
+    requires few { length values.items ≤ 32767 }
+    ensures fields { OnOk result (fields_of reached.new.fields.items ≡ fields_of reached.old.fields.items ++ fields_from container.0 0 (map plain values.items)) }
+    ensures octets { reached.new.octets ≡ reached.old.octets }
+    ensures start { reached.new.start ≡ reached.old.start }
+{
+    let mut place = 0;
+    for value in values {
+        keep_field(reached, container, place, value)?;
+        place += 1;
+    }
     Ok(())
 }
 

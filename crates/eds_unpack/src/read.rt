@@ -6,7 +6,7 @@ ghost use Rattle.eds_bits.specs.Reader.{bits_left};
 ghost use Rattle.eds_types.specs.Plain.{plain};
 ghost use Rattle.eds_base.specs.declared.fault.Step.TheVariants.{Part as ToPart};
 ghost use Rattle.eds_types.specs.Reading.{inside, read_within, read_kind, read_items as items_read, read_part as part_read, read_entry as entry_read, read_parts as parts_read, read_chain as chain_read, read_under as under_read, ended, read_to_end};
-ghost use Rattle.eds_types.specs.Rows.{placed_from, numbers_of};
+ghost use Rattle.eds_types.specs.Rows.{placed_from, placed_entries, numbers_of};
 ghost use Rattle.eds_base.specs.declared.ids.TypeId.{TypeId as Id};
 ghost use Rattle.eds_types.specs.Seeking.{trailers_in_turn};
 ghost use Rattle.eds_unpack.specs.Courses.{IsUnderWay, progress_of};
@@ -18,9 +18,11 @@ use crate::choice::{Next, next_container};
 use crate::constraint::check_constraints;
 use crate::expected::{expect_check, expect_value};
 use crate::fields::{count_at, values_of};
+use crate::head::{behind, head_values, read_head};
 use crate::octets::{read_octets, read_string, skip_padding};
 use crate::progress::{FEW, Reached, begin, has_told_size, keep_field};
 use crate::scalar::{read_integer, read_label, read_truth};
+use crate::scalars::read_scalars;
 use crate::segments::Segments;
 use crate::straight::{is_straight, type_of};
 use crate::sum::sum_before;
@@ -124,6 +126,9 @@ fn read_items(
     ensures calm { OnOk result (path.new ≡ []) }
     ensures reason { IfErr result StopsReading }
 {
+    if let Some(values) = read_scalars(level.alloc, level.table, id, count, reader)? {
+        return Ok(values);
+    }
     let mut values = Vec::new(level.alloc);
     let mut place: u32 = 0;
     while u128::from(place) < count {
@@ -167,7 +172,8 @@ fn read_field(
     }
 }
 
-/// Reads the fields of a container whose entries are all that it has.
+/// Reads the fields of a container whose entries are all that it has: those that it begins with by its segment, where that
+/// tells their values, and then the others one by one.
 #[cycle(read)]
 fn read_straight(
     level: &Level<'_>,
@@ -185,9 +191,12 @@ fn read_straight(
     ensures reason { IfErr result StopsReading }
 {
     let entries = level.table.entries_of(container);
-    let mut values = Vec::with_capacity(level.alloc, entries.len().min(FEW))?;
-    let mut place = 0;
-    for part in entries {
+    let mut values = head_values(level.alloc, level.table, level.segments, container, reader)?;
+    let first = values.len();
+    let rest = behind(entries, first);
+    values.reserve(rest.len().min(FEW))?;
+    let mut place = first as u16;
+    for part in rest {
         let value = read_field(level, container, place, type_of(part), path, reader)?;
         values.push(value)?;
         place += 1;
@@ -324,6 +333,40 @@ fn read_parts(
     Ok(())
 }
 
+/// Reads the entries of a container: those that it begins with by its segment, where that tells their values, and then the
+/// others one by one.
+#[cycle(read)]
+#[inline(always)]
+fn read_own(
+    level: &Level<'_>,
+    id: TypeId,
+    reached: &mut Reached<'_>,
+    path: &mut Path,
+    reader: &mut BitReader,
+) -> Result<(), Fail<Reason>>
+    requires inner { IsLow level.now.table.now (level.now.depth + 1) id.0 }
+    requires few { level.now.depth < 32 }
+    requires begun { IsUnderWay reached.old (bits_left reader.old) }
+    requires root { path.old ≡ [] }
+    ensures gives { Gives (λ u. (progress_of reached.new (bits_left reader.new), bits_left reader.new)) (with_path path.new result) (parts_read level.now.table.now (read_within level.now.depth level.now.table.now) (placed_entries level.now.table.now id.0) (progress_of reached.old (bits_left reader.old)) (bits_left reader.old)) }
+    ensures begun { OnOk result (IsUnderWay reached.new (bits_left reader.new)) }
+    ensures near { length path.new ≤ 2 * level.now.depth + 2 }
+    ensures calm { OnOk result (path.new ≡ []) }
+    ensures reason { IfErr result StopsReading }
+{
+    let entries = level.table.entries_of(id);
+    let first = read_head(
+        level.alloc,
+        level.table,
+        level.segments,
+        id,
+        reached,
+        reader,
+    )?;
+    let rest = behind(entries, usize::from(first));
+    read_parts(level, id, first, rest, reached, path, reader)
+}
+
 /// Reads the entries of a chain of containers, each behind its container's constraints.
 #[cycle(read)]
 #[tactic(auto, unfolding(eds_types::specs::Reading::read_chain))]
@@ -349,7 +392,7 @@ fn read_chain(
     for id in chain {
         let constraints = table.constraints_of(*id);
         check_constraints(table, constraints, reached.fields.as_slice(), path)?;
-        read_parts(level, *id, 0, table.entries_of(*id), reached, path, reader)?;
+        read_own(level, *id, reached, path, reader)?;
     }
     Ok(())
 }
@@ -417,7 +460,7 @@ fn read_under(
     table.keeps_rules();
     let mut at = id;
     for _ in 0..CHAIN {
-        match next_container(table, at, reached.fields.as_slice()) {
+        match next_container(table, level.segments, at, reached.fields.as_slice()) {
             Next::Stay => {
                 let chain = table.chain_of(at);
                 read_trailers(level, chain.as_slice(), reached, path, reader)?;
@@ -429,8 +472,7 @@ fn read_under(
             }
             Next::Nowhere => break,
             Next::Under(child) => {
-                let entries = table.entries_of(child);
-                read_parts(level, child, 0, entries, reached, path, reader)?;
+                read_own(level, child, reached, path, reader)?;
                 at = child;
             }
         }

@@ -53,6 +53,7 @@ pub(crate) fn recognise_front(
     let mut path = Path::root();
     let walk = Walk {
         table,
+        segments,
         notes,
         depth: NESTING,
     };

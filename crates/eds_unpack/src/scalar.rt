@@ -1,15 +1,15 @@
 //! Reading numbers, labels and truth values.
 
-ghost use Rattle.std.specs.Prelude.{◌≡◌, [], Some, Ok, IfErr};
-ghost use Rattle.std.specs.List.{AllByRecursion};
+ghost use Rattle.std.specs.Prelude.{◌≡◌, [], Ok, IfErr};
 ghost use Rattle.eds_bits.specs.IntForms.{number_of};
 ghost use Rattle.eds_bits.specs.Reader.{bits_left};
-ghost use Rattle.eds_types.specs.Fields.{listed};
 ghost use Rattle.eds_types.specs.Plain.{plain, truth};
 ghost use Rattle.eds_types.specs.Reading.{judge, read_bits, ranged, named, truth_of};
+ghost use Rattle.eds_unpack.specs.Labels.{AreLabels};
 ghost use Rattle.eds_unpack.specs.Readers.{Gives, with_path, StopsReading};
 
-use crate::skim::{label_of, number, skim_integer, skim_truth};
+use crate::lookup::label_of;
+use crate::skim::{number, skim_integer, skim_truth};
 use eds_base::{Fail, Reason, Spans, Text};
 use eds_bits::{BitReader, BoolForm, IntForm};
 use eds_types::{Listing, Value};
@@ -31,14 +31,14 @@ pub(crate) fn read_integer(
     }
 }
 
-/// Reads a label of an enumerated type, in which each label is listed once.
+/// Reads a label of an enumerated type, in which each label and number is listed once.
 pub(crate) fn read_label(
     alloc: Global,
     form: IntForm,
     listing: &Listing,
     reader: &mut BitReader,
 ) -> Result<Value, Fail<Reason>>
-    requires { AllByRecursion (λ e. listed listing.now e.0 ≡ Some e.1) listing.now }
+    requires { AreLabels listing.now }
     ensures gives { Gives (λ v. (plain v, bits_left reader.new)) (with_path [] result) (judge (λ c. named listing.now (number_of form c)) (read_bits form.bits (bits_left reader.old))) }
     ensures reason { IfErr result StopsReading }
 {

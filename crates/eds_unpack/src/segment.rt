@@ -1,6 +1,6 @@
 //! Containers as operations: entries at fixed places, which are read one after another.
 
-ghost use Rattle.std.specs.Prelude.{◌≡◌, ◌+◌, ◌-◌, ◌*◌, ◌^◌, ◌≤◌};
+ghost use Rattle.std.specs.Prelude.{◌≡◌, ◌+◌, ◌-◌, ◌*◌, ◌^◌, ◌≤◌, length};
 
 use eds_base::TypeId;
 
@@ -48,9 +48,12 @@ pub(crate) struct Operation {
     pub ghost greatest: { mask ≡ 2 ^ bits - 1 },
 }
 
-/// The operations of a container, and how many bits it has.
+/// The operations of the entries that a container begins with, how many bits these have, and whether the container's value is
+/// theirs alone.
 #[derive(Drop)]
 pub(crate) struct Segment {
     pub operations: Vec<Operation>,
     pub bits: u32,
+    pub whole: bool,
+    pub ghost few: { length operations.items ≤ 32767 },
 }

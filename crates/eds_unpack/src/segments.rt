@@ -1,10 +1,12 @@
 //! The segments of the containers of a table.
 
 ghost use Rattle.std.specs.Prelude.{◌≡◌, Some, slice_get, IfOk, IfSome};
-ghost use Rattle.eds_unpack.specs.Segments.{IsSegmentOf};
+ghost use Rattle.eds_unpack.specs.Segments.{IsHeadOf, IsSegmentOf};
+ghost use Rattle.eds_unpack.specs.Selectors.{IsSelectorOf};
 
 use crate::operations::segment_of;
 use crate::segment::Segment;
+use crate::selector::{Selector, selectors_of};
 use eds_base::{Memory, TypeId};
 use eds_types::TypeTable;
 use std::alloc::Global;
@@ -21,13 +23,26 @@ fn segment_at(each: &[Option<Segment>], id: TypeId) -> Option<&Segment>
     }
 }
 
-/// The containers of a table as lists of operations, made ready to read many values of any of its types (`unpack_by`): those
-/// whose entries are all that they have, and are scalars. It refers to its table.
+/// The selector at the number of a container, if there is one.
+#[inline(always)]
+fn selector_at(selectors: &[Option<Selector>], id: TypeId) -> Option<&Selector>
+    ensures { IfSome result (λ s. slice_get selectors.now id.0 ≡ Some (Some s.now)) }
+{
+    match selectors.get(id.0 as usize) {
+        Some(Some(selector)) => Some(selector),
+        _ => None,
+    }
+}
+
+/// The scalars that the containers of a table begin with as lists of operations, made ready to read many values of any of its
+/// types (`unpack_by`). With them are the selectors of containers with large families. It refers to its table.
 #[derive(Drop)]
 pub struct Segments<'a> {
     table: &'a TypeTable,
-    // each at the number of its type; not every container has one
+    // each at the number of its container; not every one has one
     each: Vec<Option<Segment>>,
+    // each at the number of its container; not every one has one
+    selectors: Vec<Option<Selector>>,
 }
 
 impl<'a> Model for Segments<'a> {
@@ -35,6 +50,7 @@ impl<'a> Model for Segments<'a> {
     ghost use Rattle.eds_types.specs.declared.row.TypeRow.{TypeRow};
     ghost use Rattle.eds_types.specs.contracts.value.Value as value;
     ghost use Rattle.eds_unpack.specs.Segments.{AreSegments};
+    ghost use Rattle.eds_unpack.specs.Selectors.{AreSelectors};
     ghost use Rattle.std.specs.Coded.{codes};
 
     ghost Value = { List TypeRow };
@@ -43,7 +59,7 @@ impl<'a> Model for Segments<'a> {
 
     ghost view = { λ s. s.table.now };
 
-    ghost invariant = { λ s. AreSegments s.table.now s.each.items };
+    ghost invariant = { λ s. AreSegments s.table.now s.each.items × AreSelectors s.table.now s.selectors.items };
 }
 
 impl<'a> Segments<'a> {
@@ -54,6 +70,7 @@ impl<'a> Segments<'a> {
         Segments {
             table,
             each: Vec::new(alloc),
+            selectors: Vec::new(alloc),
         }
     }
 
@@ -66,7 +83,12 @@ impl<'a> Segments<'a> {
             let segment = segment_of(alloc, table, TypeId(number))?;
             each.push(segment)?;
         }
-        Ok(Segments { table, each })
+        let selectors = selectors_of(alloc, table)?;
+        Ok(Segments {
+            table,
+            each,
+            selectors,
+        })
     }
 
     /// The table that they are of.
@@ -76,11 +98,30 @@ impl<'a> Segments<'a> {
         self.table
     }
 
-    /// The segment of a type, if it has one.
+    /// The segment of the first entries of a container, if it has one.
+    #[inline(always)]
+    pub(crate) fn head_of(&self, id: TypeId) -> Option<&Segment>
+        ensures { IfSome result (λ s. IsHeadOf self.now id.0 s.now) }
+    {
+        segment_at(self.each.as_slice(), id)
+    }
+
+    /// The segment of a container whose value is that of its entries alone, if it has one.
     #[inline(always)]
     pub(crate) fn find(&self, id: TypeId) -> Option<&Segment>
         ensures { IfSome result (λ s. IsSegmentOf self.now id.0 s.now) }
     {
-        segment_at(self.each.as_slice(), id)
+        match self.head_of(id) {
+            Some(segment) if segment.whole => Some(segment),
+            _ => None,
+        }
+    }
+
+    /// The selector of a container, if it has one.
+    #[inline(always)]
+    pub(crate) fn selector(&self, id: TypeId) -> Option<&Selector>
+        ensures { IfSome result (λ s. IsSelectorOf self.now id.0 s.now) }
+    {
+        selector_at(self.selectors.as_slice(), id)
     }
 }

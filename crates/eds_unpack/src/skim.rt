@@ -1,8 +1,6 @@
 //! Passing over numbers, labels, truth values, texts, binaries and padding, without memory.
 
 ghost use Rattle.std.specs.Prelude.{◌≡◌, ◌*◌, ◌/◌, ◌-◌, ◌^◌, ◌≤◌, ℕ, List, length, take, drop, true, false, Some, Ok, Err, IfOk, IfErr, OnOk};
-ghost use Rattle.std.specs.List.{AllByRecursion};
-ghost use Rattle.std.specs.Option.{option_copied};
 ghost use Rattle.eds_base.specs.declared.fault.Reason.TheVariants.{FixedDiffers};
 ghost use Rattle.eds_base.specs.Reading.{same as same_octets};
 ghost use Rattle.eds_bits.specs.Bits.{Bits, octets_of, unsigned_of};
@@ -14,13 +12,15 @@ ghost use Rattle.eds_bits.specs.Texts.{front_octets};
 ghost use Rattle.eds_types.specs.Failing.{fault_here};
 ghost use Rattle.eds_types.specs.Fields.{listed};
 ghost use Rattle.eds_types.specs.Plain.{Plain, plain, num, label, truth, text, bits as binary};
-ghost use Rattle.eds_types.specs.Reading.{Read, judge, read_bits, read_kind, read_text, ranged, named, label_of as label_found, truth_of, same, expected};
+ghost use Rattle.eds_types.specs.Reading.{Read, judge, read_bits, read_kind, read_text, ranged, named, truth_of, same, expected};
 ghost use Rattle.eds_types.specs.Rows.{Table};
 ghost use Rattle.eds_types.specs.Rules.{IsValueOf, KindKeeps};
 ghost use Rattle.eds_unpack.specs.Answers.{IsOfReading};
 ghost use Rattle.eds_unpack.specs.Entries.{read_number, reason_of as reason_of_fault};
+ghost use Rattle.eds_unpack.specs.Labels.{AreLabels};
 ghost use Rattle.eds_unpack.specs.Readers.{passed};
 
+use crate::lookup::label_of;
 use eds_base::{Octets, Reason, Spans, Text};
 use eds_bits::{BitReader, BoolForm, IntForm, TextForm, decode_int};
 use eds_codec::{TextFault, read_bool, skip_text};
@@ -61,27 +61,14 @@ pub(crate) fn skim_integer(
     }
 }
 
-/// The label that is listed with a number, where each label is listed once.
-pub(crate) fn label_of(listing: &Listing, number: i128) -> Option<&Text>
-    requires { AllByRecursion (λ e. listed listing.now e.0 ≡ Some e.1) listing.now }
-    ensures { option_copied result ≡ label_found listing.now listing.now number }
-{
-    for (label, n) in listing.as_slice() {
-        if *n == number {
-            return Some(label);
-        }
-    }
-    None
-}
-
-/// Passes a label of an enumerated type, in which each label is listed once, and tells its number.
+/// Passes a label of an enumerated type, in which each label and number is listed once, and tells its number.
 #[inline(always)]
 pub(crate) fn skim_label(
     form: IntForm,
     listing: &Listing,
     reader: &mut BitReader,
 ) -> Result<i128, Reason>
-    requires { AllByRecursion (λ e. listed listing.now e.0 ≡ Some e.1) listing.now }
+    requires { AreLabels listing.now }
     ensures read { IfOk result (λ n. (l : List ℕ) × (judge (λ d. named listing.now (number_of form d)) (read_bits form.bits (bits_left reader.old)) ≡ Ok (label l, bits_left reader.new)) × (listed listing.now l ≡ Some n)) }
     ensures fault { IfErr result (λ r. judge (λ d. named listing.now (number_of form d)) (read_bits form.bits (bits_left reader.old)) ≡ Err (fault_here r)) }
     ensures reason { IfErr result IsOfReading }
@@ -282,14 +269,14 @@ fn octets_of_text(form: TextForm, reader: BitReader<'_>) -> u64
     }
 }
 
-/// Passes a label of an enumerated type, in which each label is listed once, and tells whether it is this value.
+/// Passes a label of an enumerated type, in which each label and number is listed once, and tells whether it is this value.
 fn skim_label_as(
     form: IntForm,
     listing: &Listing,
     value: &Value,
     reader: &mut BitReader,
 ) -> Result<bool, Reason>
-    requires { AllByRecursion (λ e. listed listing.now e.0 ≡ Some e.1) listing.now }
+    requires { AreLabels listing.now }
     ensures read { IfOk result (λ x. (l : List ℕ) × (judge (λ d. named listing.now (number_of form d)) (read_bits form.bits (bits_left reader.old)) ≡ Ok (label l, bits_left reader.new)) × (x ≡ same (label l) (plain value.now))) }
     ensures fault { IfErr result (λ r. judge (λ d. named listing.now (number_of form d)) (read_bits form.bits (bits_left reader.old)) ≡ Err (fault_here r)) }
     ensures reason { IfErr result IsOfReading }

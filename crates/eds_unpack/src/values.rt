@@ -1,20 +1,22 @@
 //! Reading the values of a container by its segment.
 
-ghost use Rattle.std.specs.Prelude.{◌≡◌, ◌+◌, ◌*◌, ◌%◌, ◌^◌, ◌<◌, ◌≤◌, ℕ, List, Some, true, length, map, take, drop, slice_get, IfOk, IfSome, IfNone};
+ghost use Rattle.std.specs.Prelude.{◌≡◌, ◌+◌, ◌*◌, ◌%◌, ◌^◌, ◌<◌, ◌≤◌, ℕ, List, Result, Some, true, length, map, take, drop, slice_get, IfOk, IfSome, IfNone};
 ghost use Rattle.std.specs.Bool.{OnTrue};
-ghost use Rattle.std.specs.List.{All, AllByRecursion, AllZip};
-ghost use Rattle.eds_bits.specs.Bits.{bits_of, low_bits, unsigned_of};
+ghost use Rattle.std.specs.List.{All, AllZip};
+ghost use Rattle.eds_base.specs.declared.fault.Fault.{Fault};
+ghost use Rattle.eds_bits.specs.Bits.{Bits, bits_of, low_bits, unsigned_of};
 ghost use Rattle.eds_bits.specs.IntForms.{number_of};
 ghost use Rattle.eds_bits.specs.Reader.{bits_left};
-ghost use Rattle.eds_types.specs.Fields.{listed};
-ghost use Rattle.eds_types.specs.Plain.{plain, fields, plains_of};
+ghost use Rattle.eds_types.specs.Plain.{Plain, plain, fields, plains_of};
 ghost use Rattle.eds_types.specs.Reading.{named, ranged};
 ghost use Rattle.eds_types.specs.Rules.{KindKeeps};
-ghost use Rattle.eds_unpack.specs.Segments.{IsOperation, IsPut, IsSegmentOf, ReadsAs, Says, in_order, made, scalar_bits, scalar_of, value_in};
+ghost use Rattle.eds_unpack.specs.declared.segment.Meaning.TheVariants.{Number};
+ghost use Rattle.eds_unpack.specs.Labels.{AreLabels};
+ghost use Rattle.eds_unpack.specs.Segments.{Agrees, IsOperation, IsPut, IsSegmentOf, ReadsAs, Says, in_order, made, scalar_bits, scalar_of, value_in};
 
+use crate::lookup::label_of;
 use crate::segment::{Meaning, Numbers, Operation, Segment};
 use crate::segments::Segments;
-use crate::skim::label_of;
 use eds_base::{Memory, Spans, Text, TypeId};
 use eds_bits::{BitReader, IntForm, decode_int};
 use eds_types::{Kind, Listing, TypeTable, Value};
@@ -22,7 +24,7 @@ use std::alloc::Global;
 
 /// The unsigned number of eight octets, the most significant first.
 #[inline(always)]
-fn word_of(octets: &[u8]) -> u64
+pub(crate) fn word_of(octets: &[u8]) -> u64
     requires { length octets.now ≡ 8 }
     ensures { result ≡ unsigned_of (bits_of octets.now) }
 {
@@ -43,15 +45,16 @@ fn number_in_word(operation: &Operation, octets: &[u8]) -> u64
     word >> operation.pad & operation.mask
 }
 
-/// The number of an operation's bits, wherever they stand.
-fn number_ahead(operation: &Operation, reader: &BitReader<'_>) -> u64
-    requires { operation.now.at + operation.now.bits ≤ length (bits_left reader.now) }
-    ensures value { result ≡ unsigned_of (take operation.now.bits (drop operation.now.at (bits_left reader.now))) }
-    ensures bound { result < 2 ^ operation.now.bits }
+/// The number of so many bits from one of the bits on that are left, wherever they stand.
+pub(crate) fn number_ahead(at: u64, bits: u32, reader: &BitReader<'_>) -> u64
+    requires few { bits ≤ 64 }
+    requires enough { at + bits ≤ length (bits_left reader.now) }
+    ensures value { result ≡ unsigned_of (take bits (drop at (bits_left reader.now))) }
+    ensures bound { result < 2 ^ bits }
 {
     let mut ahead = *reader;
-    ahead.skip(u64::from(operation.at));
-    match ahead.take(operation.bits) {
+    ahead.skip(at);
+    match ahead.take(bits) {
         Some(number) => number,
         None => 0,
     }
@@ -79,7 +82,7 @@ pub(crate) fn number_of_bits(operation: &Operation, octets: &[u8], reader: &BitR
     if operation.first as usize + 8 <= octets.len() {
         number_in_word(operation, octets)
     } else {
-        number_ahead(operation, reader)
+        number_ahead(u64::from(operation.at), operation.bits, reader)
     }
 }
 
@@ -117,6 +120,29 @@ pub(crate) fn made(numbers: Numbers, bits: u32, number: u64) -> i64
     }
 }
 
+/// Puts what the number of so many bits stands for last, if it is of the domain.
+#[inline(always)]
+pub(crate) fn put_number(
+    numbers: Numbers,
+    bits: u32,
+    number: u64,
+    values: &mut Vec<Value>,
+) -> Result<bool, Memory>
+    requires some { 1 ≤ bits }
+    requires few { bits ≤ 62 }
+    requires whole { numbers.little ≡ true → bits % 8 ≡ 0 }
+    requires bound { number < 2 ^ bits }
+    ensures more { IfOk result (λ put. OnTrue put (length values.new.items ≡ length values.old.items + 1)) }
+    ensures put { (value : Bits → Result Plain Fault) → Agrees value bits (Number numbers) → IfOk result (λ put. OnTrue put (IsPut (value (low_bits bits number)) values.old.items values.new.items)) }
+{
+    let found = made(numbers, bits, number);
+    if found < numbers.low || numbers.high < found {
+        return Ok(false);
+    }
+    values.push(Value::Num(i128::from(found)))?;
+    Ok(true)
+}
+
 /// Puts the number of an integer type last, if these bits have one in its domain.
 fn put_integer(
     form: IntForm,
@@ -137,7 +163,7 @@ fn put_integer(
     Ok(true)
 }
 
-/// Puts the label of an enumerated type last, in which each label is listed once, if these bits have one.
+/// Puts the label of an enumerated type last, in which each label and number is listed once, if these bits have one.
 fn put_label(
     alloc: Global,
     form: IntForm,
@@ -146,7 +172,7 @@ fn put_label(
     values: &mut Vec<Value>,
 ) -> Result<bool, Memory>
     requires bound { number < 2 ^ form.bits }
-    requires once { AllByRecursion (λ e. listed listing.now e.0 ≡ Some e.1) listing.now }
+    requires once { AreLabels listing.now }
     ensures { IfOk result (λ put. OnTrue put (IsPut (named listing.now (number_of form (low_bits form.bits number))) values.old.items values.new.items)) }
 {
     let Some(found) = decode_int(form, number) else {
@@ -181,7 +207,7 @@ fn put_told(
 
 /// Puts the value of an operation last, if its bits have one.
 #[inline(always)]
-fn put_value(
+pub(crate) fn put_value(
     alloc: Global,
     table: &TypeTable,
     operation: &Operation,
@@ -193,14 +219,7 @@ fn put_value(
     ensures { IfOk result (λ put. OnTrue put (IsPut (value_in (slice_get table.now operation.now.id.0) (low_bits operation.now.bits number)) values.old.items values.new.items)) }
 {
     match operation.meaning {
-        Meaning::Number(numbers) => {
-            let found = made(numbers, operation.bits, number);
-            if found < numbers.low || numbers.high < found {
-                return Ok(false);
-            }
-            values.push(Value::Num(i128::from(found)))?;
-            Ok(true)
-        }
+        Meaning::Number(numbers) => put_number(numbers, operation.bits, number, values),
         Meaning::Truth(zero_is_false) => {
             values.push(Value::Bool((number != 0) == zero_is_false))?;
             Ok(true)
@@ -213,7 +232,7 @@ fn put_value(
 }
 
 /// The values of operations, if the bits of each have one.
-fn values_of(
+pub(crate) fn values_of(
     alloc: Global,
     table: &TypeTable,
     operations: &[Operation],

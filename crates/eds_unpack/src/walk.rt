@@ -24,6 +24,7 @@ use crate::chosen::next_noted;
 use crate::noted::{check_noted, count_noted, note_field};
 use crate::notes::Notes;
 use crate::progress::{bits_between, is_told_size};
+use crate::segments::Segments;
 use crate::skim::{
     skim_fixed, skim_integer, skim_label, skim_octets, skim_padding, skim_text, skim_truth,
 };
@@ -34,13 +35,15 @@ use eds_base::{Path, Reason, Step, TypeId};
 use eds_bits::BitReader;
 use eds_types::{Kind, Part, TypeRow, TypeTable};
 
-/// What values are passed over by: the table, the paths that are asked for, and how many types are nested in each other at
-/// most.
+/// What values are passed over by: the table, the segments of its containers, the paths that are asked for, and how many types
+/// are nested in each other at most.
 #[derive(Drop)]
 pub(crate) struct Walk<'a> {
     pub table: &'a TypeTable,
+    pub segments: &'a Segments<'a>,
     pub notes: &'a Notes,
     pub depth: u32,
+    pub ghost right: { segments.now ≡ table.now },
 }
 
 /// What is seen of a value: its most derived container, or its type where it is none, and its number, where it has one.
@@ -85,6 +88,7 @@ pub(crate) fn walk_value(
 {
     let inner = Walk {
         table: walk.table,
+        segments: walk.segments,
         notes: walk.notes,
         depth: walk.depth - 1,
     };
@@ -512,7 +516,7 @@ fn walk_under(
     table.keeps_rules();
     let mut at = id;
     for _ in 0..CHAIN {
-        match next_noted(table, walk.notes, numbers, at) {
+        match next_noted(table, walk.segments, walk.notes, numbers, at) {
             Next::Stay => {
                 let chain = table.chain_of(at);
                 let chain = chain.as_slice();

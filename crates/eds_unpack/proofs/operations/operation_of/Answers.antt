@@ -1,9 +1,6 @@
-use Rattle.std.proofs.Common.{Some, ap}
-use Rattle.eds_types.specs.Fields.{type_by}
-use Rattle.eds_unpack.proofs.Meanings.{operation_is}
+use Rattle.eds_unpack.proofs.Meanings.{entry_operation}
 use Rattle.eds_unpack.proofs.operations.operation_of.Goals as goal
 
-pub returns-clause-is : goal.returns-clause-is
-returns-clause-is c =
-    operation_is c.args.table.now c.args.part.now c.in-Plain.id c.row.result.now c.in_ok-bits.bits c.in_ok-bits.meaning c.operation_at.result (ap (λ p. type_by (Some p)) c.in-Plain.is) c.row.ensures
-    c.in_ok-bits.ensures.size c.in_ok-bits.ensures.agrees c.operation_at.ensures.typed c.operation_at.ensures.size c.operation_at.ensures.meaning c.operation_at.ensures.sure
+pub returns-in-Plain-clause-is : goal.returns-in-Plain-clause-is
+returns-in-Plain-clause-is c =
+    entry_operation c.args.table.now c.args.part.now c.in-Plain.field-0 c.in-Plain.id c.operation_of_type.result c.in-Plain.is c.operation_of_type.ensures.typed c.operation_of_type.ensures.is

@@ -1,6 +1,6 @@
-use Rattle.std.proofs.Common.{◌≡◌, ◌+◌, ◌≤◌, length, Ok, sym, ap, subst, arith}
+use Rattle.std.proofs.Common.{◌≡◌, ◌+◌, ◌≤◌, length, Ok, sym, subst, arith}
 use Rattle.std.specs.List.{All}
-use Rattle.eds_bits.specs.Reader.{bits_left, view_bits}
+use Rattle.eds_bits.specs.Reader.{bits_left}
 use Rattle.eds_overlap.specs.Laws.{read_type}
 use Rattle.eds_types.specs.Plain.{Plain}
 use Rattle.eds_types.specs.Rows.{Table}

@@ -1,4 +1,3 @@
-use Rattle.std.proofs.Common.{arith}
 use Rattle.eds_bits.specs.Reader.{bits_left}
 use Rattle.eds_unpack.proofs.SegmentReads.{said, sure_value}
 use Rattle.eds_unpack.proofs.passing.passes.Goals as goal

@@ -1,17 +1,18 @@
-use Rattle.std.proofs.Common.{◌≡◌, ◌∙◌, ◌+◌, ◌-◌, [], ◌∷◌, ◌++◌, length, map, get_or, true, false, refl, ap, sym, subst, Ok, Err, Some, rules, arith, drop}
+use Rattle.std.proofs.Common.{◌≡◌, ◌∙◌, ◌+◌, ◌-◌, List, [], ◌∷◌, ◌++◌, length, map, get_or, true, false, refl, ap, ap₂, sym, subst, Ok, Err, Some, rules, arith, drop, length-drop}
 use Rattle.std.specs.List.{AllByRecursion, list_all}
-use Rattle.std.proofs.lemmas.List.{drop_all, length-take, map-append}
+use Rattle.std.proofs.lemmas.List.{drop_all, length-map, length-take, map-append}
 use Rattle.std.proofs.lemmas.Result.{err_from_is_err_and}
 use Rattle.eds_base.specs.declared.ids.TypeId.{TypeId}
 use Rattle.eds_base.specs.declared.fault.Reason.TheVariants.{LengthDiffers, NoDerived}
 use Rattle.eds_base.specs.declared.fault.Step.TheVariants as step
 use Rattle.eds_types.specs.Failing.{fault_at}
 use Rattle.eds_bits.specs.Reader.{bits_left}
+use Rattle.eds_types.specs.declared.value.Value.{Value}
 use Rattle.eds_types.specs.Fields.{type_by, field_at, value_at}
 use Rattle.eds_types.specs.Plain.{plain, fields, plains_of}
-use Rattle.eds_types.specs.Reading.{read_within, read_parts, next}
+use Rattle.eds_types.specs.Reading.{read_within, check_all, next}
 use Rattle.eds_types.specs.Spelling.{count_in}
-use Rattle.eds_types.specs.Rows.{chain, placed_from, numbers_of}
+use Rattle.eds_types.specs.Rows.{chain, entries_of, numbers_of}
 use Rattle.eds_types.specs.Choices.{IsNear}
 use Rattle.eds_types.proofs.Candidates.{numbers_are}
 use Rattle.eds_types.proofs.PlainValues.{plain_items, plain_fields}
@@ -22,9 +23,10 @@ use Rattle.eds_unpack.proofs.Labels.{kind_listed}
 use Rattle.eds_unpack.proofs.Levels.{next_level}
 use Rattle.eds_unpack.proofs.OnReads.{value_moves, items_move, pad_moves}
 use Rattle.eds_unpack.proofs.Ranks.{all_at, chain_is_low, child_is_low, item_is_read}
-use Rattle.eds_unpack.proofs.Steps.{stops_as, last_low, front_low, near_low, near_most, entries_low, trailers_low, under_way, told_way, begins, is_started, plain_part, list_part, fixed_part, check_part, pad_part, length_part, length_number, items_more, trailers_stop, trailers_go, trailers_done, stay_stops, stay_ends, nowhere_is, under_stops, under_goes, under_ends, chain_stops, end_stops, container_reads}
+use Rattle.eds_unpack.proofs.SegmentReads.{head_goes, head_straight, parts_behind, straight_behind}
+use Rattle.eds_unpack.proofs.Steps.{stops_as, last_low, front_low, near_low, near_most, entries_low, trailers_low, under_way, told_way, begins, is_started, plain_part, list_part, fixed_part, check_part, pad_part, length_part, length_number, items_more, trailers_stop, trailers_go, trailers_done, stay_stops, stay_ends, nowhere_is, under_stops, under_goes, under_ends, chain_refused, chain_fails, chain_stops, end_stops, container_reads}
 use Rattle.eds_unpack.specs.Straight.{is_straight_entry}
-use Rattle.eds_unpack.proofs.StraightReads.{IsStraightSoFar, part_left, first_type, first_straight, straight_begins, straight_stops, straight_goes, straight_done, straight_ends, straight_fails, entries_straight}
+use Rattle.eds_unpack.proofs.StraightReads.{IsStraightSoFar, part_left, first_type, first_straight, straight_stops, straight_goes, straight_done, straight_ends, straight_fails, entries_straight}
 use Rattle.eds_unpack.proofs.read.+read.Goals as goal
 use Rattle.eds_unpack.proofs.read.+read.Goals.{read_under-else-loop-test, read_under-then-loop-test+in-Nowhere}
 
@@ -101,44 +103,53 @@ read_part-returns-in_ok-keep_field-in-List-clause-begun t c =
 
 -- ---- containers that are read straight
 
+pub read_straight-behind-rest-requires : goal.read_straight-behind-rest-requires
+read_straight-behind-rest-requires t c =
+    let few = c.in_ok-values.ensures.few in
+    omega (arith, few, c.len-first.ensures, ap length c.entries_of-entries.ensures.value)
+
 pub read_straight-loop-part-init : goal.read_straight-loop-part-init
-read_straight-loop-part-init t c = record {
-  root = c.requires.root;
-  inner = subst (AllByRecursion (PartIsRead c.args.level.now.table.now c.args.level.now.depth)) (sym c.entries_of-entries.ensures.value) (entries_low c.args.level.now.table.now c.args.level.now.depth c.args.container.0 c.requires.inner);
-  straight = ap (list_all (is_straight_entry c.args.level.now.table.now)) c.entries_of-entries.ensures.value ∙ entries_straight c.args.level.now.table.now c.args.container.0 c.requires.straight;
-  many = refl;
-  few = c.entries_of-entries.ensures.few;
-  read = straight_begins c.args.level.now.table.now (read_within c.args.level.now.depth c.args.level.now.table.now) c.args.container.0 (bits_left c.args.reader.now) c.entries_of-entries.result.now _ c.entries_of-entries.ensures.value (ap (map plain) c.in_ok-values.ensures.items);
-}
+read_straight-loop-part-init t c =
+    let rest : c.behind-rest.result.now ≡ drop c.len-first.result (entries_of c.args.level.now.table.now c.args.container.0) = c.behind-rest.ensures ∙ ap (λ ps. drop c.len-first.result ps) c.entries_of-entries.ensures.value in
+    let count : length (map plain c.in_ok-values.values.items) ≡ c.len-first.result = omega (arith, length-map c.in_ok-values.values.items plain, c.len-first.ensures) in
+    let most = c.in_ok-values.ensures.most in
+    let few = c.in_ok-values.ensures.few in
+    record {
+      root = c.requires.root;
+      inner = subst (AllByRecursion (PartIsRead c.args.level.now.table.now c.args.level.now.depth)) (sym rest) (parts_behind (PartIsRead c.args.level.now.table.now c.args.level.now.depth) c.len-first.result (entries_of c.args.level.now.table.now c.args.container.0) (entries_low c.args.level.now.table.now c.args.level.now.depth c.args.container.0 c.requires.inner));
+      straight = ap (list_all (is_straight_entry c.args.level.now.table.now)) rest ∙ straight_behind c.args.level.now.table.now c.len-first.result (entries_of c.args.level.now.table.now c.args.container.0) (entries_straight c.args.level.now.table.now c.args.container.0 c.requires.straight);
+      few = omega (arith, most, few, count, length-map c.in_ok-values.values.items plain, ap length rest, length-drop c.len-first.result (entries_of c.args.level.now.table.now c.args.container.0), ap length c.entries_of-entries.ensures.value, c.entries_of-entries.ensures.few);
+      read = subst (λ (xs : List Value). IsStraightSoFar c.args.level.now.table.now (read_within c.args.level.now.depth c.args.level.now.table.now) c.args.container.0 (bits_left c.args.reader.now) c.len-first.result c.behind-rest.result.now (map plain xs) (bits_left c.head_values.new.reader)) (sym c.reserve.ensures.items)
+          (head_straight c.args.level.now.table.now c.args.level.now.depth c.args.container.0 c.len-first.result (bits_left c.args.reader.now) (bits_left c.head_values.new.reader) c.behind-rest.result.now (map plain c.in_ok-values.values.items) c.requires.inner c.in_ok-values.ensures.begins count rest);
+    }
 
 pub read_straight-read_field-requires : goal.read_straight-read_field-requires
 read_straight-read_field-requires t c =
-    let first = part_left c.entries_of-entries.result.now c.loop-part.part-index c.part-item.result (omega arith) c.part-item.is in
+    let first = part_left c.behind-rest.result.now c.loop-part.part-index c.part-item.result (omega arith) c.part-item.is in
     let parts = subst (AllByRecursion (PartIsRead c.args.level.now.table.now c.args.level.now.depth)) first c.loop-part.invariant.inner in
-    let plain_one = first_straight c.args.level.now.table.now (drop c.loop-part.part-index c.entries_of-entries.result.now) _ c.part-item.result first c.loop-part.invariant.straight in
+    let plain_one = first_straight c.args.level.now.table.now (drop c.loop-part.part-index c.behind-rest.result.now) _ c.part-item.result first c.loop-part.invariant.straight in
     (omega arith, (parts.0.inner c.type_of.result.0 (first_type c.args.level.now.table.now c.part-item.result c.type_of.result.0 plain_one.0 c.type_of.ensures), (c.requires.few, c.loop-part.invariant.root)))
 
 pub read_straight-returns-in_err-value-clause-gives : goal.read_straight-returns-in_err-value-clause-gives
 read_straight-returns-in_err-value-clause-gives t c =
     let p = err_from_is_err_and c.from_residual-in_err-value.result c.from_residual-in_err-value.ensures.1 in
-    let first = part_left c.entries_of-entries.result.now c.loop-part.part-index c.part-item.result (omega arith) c.part-item.is in
-    let plain_one = first_straight c.args.level.now.table.now (drop c.loop-part.part-index c.entries_of-entries.result.now) _ c.part-item.result first c.loop-part.invariant.straight in
+    let first = part_left c.behind-rest.result.now c.loop-part.part-index c.part-item.result (omega arith) c.part-item.is in
+    let plain_one = first_straight c.args.level.now.table.now (drop c.loop-part.part-index c.behind-rest.result.now) _ c.part-item.result first c.loop-part.invariant.straight in
     let so = subst (λ ps. IsStraightSoFar c.args.level.now.table.now (read_within c.args.level.now.depth c.args.level.now.table.now) c.args.container.0 (bits_left c.args.reader.now) c.loop-part.place ps (map plain c.loop-part.values.items) (bits_left c.loop-part.reader)) first c.loop-part.invariant.read in
     rw (p.1, p.2) (straight_fails c.args.level.now.table.now c.args.container.0 c.requires.straight (read_within c.args.level.now.depth c.args.level.now.table.now) (bits_left c.args.reader.now) _
     (straight_stops c.args.level.now.table.now (read_within c.args.level.now.depth c.args.level.now.table.now) c.args.container.0 (bits_left c.args.reader.now) c.loop-part.place c.part-item.result _ _ _ so c.type_of.result.0 plain_one.0 (first_type c.args.level.now.table.now c.part-item.result c.type_of.result.0 plain_one.0 c.type_of.ensures) _ c.in_err-value.ensures.gives))
 
 pub read_straight-loop-part-preserved : goal.read_straight-loop-part-preserved
 read_straight-loop-part-preserved t c =
-    let first = part_left c.entries_of-entries.result.now c.loop-part.part-index c.part-item.result (omega arith) c.part-item.is in
+    let first = part_left c.behind-rest.result.now c.loop-part.part-index c.part-item.result (omega arith) c.part-item.is in
     let parts = subst (AllByRecursion (PartIsRead c.args.level.now.table.now c.args.level.now.depth)) first c.loop-part.invariant.inner in
-    let plain_one = first_straight c.args.level.now.table.now (drop c.loop-part.part-index c.entries_of-entries.result.now) _ c.part-item.result first c.loop-part.invariant.straight in
+    let plain_one = first_straight c.args.level.now.table.now (drop c.loop-part.part-index c.behind-rest.result.now) _ c.part-item.result first c.loop-part.invariant.straight in
     let so = subst (λ ps. IsStraightSoFar c.args.level.now.table.now (read_within c.args.level.now.depth c.args.level.now.table.now) c.args.container.0 (bits_left c.args.reader.now) c.loop-part.place ps (map plain c.loop-part.values.items) (bits_left c.loop-part.reader)) first c.loop-part.invariant.read in
     record {
       root = c.in_ok-value.ensures.calm;
       inner = parts.1;
       straight = plain_one.1;
-      many = omega (arith, c.loop-part.invariant.many);
-      few = c.loop-part.invariant.few;
+      few = omega (arith, c.loop-part.invariant.few);
       read = straight_goes c.args.level.now.table.now (read_within c.args.level.now.depth c.args.level.now.table.now) c.args.container.0 (bits_left c.args.reader.now) c.loop-part.place c.part-item.result _ (map plain c.loop-part.values.items) (bits_left c.loop-part.reader) so c.type_of.result.0 plain_one.0 (first_type c.args.level.now.table.now c.part-item.result c.type_of.result.0 plain_one.0 c.type_of.ensures) (plain c.in_ok-value.value) (map plain c.push.new.self.items) (bits_left c.read_field.new.reader)
           (ap (map plain) c.in_ok-push.ensures.items ∙ map-append plain c.loop-part.values.items (c.in_ok-value.value ∷ [])) c.in_ok-value.ensures.gives;
     }
@@ -147,7 +158,7 @@ pub read_straight-returns-clause-gives : goal.read_straight-returns-clause-gives
 read_straight-returns-clause-gives t c =
     let so = c.loop-part.invariant.read in
     straight_ends c.args.level.now.table.now c.args.container.0 c.requires.straight (read_within c.args.level.now.depth c.args.level.now.table.now) (bits_left c.args.reader.now) so.s (bits_left c.loop-part.reader) so.octets
-    (straight_done c.args.level.now.table.now (read_within c.args.level.now.depth c.args.level.now.table.now) c.args.container.0 (bits_left c.args.reader.now) c.loop-part.place (drop c.loop-part.part-index c.entries_of-entries.result.now) (map plain c.loop-part.values.items) (bits_left c.loop-part.reader) so (drop_all c.loop-part.part-index c.entries_of-entries.result.now (omega arith)))
+    (straight_done c.args.level.now.table.now (read_within c.args.level.now.depth c.args.level.now.table.now) c.args.container.0 (bits_left c.args.reader.now) c.loop-part.place (drop c.loop-part.part-index c.behind-rest.result.now) (map plain c.loop-part.values.items) (bits_left c.loop-part.reader) so (drop_all c.loop-part.part-index c.behind-rest.result.now (omega arith)))
     ∙ ap (λ us. Ok (fields c.args.container.0 (plains_of us), bits_left c.loop-part.reader)) so.values
     ∙ ap (λ v. Ok (v, bits_left c.loop-part.reader)) (sym (plain_fields c.args.container c.loop-part.values))
 
@@ -164,15 +175,50 @@ read_chain-returns-in_err-check_constraints-clause-near t c =
     let most = c.in_err-check_constraints.ensures.near (c.args.level.now.depth + 1) (subst (AllByRecursion (IsNear (c.args.level.now.depth + 1))) (sym c.constraints_of-constraints.ensures) (near_low c.args.level.now.table.now c.args.level.now.depth (get_or c.args.chain.now c.loop-id.id-index (record { 0 = 0 })).0 low)) in
     omega arith
 
-pub read_chain-read_parts-requires : goal.read_chain-read_parts-requires
-read_chain-read_parts-requires t c =
+pub read_chain-read_own-requires : goal.read_chain-read_own-requires
+read_chain-read_own-requires t c =
     let low = all_at (λ (id : TypeId). IsLow c.args.level.now.table.now (c.args.level.now.depth + 1) id.0) c.args.chain.now c.loop-id.id-index (record { 0 = 0 }) (omega arith) c.requires.inner in (
       omega arith,
+      (low, (c.requires.few, (c.loop-id.invariant.begun, c.in_ok-check_constraints.ensures.calm))),
+    )
+
+pub read_chain-returns-in_err-check_constraints-clause-gives : goal.read_chain-returns-in_err-check_constraints-clause-gives
+read_chain-returns-in_err-check_constraints-clause-gives t c =
+    let p = err_from_is_err_and c.from_residual.result c.from_residual.ensures.1 in
+    rw (p.1, p.2) (chain_refused c.args.level.now.table.now (read_within c.args.level.now.depth c.args.level.now.table.now) c.args.chain.now c.loop-id.id-index (record { 0 = 0 }) (progress_of c.loop-id.reached (bits_left c.loop-id.reader)) (bits_left c.loop-id.reader) _ (omega arith) c.loop-id.invariant.read (stop_at c.check_constraints.new.path c.in_err-check_constraints.field-0.0)
+    (stops_as (stop_at c.check_constraints.new.path c.in_err-check_constraints.field-0.0) _ _ (ap₂ (λ cs fs. check_all c.args.level.now.table.now cs (fields_of fs)) c.constraints_of-constraints.ensures c.as_slice.ensures.value) c.in_err-check_constraints.ensures.gives))
+
+pub read_chain-returns-in_err-read_own-clause-gives : goal.read_chain-returns-in_err-read_own-clause-gives
+read_chain-returns-in_err-read_own-clause-gives t c =
+    let p = err_from_is_err_and c.from_residual-in_err-read_own.result c.from_residual-in_err-read_own.ensures.1 in
+    rw (p.1, p.2) (chain_fails c.args.level.now.table.now (read_within c.args.level.now.depth c.args.level.now.table.now) c.args.chain.now c.loop-id.id-index (record { 0 = 0 }) (progress_of c.loop-id.reached (bits_left c.loop-id.reader)) (bits_left c.loop-id.reader) _ (omega arith) c.loop-id.invariant.read (stop_at c.read_own.new.path c.in_err-read_own.field-0.0)
+    (sym (ap₂ (λ cs fs. check_all c.args.level.now.table.now cs (fields_of fs)) c.constraints_of-constraints.ensures c.as_slice.ensures.value) ∙ c.in_ok-check_constraints.ensures.gives) c.in_err-read_own.ensures.gives)
+
+pub read_own-behind-rest-requires : goal.read_own-behind-rest-requires
+read_own-behind-rest-requires t c =
+    let few = c.in_ok-first.ensures.few in
+    omega (arith, few, c.from.ensures, ap length c.entries_of-entries.ensures.value)
+
+pub read_own-read_parts-requires : goal.read_own-read_parts-requires
+read_own-read_parts-requires t c =
+    let rest = c.behind-rest.ensures ∙ ap₂ (λ k ps. drop k ps) c.from.ensures c.entries_of-entries.ensures.value in
+    let few = c.in_ok-first.ensures.few in (
+      omega arith,
       (
-        subst (AllByRecursion (PartIsRead c.args.level.now.table.now c.args.level.now.depth)) (sym c.entries_of.ensures.value) (entries_low c.args.level.now.table.now c.args.level.now.depth (get_or c.args.chain.now c.loop-id.id-index (record { 0 = 0 })).0 low),
-        (omega (arith, c.entries_of.ensures.few), (c.requires.few, (c.loop-id.invariant.begun, c.in_ok-check_constraints.ensures.calm))),
+        subst (AllByRecursion (PartIsRead c.args.level.now.table.now c.args.level.now.depth)) (sym rest) (parts_behind (PartIsRead c.args.level.now.table.now c.args.level.now.depth) c.in_ok-first.first (entries_of c.args.level.now.table.now c.args.id.0) (entries_low c.args.level.now.table.now c.args.level.now.depth c.args.id.0 c.requires.inner)),
+        (
+          omega (arith, few, ap length rest, length-drop c.in_ok-first.first (entries_of c.args.level.now.table.now c.args.id.0), ap length c.entries_of-entries.ensures.value, c.entries_of-entries.ensures.few),
+          (c.requires.few, (c.in_ok-first.ensures.begun, c.requires.root)),
+        ),
       ),
     )
+
+pub read_own-returns-clause-gives : goal.read_own-returns-clause-gives
+read_own-returns-clause-gives t c =
+    let rest = c.behind-rest.ensures ∙ ap₂ (λ k ps. drop k ps) c.from.ensures c.entries_of-entries.ensures.value in
+    subst (λ r. Gives (λ u. (progress_of c.read_parts.new.reached (bits_left c.read_parts.new.reader), bits_left c.read_parts.new.reader)) (with_path c.read_parts.new.path c.read_parts.result) r)
+    (sym (head_goes c.args.level.now.table.now c.args.level.now.depth c.args.id.0 c.in_ok-first.first (progress_of c.args.reached.now (bits_left c.args.reader.now)) (progress_of c.read_head.new.reached (bits_left c.read_head.new.reader)) (bits_left c.args.reader.now) (bits_left c.read_head.new.reader) c.behind-rest.result.now c.requires.inner rest c.in_ok-first.ensures.read))
+    c.read_parts.ensures.gives
 
 pub read_trailers-read_parts-requires : goal.read_trailers-read_parts-requires
 read_trailers-read_parts-requires t c =
@@ -307,23 +353,23 @@ read_under-returns-in-Stay-clause-gives t c =
     stay_ends c.args.level.now.table.now (read_within c.args.level.now.depth c.args.level.now.table.now) c.loop.counter c.loop.at.0 (omega (arith, c.loop-test.true)) (progress_of c.loop.reached (bits_left c.loop.reader)) (bits_left c.loop.reader) c.as_slice-in-Stay.result.now (progress_of c.read_trailers.new.reached (bits_left c.read_trailers.new.reader)) (bits_left c.read_trailers.new.reader) _ false (c.in-Stay.ensures ∙ ap (λ fs. next c.args.level.now.table.now c.loop.at.0 (fields_of fs)) c.as_slice.ensures.value) (c.as_slice-in-Stay.ensures.value ∙ c.chain_of-chain.ensures) c.loop.invariant.read c.in_ok-read_trailers-in-Stay.ensures.gives c.if-has_told_size.ensures
     ∙ ap (λ p. Err (fault_at LengthDiffers p)) (sym c.tell_length.ensures.value)
 
-pub read_under-read_parts-requires : goal.read_under-read_parts-requires
-read_under-read_parts-requires t c =
+pub read_under-read_own-requires : goal.read_under-read_own-requires
+read_under-read_own-requires t c =
     let low = child_is_low c.args.level.now.table.now c.loop.invariant.low.rules (c.args.level.now.depth + 1) c.loop.at.0 c.in-Under.child.0 (fields_of c.loop.reached.fields.items) c.loop.invariant.low.low (c.in-Under.ensures ∙ ap (λ fs. next c.args.level.now.table.now c.loop.at.0 (fields_of fs)) c.as_slice.ensures.value) in
-    (omega arith, (subst (AllByRecursion (PartIsRead c.args.level.now.table.now c.args.level.now.depth)) (sym c.entries_of-entries.ensures.value) (entries_low c.args.level.now.table.now c.args.level.now.depth c.in-Under.child.0 low), (omega (arith, c.entries_of-entries.ensures.few), (c.requires.few, (c.loop.invariant.begun, c.loop.invariant.root)))))
+    (omega arith, (low, (c.requires.few, (c.loop.invariant.begun, c.loop.invariant.root))))
 
-pub read_under-returns-in_err-read_parts-in-Under-clause-gives : goal.read_under-returns-in_err-read_parts-in-Under-clause-gives
-read_under-returns-in_err-read_parts-in-Under-clause-gives t c =
-    let p = err_from_is_err_and c.from_residual-in_err-read_parts-in-Under.result c.from_residual-in_err-read_parts-in-Under.ensures.1 in
-    rw (p.1, p.2) (under_stops c.args.level.now.table.now (read_within c.args.level.now.depth c.args.level.now.table.now) c.loop.counter c.loop.at.0 (omega (arith, c.loop-test.true)) (progress_of c.loop.reached (bits_left c.loop.reader)) (bits_left c.loop.reader) c.in-Under.child.0 (stop_at c.read_parts.new.path c.in_err-read_parts-in-Under.field-0.0) _ (c.in-Under.ensures ∙ ap (λ fs. next c.args.level.now.table.now c.loop.at.0 (fields_of fs)) c.as_slice.ensures.value) c.loop.invariant.read (stops_as (stop_at c.read_parts.new.path c.in_err-read_parts-in-Under.field-0.0) _ _ (ap (λ ps. read_parts c.args.level.now.table.now (read_within c.args.level.now.depth c.args.level.now.table.now) (placed_from c.in-Under.child.0 0 ps) (progress_of c.loop.reached (bits_left c.loop.reader)) (bits_left c.loop.reader)) c.entries_of-entries.ensures.value) c.in_err-read_parts-in-Under.ensures.gives))
+pub read_under-returns-in_err-read_own-in-Under-clause-gives : goal.read_under-returns-in_err-read_own-in-Under-clause-gives
+read_under-returns-in_err-read_own-in-Under-clause-gives t c =
+    let p = err_from_is_err_and c.from_residual-in_err-read_own-in-Under.result c.from_residual-in_err-read_own-in-Under.ensures.1 in
+    rw (p.1, p.2) (under_stops c.args.level.now.table.now (read_within c.args.level.now.depth c.args.level.now.table.now) c.loop.counter c.loop.at.0 (omega (arith, c.loop-test.true)) (progress_of c.loop.reached (bits_left c.loop.reader)) (bits_left c.loop.reader) c.in-Under.child.0 (stop_at c.read_own.new.path c.in_err-read_own-in-Under.field-0.0) _ (c.in-Under.ensures ∙ ap (λ fs. next c.args.level.now.table.now c.loop.at.0 (fields_of fs)) c.as_slice.ensures.value) c.loop.invariant.read c.in_err-read_own-in-Under.ensures.gives)
 
 pub read_under-loop-preserved : goal.read_under-loop-preserved
 read_under-loop-preserved t c =
     record {
-      root = c.in_ok-read_parts-in-Under.ensures.calm;
-      begun = c.in_ok-read_parts-in-Under.ensures.begun;
+      root = c.in_ok-read_own-in-Under.ensures.calm;
+      begun = c.in_ok-read_own-in-Under.ensures.begun;
       low = child_is_low c.args.level.now.table.now c.loop.invariant.low.rules (c.args.level.now.depth + 1) c.loop.at.0 c.in-Under.child.0 (fields_of c.loop.reached.fields.items) c.loop.invariant.low.low (c.in-Under.ensures ∙ ap (λ fs. next c.args.level.now.table.now c.loop.at.0 (fields_of fs)) c.as_slice.ensures.value);
-      read = under_goes c.args.level.now.table.now (read_within c.args.level.now.depth c.args.level.now.table.now) c.loop.counter c.loop.at.0 (omega (arith, c.loop-test.true)) (progress_of c.loop.reached (bits_left c.loop.reader)) (bits_left c.loop.reader) c.in-Under.child.0 (progress_of c.read_parts.new.reached (bits_left c.read_parts.new.reader)) (bits_left c.read_parts.new.reader) _ (c.in-Under.ensures ∙ ap (λ fs. next c.args.level.now.table.now c.loop.at.0 (fields_of fs)) c.as_slice.ensures.value) c.loop.invariant.read (sym (ap (λ ps. read_parts c.args.level.now.table.now (read_within c.args.level.now.depth c.args.level.now.table.now) (placed_from c.in-Under.child.0 0 ps) (progress_of c.loop.reached (bits_left c.loop.reader)) (bits_left c.loop.reader)) c.entries_of-entries.ensures.value) ∙ c.in_ok-read_parts-in-Under.ensures.gives);
+      read = under_goes c.args.level.now.table.now (read_within c.args.level.now.depth c.args.level.now.table.now) c.loop.counter c.loop.at.0 (omega (arith, c.loop-test.true)) (progress_of c.loop.reached (bits_left c.loop.reader)) (bits_left c.loop.reader) c.in-Under.child.0 (progress_of c.read_own.new.reached (bits_left c.read_own.new.reader)) (bits_left c.read_own.new.reader) _ (c.in-Under.ensures ∙ ap (λ fs. next c.args.level.now.table.now c.loop.at.0 (fields_of fs)) c.as_slice.ensures.value) c.loop.invariant.read c.in_ok-read_own-in-Under.ensures.gives;
     }
 
 pub read_under-returns-clause-gives : goal.read_under-returns-clause-gives

@@ -34,8 +34,11 @@ decreases-read_entry l = 16 * l.level.now.depth + 3
 abbrev pub decreases-read_parts : goal.decreases-read_parts
 decreases-read_parts l = 16 * l.level.now.depth + 4
 
+abbrev pub decreases-read_own : goal.decreases-read_own
+decreases-read_own l = 16 * l.level.now.depth + 5
+
 abbrev pub decreases-read_chain : goal.decreases-read_chain
-decreases-read_chain l = 16 * l.level.now.depth + 5
+decreases-read_chain l = 16 * l.level.now.depth + 6
 
 abbrev pub decreases-read_trailers : goal.decreases-read_trailers
 decreases-read_trailers l = 16 * l.level.now.depth + 5
@@ -64,11 +67,10 @@ decreases-read_items-loop-id l = l.count - l.place
 abbrev pub invariant-read_straight-loop-part : goal.invariant-read_straight-loop-part
 invariant-read_straight-loop-part l = record {
   root : l.path ≡ [];
-  inner : AllByRecursion (PartIsRead l.level.table.now l.level.depth) (drop l.part-index l.entries);
-  straight : list_all (is_straight_entry l.level.table.now) (drop l.part-index l.entries) ≡ true;
-  many : l.place ≡ l.part-index;
-  few : length l.entries ≤ 32767;
-  read : IsStraightSoFar l.level.table.now (read_within l.level.depth l.level.table.now) l.container.0 (bits_left l.fn.reader) l.place (drop l.part-index l.entries) (map plain l.values.items) (bits_left l.reader);
+  inner : AllByRecursion (PartIsRead l.level.table.now l.level.depth) (drop l.part-index l.rest);
+  straight : list_all (is_straight_entry l.level.table.now) (drop l.part-index l.rest) ≡ true;
+  few : l.place + (length l.rest - l.part-index) ≤ 32767;
+  read : IsStraightSoFar l.level.table.now (read_within l.level.depth l.level.table.now) l.container.0 (bits_left l.fn.reader) l.place (drop l.part-index l.rest) (map plain l.values.items) (bits_left l.reader);
 }
 
 abbrev pub invariant-read_parts-loop-part : goal.invariant-read_parts-loop-part

@@ -1,4 +1,3 @@
-use Rattle.std.proofs.Common.{arith}
 use Rattle.eds_bits.specs.Reader.{bits_left}
 use Rattle.eds_unpack.proofs.Meanings.{on_true}
 use Rattle.eds_unpack.proofs.SegmentReads.{values_more}

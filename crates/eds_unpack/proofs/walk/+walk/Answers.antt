@@ -1,4 +1,4 @@
-use Rattle.std.proofs.Common.{◌≡◌, ◌+◌, ◌-◌, ◌*◌, ◌≤◌, pos, nat_abs, ◌+ℤ◌, ◌*ℤ◌, true, false, [], ◌∷◌, ◌++◌, length, Some, Err, refl, sym, ap, subst, ◌∙◌, arith, rules, get_or, take, drop}
+use Rattle.std.proofs.Common.{◌≡◌, ◌+◌, ◌-◌, ◌≤◌, pos, nat_abs, ◌+ℤ◌, ◌*ℤ◌, true, false, [], ◌∷◌, ◌++◌, length, Some, Err, refl, sym, ap, subst, ◌∙◌, arith, rules, get_or, take, drop}
 use Rattle.std.specs.Prelude.{◌^◌, IfSome, IfOk, IfErr}
 use Rattle.eds_base.specs.declared.fault.Reason.TheVariants.{FixedDiffers, CheckDiffers, LengthDiffers, NoDerived}
 use Rattle.eds_bits.specs.Reader.{bits_left}
@@ -345,8 +345,8 @@ walk_under-loop-init t c = record {
   at = λ s at. (s, at, refl);
 }
 
-pub walk_under-next_noted-requires : goal.walk_under-next_noted-requires
-walk_under-next_noted-requires t c = record { asked = all_asked c.args.walk.now.table.now c.requires.low.rules c.args.walk.now.notes.now c.requires.notes }
+pub walk_under-next_noted-requires-clause-asked : goal.walk_under-next_noted-requires-clause-asked
+walk_under-next_noted-requires-clause-asked t c = all_asked c.args.walk.now.table.now c.requires.low.rules c.args.walk.now.notes.now c.requires.notes
 
 pub walk_under-walk_trailers-requires : goal.walk_under-walk_trailers-requires
 walk_under-walk_trailers-requires t c =

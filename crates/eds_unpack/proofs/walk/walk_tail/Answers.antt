@@ -1,4 +1,4 @@
-use Rattle.std.proofs.Common.{◌*◌, ◌∷◌, length, Ok, Err, sym, ap, ◌∙◌}
+use Rattle.std.proofs.Common.{◌*◌, ◌∷◌, length, Err, sym, ap, ◌∙◌}
 use Rattle.eds_base.specs.declared.fault.Reason.TheVariants.{LengthDiffers}
 use Rattle.eds_base.specs.declared.fault.Step.TheVariants as step
 use Rattle.eds_bits.specs.Reader.{bits_left}

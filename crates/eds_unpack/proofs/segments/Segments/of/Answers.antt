@@ -1,12 +1,12 @@
-use Rattle.std.proofs.Common.{◌≡◌, ◌+◌, ◌∷◌, ◌++◌, [], length, sym, subst, arith}
+use Rattle.std.proofs.Common.{◌≡◌, ◌+◌, ◌∷◌, [], length, sym, subst, arith}
 use Rattle.std.specs.Prelude.{IfSome}
 use Rattle.std.proofs.lemmas.List.{length-append}
-use Rattle.eds_unpack.specs.Segments.{AreSegments, IsSegmentOf}
-use Rattle.eds_unpack.proofs.SegmentReads.{segments_more}
+use Rattle.eds_unpack.specs.Segments.{AreSegments, IsHeadOf}
+use Rattle.eds_unpack.proofs.SegmentReads.{one_more}
 use Rattle.eds_unpack.proofs.segments.Segments.of.Goals as goal
 
 pub loop-number-preserved : goal.loop-number-preserved
 loop-number-preserved c = record {
-  are = subst (AreSegments c.args.table.now) (sym c.in_ok-push.ensures.items) (segments_more c.args.table.now c.loop-number.each.items c.in_ok-segment.segment c.loop-number.number c.loop-number.invariant.are c.loop-number.invariant.long (λ s e. subst (λ o. IfSome o (IsSegmentOf c.args.table.now c.loop-number.number)) e c.in_ok-segment.ensures));
+  are = subst (AreSegments c.args.table.now) (sym c.in_ok-push.ensures.items) (one_more (IsHeadOf c.args.table.now) c.loop-number.each.items c.in_ok-segment.segment c.loop-number.number c.loop-number.invariant.are c.loop-number.invariant.long (λ s e. subst (λ o. IfSome o (IsHeadOf c.args.table.now c.loop-number.number)) e c.in_ok-segment.ensures));
   long = subst (λ xs. length xs ≡ c.loop-number.number + 1) (sym c.in_ok-push.ensures.items) (omega (arith, length-append c.loop-number.each.items (c.in_ok-segment.segment ∷ []), c.loop-number.invariant.long));
 }
