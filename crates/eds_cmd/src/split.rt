@@ -12,12 +12,12 @@ ghost use Rattle.eds_value.specs.JsonOfValue.{json_text};
 use crate::limits::{PACKET_OCTETS, PACKETS_OCTETS};
 use crate::stop::{Stop, packet_fault};
 use crate::target::Target;
-use crate::unpack::value_text;
 use eds_base::{Fail, Fault, Memory, Path, Reason};
 use eds_bits::BitView;
-use eds_overlap::law::empty_types;
+use eds_overlap::law::{canonical_spelling, empty_types};
 use eds_types::Value;
-use eds_unpack::unpack;
+use eds_unpack::{Segments, unpack_by};
+use eds_value::{Layouts, push_json};
 use std::alloc::{AllocError, Global};
 
 // As many octets as a packet may have, or all where there are fewer.
@@ -49,15 +49,23 @@ fn packet_fails(fault: Fault, octets: usize) -> Fault
 fn packet_at(
     alloc: Global,
     target: &Target<'_>,
+    segments: &Segments<'_>,
     octets: &[u8],
 ) -> Result<(Value, usize), Fail<Fault>>
+    requires segments { segments.now ≡ target.now.table.now }
     requires known { IsKnown (type_in target.now) }
     ensures packet { IfOk result (λ x. HoldsPacket (type_in target.now) (plain x.0) octets.now x.1) }
     ensures fault { IfErr result (FailsFor (type_in target.now) octets.now) }
 {
     target.table.keeps_rules();
     empty_types();
-    match unpack(alloc, target.table, target.id, BitView::new(window(octets))) {
+    match unpack_by(
+        alloc,
+        target.table,
+        segments,
+        target.id,
+        BitView::new(window(octets)),
+    ) {
         Ok((value, size)) => Ok((value, size.div_ceil(8) as usize)),
         Err(Fail::Named(fault)) => Err(Fail::Named(packet_fails(fault, octets.len()))),
         Err(Fail::Memory) => Err(Fail::Memory),
@@ -68,15 +76,18 @@ fn packet_at(
 fn push_line(
     alloc: Global,
     target: &Target<'_>,
+    layouts: &Layouts<'_>,
     value: &Value,
     report: &mut String,
 ) -> Result<(), Memory>
+    requires layouts { layouts.now ≡ target.now.table.now }
     requires known { IsKnown (type_in target.now) }
     requires spelled { (bits : Bits) × Spells target.now.table.now target.now.id.0 (plain value.now) bits }
     ensures { OnOk result (string_bytes report.new ≡ string_bytes report.old ++ (json_text target.now.table.now (plain value.now) ++ codes "\n")) }
 {
-    let text = value_text(alloc, target, value)?;
-    report.push_str(text.as_str())?;
+    target.table.keeps_rules();
+    canonical_spelling();
+    push_json(alloc, layouts, target.id, value, report)?;
     report.push_str("\n")?;
     Ok(())
 }
@@ -96,13 +107,15 @@ pub fn split(alloc: Global, target: &Target<'_>, octets: &[u8]) -> Result<String
     requires few { length octets.now ≤ PACKETS_OCTETS }
     ensures { EndsAs string_bytes (Splits (type_in target.now) octets.now) result }
 {
+    let segments = Segments::of(alloc, target.table)?;
+    let layouts = Layouts::of(alloc, target.table)?;
     let mut report = String::new(alloc);
     let mut packets = 0u32;
     let mut at = 0usize;
     while at < octets.len() {
-        match packet_at(alloc, target, &octets[at..]) {
+        match packet_at(alloc, target, &segments, &octets[at..]) {
             Ok((value, size)) => {
-                push_line(alloc, target, &value, &mut report)?;
+                push_line(alloc, target, &layouts, &value, &mut report)?;
                 packets += 1;
                 at += size;
             }

@@ -71,8 +71,8 @@ fn value_for(alloc: Global, target: &Target<'_>, frame: &[u8]) -> Result<(Value,
     }
 }
 
-/// The JSON text of a value that some bits spell.
-pub fn value_text(alloc: Global, target: &Target<'_>, value: &Value) -> Result<String, Memory>
+// The JSON text of a value that some bits spell.
+fn value_text(alloc: Global, target: &Target<'_>, value: &Value) -> Result<String, Memory>
     requires known { IsKnown (type_in target.now) }
     requires spelled { (bits : Bits) × Spells target.now.table.now target.now.id.0 (plain value.now) bits }
     ensures { IfOk result (λ s. string_bytes s ≡ json_text target.now.table.now (plain value.now)) }

@@ -14,11 +14,11 @@ use Rattle.eds_types.specs.Rules.{AreDistinct, name_of}
 use Rattle.eds_types.specs.Spelling.{Progress, ItemsSpell, PartPasses, PartsPass, SpellsWithin}
 use Rattle.eds_types.proofs.FieldTypes.{IsPlaced}
 use Rattle.eds_value.specs.Entries.{Entry, entry_by, entry_at}
+use Rattle.eds_value.specs.Held.{AreHeld}
 use Rattle.eds_value.specs.JsonOfValue.{json_of_value}
 use Rattle.eds_value.specs.Laws.{HasNoTypeEntry}
 use Rattle.eds_value.specs.ValueOfJson.{value_within}
 use Rattle.eds_value.proofs.MembersOfValues.{Differ, Lacks}
-use Rattle.eds_value.proofs.HeldNumbers.{AreHeld}
 
 -- the entries among parts, by the places of these
 abbrev pub entries_among : Table → List Placed → List Entry

@@ -8,24 +8,8 @@ use Rattle.eds_bits.specs.declared.forms.Encoding.{Encoding}
 use Rattle.eds_bits.specs.declared.forms.Encoding.TheVariants.{Unsigned, TwosComplement, SignMagnitude, OnesComplement, PackedBcd, Bcd}
 use Rattle.eds_bits.specs.Encodings.{least_by, greatest_by}
 use Rattle.eds_bits.specs.IntForms.{HasNumber}
-use Rattle.eds_types.specs.Plain.{Plain, num, label, truth, text, bits, items, fields, Plains, none, more}
-
--- ---- what JSON holds
-
-abbrev mutual
-  -- JSON holds whole numbers of 64 bits, with or without a sign, and the value's numbers are such
-  pub AreHeld : Plain → Type 0
-  AreHeld (num n) = (neg_ℤ (pos (2 ^ 63)) ≤ℤ n) × (n ≤ℤ pos (2 ^ 64 - 1))
-  AreHeld (label l) = Unit {0}
-  AreHeld (truth b) = Unit {0}
-  AreHeld (text s) = Unit {0}
-  AreHeld (bits n o) = Unit {0}
-  AreHeld (items vs) = AllHeld vs
-  AreHeld (fields k vs) = AllHeld vs
-
-  pub AllHeld : Plains → Type 0
-  AllHeld none = Unit {0}
-  AllHeld (more v vs) = AreHeld v × AllHeld vs
+use Rattle.eds_types.specs.Plain.{num}
+use Rattle.eds_value.specs.Held.{AreHeld}
 
 -- ---- numbers
 

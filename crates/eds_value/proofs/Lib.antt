@@ -16,3 +16,6 @@ pub mod Tokens
 pub mod Merged
 pub mod Sound
 pub mod Sorted
+pub mod Strings
+pub mod Pieces
+pub mod Pushed

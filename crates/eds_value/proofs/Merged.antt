@@ -13,7 +13,7 @@ abbrev pub Entry : Type 0
 Entry = Bor (List ℕ) × Content
 
 -- the members of a map's entries
-abbrev pub of_entries : List Entry → List Member
+abbrev pub of_entries : List Entry → List (Member Content)
 of_entries [] = []
 of_entries (e ∷ es) = record { name = e.0; content = e.1 } ∷ of_entries es
 

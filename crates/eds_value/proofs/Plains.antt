@@ -10,10 +10,10 @@ use Rattle.eds_value.specs.Entries.{entries_along}
 use Rattle.eds_value.specs.JsonOfValue.{fields_data, json_of_value, type_name}
 use Rattle.eds_value.proofs.WithValues.{all_listed}
 
-plain-Items : (vs : Vec Value Global) → plain (Items vs) ≡ items (plains_of (map plain vs.items))
+pub plain-Items : (vs : Vec Value Global) → plain (Items vs) ≡ items (plains_of (map plain vs.items))
 plain-Items vs = search (rules, the_lemmas)
 
-plain-Fields : (id : TypeId) (vs : Vec Value Global) → plain (Fields id vs) ≡ fields id.0 (plains_of (map plain vs.items))
+pub plain-Fields : (id : TypeId) (vs : Vec Value Global) → plain (Fields id vs) ≡ fields id.0 (plains_of (map plain vs.items))
 plain-Fields id vs = search (rules, the_lemmas)
 
 pub json_items : (t : Table) (v : Value) (vs : Vec Value Global) → v ≡ Items vs → json_of_value t (plain v) ≡ array (items_of (map (json_of_value t) (map plain vs.items)))

@@ -37,13 +37,14 @@ use Rattle.eds_types.proofs.FieldTypes.{sequence_placed}
 use Rattle.eds_types.proofs.PackedSizes.{filled_true, has_true}
 use Rattle.eds_types.proofs.SameValues.{plains_of-list_of, same_text-is, text_same}
 use Rattle.eds_value.specs.Entries.{Entry, arguments, entries_along}
+use Rattle.eds_value.specs.Held.{AreHeld, AllHeld}
 use Rattle.eds_value.specs.Json.{arguments_in, value_in}
 use Rattle.eds_value.specs.JsonOfValue.{arguments_data, json_of_value, json_of_all, type_name, name_in, with_values}
 use Rattle.eds_value.specs.Laws.{AreNamed, AreOfTypes, ArgumentsReadBack, HasNoTypeEntry, IsOfType, ReadsBack}
 use Rattle.eds_value.specs.ValueOfJson.{Shaped, arguments_of_json, behind_entry, members_for, binary_by, binary_in, bits_for, container_for, container_named, fields_in, has_members, is_container, items_from, member_value, member_values, named_from, value_by, value_in_row, value_of_json, value_within}
 use Rattle.eds_value.proofs.Depths.{AreWithin, items_deep, values_depth}
 use Rattle.eds_value.proofs.EntryValues.{IsFine, IsFineAs, AreValues, length-values, differ_from, items_fine, parts_add}
-use Rattle.eds_value.proofs.HeldNumbers.{AreHeld, AllHeld, number_held}
+use Rattle.eds_value.proofs.HeldNumbers.{number_held}
 use Rattle.eds_value.proofs.MembersOfValues.{Differ, Lacks, NoneStand, Stand, differ_from as names_differ, each, kept, members_len-values, stand}
 use Rattle.eds_value.proofs.WithValues.{all_mapped}
 

@@ -12,9 +12,8 @@ use Rattle.std.specs.Ordering.{is_eq, is_lt}
 use Rattle.serde_json.specs.Data.{Data, Members, no_members, member, put}
 use Rattle.serde_json.specs.Find.{get_member}
 use Rattle.serde_json.proofs.Views.{get_member-put, get_member-put_other}
-use Rattle.eds_types.specs.Rows.{Table}
 use Rattle.eds_value.specs.declared.member.Member.{Member}
-use Rattle.eds_value.specs.Members.{ascends, content_json, in_order, is_below, put_all}
+use Rattle.eds_value.specs.Members.{ascends, in_order_by, is_below, put_all_by}
 use Rattle.eds_value.specs.Written.{Ascend, IsUnder}
 use Rattle.eds_value.proofs.Sound.{less_after, put_ascend, puts, puts_same, under_all}
 
@@ -73,42 +72,42 @@ same_members (member k d ms) (member l e ns) a b h = same_by (slice_cmp nat_cmp 
 
 -- ---- how often a name stands
 
-abbrev has : List ℕ → Member → ℕ
+abbrev has : {C : Type 0} → List ℕ → Member C → ℕ
 has q m = cond (bytes_eq q m.name.now) 1 0
 
-abbrev count : List ℕ → List Member → ℕ
+abbrev count : {C : Type 0} → List ℕ → List (Member C) → ℕ
 count q [] = 0
 count q (m ∷ ms) = has q m + count q ms
 
-count_sum : (q : List ℕ) (ms : List Member) → sum_by (has q) ms ≡ count q ms
+count_sum : {C : Type 0} (q : List ℕ) (ms : List (Member C)) → sum_by (has q) ms ≡ count q ms
 count_sum q [] = refl
 count_sum q (m ∷ ms) = sum_by-cons (has q) m ms ∙ ap (λ n. has q m + n) (count_sum q ms)
 
-count_permuted : (q : List ℕ) (xs ys : List Member) → IsPermutation xs ys → count q ys ≡ count q xs
+count_permuted : {C : Type 0} (q : List ℕ) (xs ys : List (Member C)) → IsPermutation xs ys → count q ys ≡ count q xs
 count_permuted q xs ys p = sym (count_sum q ys) ∙ sum_by-IsPermutation (has q) xs ys p ∙ count_sum q xs
 
-has_one : (q : List ℕ) (m : Member) → q ≡ m.name.now → has q m ≡ 1
+has_one : {C : Type 0} (q : List ℕ) (m : Member C) → q ≡ m.name.now → has q m ≡ 1
 has_one q m same = ap (λ b. cond b 1 0) ((bytes_eq-Decides q m.name.now).1 same)
 
-absent : (t : Table) (q : List ℕ) (ms : List Member) (found : Members) → count q ms ≡ 0 → get_member q (put_all t ms found) ≡ get_member q found
-absent t q [] found h = refl
-absent t q (m ∷ ms) found h =
-    absent t q ms (put m.name.now (content_json t m.content) found) (omega arith)
-    ∙ get_member-put_other q m.name.now (content_json t m.content) found (λ same. let one = has_one q m same in omega (arith, one, h))
+absent : {C : Type 0} (f : C → Data) (q : List ℕ) (ms : List (Member C)) (found : Members) → count q ms ≡ 0 → get_member q (put_all_by f ms found) ≡ get_member q found
+absent f q [] found h = refl
+absent f q (m ∷ ms) found h =
+    absent f q ms (put m.name.now (f m.content) found) (omega arith)
+    ∙ get_member-put_other q m.name.now (f m.content) found (λ same. let one = has_one q m same in omega (arith, one, h))
 
-stands : (t : Table) (q : List ℕ) (ms : List Member) (found : Members) (m : Member) → m.name.now ≡ q → (k : ℕ) → k < length ms → slice_index_or ms k m ≡ m → count q ms ≤ 1
-    → get_member q (put_all t ms found) ≡ Some (content_json t m.content)
-stands t q [] found m is k lt at few = absurd (omega arith)
-stands t q (x ∷ ms) found m is zero lt at few =
-    let same : x.name.now ≡ q = ap (λ (y : Member). y.name.now) at ∙ is in
+stands : {C : Type 0} (f : C → Data) (q : List ℕ) (ms : List (Member C)) (found : Members) (m : Member C) → m.name.now ≡ q → (k : ℕ) → k < length ms → slice_index_or ms k m ≡ m → count q ms ≤ 1
+    → get_member q (put_all_by f ms found) ≡ Some (f m.content)
+stands f q [] found m is k lt at few = absurd (omega arith)
+stands {C = C} f q (x ∷ ms) found m is zero lt at few =
+    let same : x.name.now ≡ q = ap (λ (y : Member C). y.name.now) at ∙ is in
     let one = has_one q x (sym same) in
-    let c = content_json t x.content in
-    absent t q ms (put x.name.now c found) (omega (arith, one, few)) ∙ ap (λ (w : List ℕ). get_member w (put x.name.now c found)) (sym same) ∙ get_member-put x.name.now c found
-    ∙ ap (λ (y : Member). Some (content_json t y.content)) at
-stands t q (x ∷ ms) found m is (suc k) lt at few = stands t q ms (put x.name.now (content_json t x.content) found) m is k (omega arith) at (omega (arith, few))
+    let c = f x.content in
+    absent f q ms (put x.name.now c found) (omega (arith, one, few)) ∙ ap (λ (w : List ℕ). get_member w (put x.name.now c found)) (sym same) ∙ get_member-put x.name.now c found
+    ∙ ap (λ (y : Member C). Some (f y.content)) at
+stands f q (x ∷ ms) found m is (suc k) lt at few = stands f q ms (put x.name.now (f x.content) found) m is k (omega arith) at (omega (arith, few))
 
-present_by : (b : Bool) (q : List ℕ) (m : Member) (ms : List Member) → bytes_eq q m.name.now ≡ b → 0 < has q m + count q ms → (0 < count q ms → (n : Member) × (n.name.now ≡ q) × Contains ms n)
-    → (n : Member) × (n.name.now ≡ q) × Contains (m ∷ ms) n
+present_by : {C : Type 0} (b : Bool) (q : List ℕ) (m : Member C) (ms : List (Member C)) → bytes_eq q m.name.now ≡ b → 0 < has q m + count q ms → (0 < count q ms → (n : Member C) × (n.name.now ≡ q) × Contains ms n)
+    → (n : Member C) × (n.name.now ≡ q) × Contains (m ∷ ms) n
 present_by true q m ms e h later = (m, sym ((bytes_eq-Decides q m.name.now).0 e), (0, omega arith, refl))
 present_by false q m ms e h later =
     let no_here : has q m ≡ 0 = ap (λ b. cond b 1 0) e in
@@ -117,21 +116,21 @@ present_by false q m ms e h later =
     let below = at.1 in
     (rest.0, rest.1, (suc at.0, omega (arith, below), at.2))
 
-present : (q : List ℕ) (ms : List Member) → 0 < count q ms → (m : Member) × (m.name.now ≡ q) × Contains ms m
+present : {C : Type 0} (q : List ℕ) (ms : List (Member C)) → 0 < count q ms → (m : Member C) × (m.name.now ≡ q) × Contains ms m
 present q [] h = absurd (omega arith)
 present q (m ∷ ms) h = present_by (bytes_eq q m.name.now) q m ms refl h (present q ms)
 
-same_found : (t : Table) (xs ys : List Member) → IsPermutation xs ys → ((q : List ℕ) → count q ys ≤ 1) → (q : List ℕ) → get_member q (put_all t xs no_members) ≡ get_member q (put_all t ys no_members)
-same_found t xs ys p few q = by (count q xs) refl
+same_found : {C : Type 0} (f : C → Data) (xs ys : List (Member C)) → IsPermutation xs ys → ((q : List ℕ) → count q ys ≤ 1) → (q : List ℕ) → get_member q (put_all_by f xs no_members) ≡ get_member q (put_all_by f ys no_members)
+same_found f xs ys p few q = by (count q xs) refl
   where
-    by : (n : ℕ) → count q xs ≡ n → get_member q (put_all t xs no_members) ≡ get_member q (put_all t ys no_members)
-    by zero e = absent t q xs no_members e ∙ sym (absent t q ys no_members (count_permuted q xs ys p ∙ e))
+    by : (n : ℕ) → count q xs ≡ n → get_member q (put_all_by f xs no_members) ≡ get_member q (put_all_by f ys no_members)
+    by zero e = absent f q xs no_members e ∙ sym (absent f q ys no_members (count_permuted q xs ys p ∙ e))
     by (suc n) e =
         let m = present q xs (omega (arith, e)) in
         let c = Contains-permutation xs ys m.0 p m.2 in
         let once = few q in
         let as_often = count_permuted q xs ys p in
-        stands t q xs no_members m.0 m.1 (m.2).0 (m.2).1 (m.2).2 (omega (arith, once, as_often)) ∙ sym (stands t q ys no_members m.0 m.1 c.0 c.1 c.2 once)
+        stands f q xs no_members m.0 m.1 (m.2).0 (m.2).1 (m.2).2 (omega (arith, once, as_often)) ∙ sym (stands f q ys no_members m.0 m.1 c.0 c.1 c.2 once)
 
 -- ---- members whose names ascend
 
@@ -148,50 +147,50 @@ is_less Less h = refl
 is_less Equal h = absurd cc
 is_less Greater h = absurd cc
 
-under_from : (t : Table) (name : List ℕ) (ms : List Member) → is_below name ms ≡ true → Ascend (in_order t ms) → IsUnder name (in_order t ms)
-under_from t name [] h a = tt
-under_from t name (m ∷ ms) h a =
+under_from : {C : Type 0} (f : C → Data) (name : List ℕ) (ms : List (Member C)) → is_below name ms ≡ true → Ascend (in_order_by f ms) → IsUnder name (in_order_by f ms)
+under_from f name [] h a = tt
+under_from f name (m ∷ ms) h a =
     let less = is_less (slice_cmp nat_cmp name m.name.now) h in
-    (less, under_all name m.name.now (in_order t ms) less a.0)
+    (less, under_all name m.name.now (in_order_by f ms) less a.0)
 
-ascend_from : (t : Table) (ms : List Member) → ascends ms ≡ true → Ascend (in_order t ms)
-ascend_from t [] h = tt
-ascend_from t (m ∷ ms) h =
-    let rest = ascend_from t ms (and_right (is_below m.name.now ms) (ascends ms) h) in
-    (under_from t m.name.now ms (and_left (is_below m.name.now ms) (ascends ms) h) rest, rest)
+ascend_from : {C : Type 0} (f : C → Data) (ms : List (Member C)) → ascends ms ≡ true → Ascend (in_order_by f ms)
+ascend_from f [] h = tt
+ascend_from f (m ∷ ms) h =
+    let rest = ascend_from f ms (and_right (is_below m.name.now ms) (ascends ms) h) in
+    (under_from f m.name.now ms (and_left (is_below m.name.now ms) (ascends ms) h) rest, rest)
 
-under_absent : (t : Table) (k : List ℕ) (ms : List Member) → IsUnder k (in_order t ms) → count k ms ≡ 0
-under_absent t k [] u = refl
-under_absent t k (m ∷ ms) u =
+under_absent : {C : Type 0} (f : C → Data) (k : List ℕ) (ms : List (Member C)) → IsUnder k (in_order_by f ms) → count k ms ≡ 0
+under_absent f k [] u = refl
+under_absent f k (m ∷ ms) u =
     let other : bytes_eq k m.name.now ≡ false = sym (is_eq-slice_cmp k m.name.now) ∙ ap is_eq u.0 in
     let no_here : has k m ≡ 0 = ap (λ b. cond b 1 0) other in
-    let later = under_absent t k ms u.1 in
+    let later = under_absent f k ms u.1 in
     omega (arith, no_here, later)
 
-once_by : (b : Bool) (t : Table) (q : List ℕ) (m : Member) (ms : List Member) → bytes_eq q m.name.now ≡ b → IsUnder m.name.now (in_order t ms) → count q ms ≤ 1 → has q m + count q ms ≤ 1
-once_by true t q m ms e u later =
+once_by : {C : Type 0} (b : Bool) (f : C → Data) (q : List ℕ) (m : Member C) (ms : List (Member C)) → bytes_eq q m.name.now ≡ b → IsUnder m.name.now (in_order_by f ms) → count q ms ≤ 1 → has q m + count q ms ≤ 1
+once_by true f q m ms e u later =
     let one : has q m ≡ 1 = ap (λ b. cond b 1 0) e in
-    let no_more = subst (λ (w : List ℕ). count w ms ≡ 0) (sym ((bytes_eq-Decides q m.name.now).0 e)) (under_absent t m.name.now ms u) in
+    let no_more = subst (λ (w : List ℕ). count w ms ≡ 0) (sym ((bytes_eq-Decides q m.name.now).0 e)) (under_absent f m.name.now ms u) in
     omega (arith, one, no_more)
-once_by false t q m ms e u later =
+once_by false f q m ms e u later =
     let no_here : has q m ≡ 0 = ap (λ b. cond b 1 0) e in
     omega (arith, no_here, later)
 
-at_most_once : (t : Table) (q : List ℕ) (ms : List Member) → Ascend (in_order t ms) → count q ms ≤ 1
-at_most_once t q [] a = omega arith
-at_most_once t q (m ∷ ms) a = once_by (bytes_eq q m.name.now) t q m ms refl a.0 (at_most_once t q ms a.1)
+at_most_once : {C : Type 0} (f : C → Data) (q : List ℕ) (ms : List (Member C)) → Ascend (in_order_by f ms) → count q ms ≤ 1
+at_most_once f q [] a = omega arith
+at_most_once f q (m ∷ ms) a = once_by (bytes_eq q m.name.now) f q m ms refl a.0 (at_most_once f q ms a.1)
 
-put_all_puts : (t : Table) (ms : List Member) (found : Members) → put_all t ms found ≡ puts (in_order t ms) found
-put_all_puts t [] found = refl
-put_all_puts t (m ∷ ms) found = put_all_puts t ms (put m.name.now (content_json t m.content) found)
+put_all_puts : {C : Type 0} (f : C → Data) (ms : List (Member C)) (found : Members) → put_all_by f ms found ≡ puts (in_order_by f ms) found
+put_all_puts f [] found = refl
+put_all_puts f (m ∷ ms) found = put_all_puts f ms (put m.name.now (f m.content) found)
 
-put_all_ascend : (t : Table) (ms : List Member) (found : Members) → Ascend found → Ascend (put_all t ms found)
-put_all_ascend t [] found a = a
-put_all_ascend t (m ∷ ms) found a = put_all_ascend t ms (put m.name.now (content_json t m.content) found) (put_ascend m.name.now (content_json t m.content) found a)
+put_all_ascend : {C : Type 0} (f : C → Data) (ms : List (Member C)) (found : Members) → Ascend found → Ascend (put_all_by f ms found)
+put_all_ascend f [] found a = a
+put_all_ascend f (m ∷ ms) found a = put_all_ascend f ms (put m.name.now (f m.content) found) (put_ascend m.name.now (f m.content) found a)
 
 -- sorted members, of which each name ascends, are those that were put in
-pub sorted_put : (t : Table) (xs ys : List Member) → IsPermutation xs ys → ascends ys ≡ true → in_order t ys ≡ put_all t xs no_members
-sorted_put t xs ys p h =
-    let a = ascend_from t ys h in
-    let same = same_members (put_all t xs no_members) (put_all t ys no_members) (put_all_ascend t xs no_members tt) (put_all_ascend t ys no_members tt) (same_found t xs ys p (λ q. at_most_once t q ys a)) in
-    sym (same ∙ put_all_puts t ys no_members ∙ puts_same (in_order t ys) a)
+pub sorted_put : {C : Type 0} (f : C → Data) (xs ys : List (Member C)) → IsPermutation xs ys → ascends ys ≡ true → in_order_by f ys ≡ put_all_by f xs no_members
+sorted_put f xs ys p h =
+    let a = ascend_from f ys h in
+    let same = same_members (put_all_by f xs no_members) (put_all_by f ys no_members) (put_all_ascend f xs no_members tt) (put_all_ascend f ys no_members tt) (same_found f xs ys p (λ q. at_most_once f q ys a)) in
+    sym (same ∙ put_all_puts f ys no_members ∙ puts_same (in_order_by f ys) a)

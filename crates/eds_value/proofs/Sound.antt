@@ -18,9 +18,9 @@ use Rattle.serde_json.proofs.Numbers.{number_of-decimal, number_of-negative}
 use Rattle.eds_types.specs.Plain.{Plain, num, label, truth, text, bits, items, fields, Plains, none, more}
 use Rattle.eds_types.specs.Rows.{Table}
 use Rattle.eds_value.specs.Entries.{Entry, entries_along}
+use Rattle.eds_value.specs.Held.{AreHeld, AllHeld}
 use Rattle.eds_value.specs.JsonOfValue.{arguments_data, json_of_all, json_of_value, type_name, with_values}
 use Rattle.eds_value.specs.Written.{Ascend, AreSound, HoldSound, IsSound, IsUnder, IsWhole, tokens_of}
-use Rattle.eds_value.proofs.HeldNumbers.{AreHeld, AllHeld}
 
 -- ---- names in order
 

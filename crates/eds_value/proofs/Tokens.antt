@@ -8,6 +8,7 @@ use Rattle.serde_json.specs.Written.{items_outline, members_outline}
 use Rattle.eds_types.specs.declared.value.Value.{Value}
 use Rattle.eds_types.specs.Plain.{plain}
 use Rattle.eds_types.specs.Rows.{Table}
+use Rattle.eds_value.specs.declared.member.Content.{Content}
 use Rattle.eds_value.specs.declared.member.Member.{Member}
 use Rattle.eds_value.specs.JsonOfValue.{json_of_value}
 use Rattle.eds_value.specs.Members.{content_json, in_order}
@@ -19,7 +20,7 @@ abbrev pub items_left : Table → ℕ → List Value → List Token
 items_left t i vs = items_tokens (items_outline (items_of (map (json_of_value t) (map plain (drop i vs)))))
 
 -- the same of members
-abbrev pub members_left : Table → ℕ → List Member → List Token
+abbrev pub members_left : Table → ℕ → List (Member Content) → List Token
 members_left t i ms = members_tokens (members_outline (in_order t (drop i ms)))
 
 -- ---- items
@@ -42,13 +43,13 @@ items_over t vs i over = ap (λ (ws : List Value). items_tokens (items_outline (
 
 -- ---- members
 
-pub member_next : (t : Table) (ms : List Member) (i : ℕ) (m : Member) → i < length ms → m ≡ get_or ms i m
+pub member_next : (t : Table) (ms : List (Member Content)) (i : ℕ) (m : Member Content) → i < length ms → m ≡ get_or ms i m
     → members_left t i ms ≡ (key m.name.now ∷ tokens_of (content_json t m.content)) ++ members_left t (i + 1) ms
-member_next t ms i m lt is = ap (λ (ns : List Member). members_tokens (members_outline (in_order t ns))) (drop_one ms i m lt is)
+member_next t ms i m lt is = ap (λ (ns : List (Member Content)). members_tokens (members_outline (in_order t ns))) (drop_one ms i m lt is)
 
-pub member_sound : (t : Table) (ms : List Member) (i : ℕ) (m : Member) → i < length ms → m ≡ get_or ms i m → HoldSound (in_order t (drop i ms))
+pub member_sound : (t : Table) (ms : List (Member Content)) (i : ℕ) (m : Member Content) → i < length ms → m ≡ get_or ms i m → HoldSound (in_order t (drop i ms))
     → IsSound (content_json t m.content) × HoldSound (in_order t (drop (i + 1) ms))
-member_sound t ms i m lt is h = subst (λ (ns : List Member). HoldSound (in_order t ns)) (drop_one ms i m lt is) h
+member_sound t ms i m lt is h = subst (λ (ns : List (Member Content)). HoldSound (in_order t ns)) (drop_one ms i m lt is) h
 
-pub members_over : (t : Table) (ms : List Member) (i : ℕ) → length ms ≤ i → members_left t i ms ≡ end_object ∷ []
-members_over t ms i over = ap (λ (ns : List Member). members_tokens (members_outline (in_order t ns))) (drop_all i ms over)
+pub members_over : (t : Table) (ms : List (Member Content)) (i : ℕ) → length ms ≤ i → members_left t i ms ≡ end_object ∷ []
+members_over t ms i over = ap (λ (ns : List (Member Content)). members_tokens (members_outline (in_order t ns))) (drop_all i ms over)

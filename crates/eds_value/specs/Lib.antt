@@ -8,3 +8,5 @@ pub mod Members
 pub mod Seen
 pub mod Stops
 pub mod Written
+pub mod Held
+pub mod Layouts

@@ -16,15 +16,22 @@ abbrev pub content_json : Table → Content → Data
 content_json t (content.TypeName name) = string name.now
 content_json t (content.Held value) = json_of_value t (plain value.now)
 
--- the members, one after another
-abbrev pub in_order : Table → List Member → Members
-in_order t [] = no_members
-in_order t (m ∷ ms) = member m.name.now (content_json t m.content) (in_order t ms)
+-- the members, one after another, each with what its content stands for
+abbrev pub in_order_by : {C : Type 0} → (C → Data) → List (Member C) → Members
+in_order_by data_of [] = no_members
+in_order_by data_of (m ∷ ms) = member m.name.now (data_of m.content) (in_order_by data_of ms)
 
 -- the members, each put among those before it
-abbrev pub put_all : Table → List Member → Members → Members
-put_all t [] found = found
-put_all t (m ∷ ms) found = put_all t ms (put m.name.now (content_json t m.content) found)
+abbrev pub put_all_by : {C : Type 0} → (C → Data) → List (Member C) → Members → Members
+put_all_by data_of [] found = found
+put_all_by data_of (m ∷ ms) found = put_all_by data_of ms (put m.name.now (data_of m.content) found)
+
+-- the same of members that have their contents
+abbrev pub in_order : Table → List (Member Content) → Members
+in_order t ms = in_order_by (content_json t) ms
+
+abbrev pub put_all : Table → List (Member Content) → Members → Members
+put_all t ms found = put_all_by (content_json t) ms found
 
 -- the same of a map's entries
 abbrev pub entries_in_order : Table → List (Bor (List ℕ) × Content) → Members
@@ -34,11 +41,11 @@ entries_in_order t (e ∷ es) = member e.0.now (content_json t e.1) (entries_in_
 -- ---- order
 
 -- the first name, where there is one, is above this one
-abbrev pub is_below : List ℕ → List Member → Bool
+abbrev pub is_below : {C : Type 0} → List ℕ → List (Member C) → Bool
 is_below name [] = true
 is_below name (m ∷ ms) = is_lt (slice_cmp nat_cmp name m.name.now)
 
 -- each name is above the one before it
-abbrev pub ascends : List Member → Bool
+abbrev pub ascends : {C : Type 0} → List (Member C) → Bool
 ascends [] = true
 ascends (m ∷ ms) = is_below m.name.now ms && ascends ms

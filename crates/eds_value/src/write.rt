@@ -11,7 +11,7 @@ ghost use Rattle.eds_value.specs.Members.{content_json, in_order};
 ghost use Rattle.eds_value.specs.Written.{IsSound, tokens_of};
 
 use crate::entry::entries_along;
-use crate::member::{Content, Member, arranged, members_of_fields};
+use crate::member::{Content, Filled, arranged, members_of_fields};
 use crate::path::type_name;
 use eds_base::{Memory, TypeId};
 use eds_types::{TypeTable, Value};
@@ -71,7 +71,7 @@ fn write_content(
 #[cycle(write)]
 pub(crate) fn write_object(
     alloc: Global,
-    members: &[Member<'_>],
+    members: &[Filled<'_>],
     table: &TypeTable,
     out: &mut Writer,
 ) -> Result<(), Memory>

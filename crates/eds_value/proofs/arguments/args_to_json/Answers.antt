@@ -4,6 +4,7 @@ use Rattle.json.specs.Print.{print}
 use Rattle.json.specs.Token.{Token}
 use Rattle.serde_json.specs.Data.{Members, depth, no_members, object}
 use Rattle.serde_json.proofs.Texts.{print-outline}
+use Rattle.eds_value.specs.declared.member.Content.{Content}
 use Rattle.eds_value.specs.declared.member.Member.{Member}
 use Rattle.eds_value.specs.Entries.{Entry, arguments}
 use Rattle.eds_value.specs.JsonOfValue.{arguments_data, json_of_value, with_values}
@@ -21,7 +22,7 @@ write_object-requires c =
     let vs = c.args.values.now in
     let entries : map seen c.as_slice-2.result.now ≡ arguments fs = ap (map seen) c.as_slice-2.ensures ∙ c.in_ok-entries.ensures ∙ ap arguments c.as_slice.ensures in
     let is : in_order t c.as_slice-4.result.now ≡ with_values (arguments fs) (map (json_of_value t) vs) no_members =
-    ap (in_order t) c.as_slice-4.ensures.value ∙ c.in_ok-members-2.ensures t ∙ ap (λ (ms : List Member). put_all t ms no_members) c.as_slice-3.ensures.value ∙ c.in_ok-members.ensures t
+    ap (in_order t) c.as_slice-4.ensures.value ∙ c.in_ok-members-2.ensures t ∙ ap (λ (ms : List (Member Content)). put_all t ms no_members) c.as_slice-3.ensures.value ∙ c.in_ok-members.ensures t
     ∙ ap (λ (es : List Entry). with_values es (map (json_of_value t) vs) no_members) entries in
     subst (λ (ms : Members). IsSound (object ms)) (sym is) (arguments_sound t (arguments fs) vs (arguments_held t fs vs c.keeps_rules.ensures c.requires))
 
@@ -33,7 +34,7 @@ returns-clause-text c =
     let d = arguments_data t (arguments fs) vs in
     let entries : map seen c.as_slice-2.result.now ≡ arguments fs = ap (map seen) c.as_slice-2.ensures ∙ c.in_ok-entries.ensures ∙ ap arguments c.as_slice.ensures in
     let is : in_order t c.as_slice-4.result.now ≡ with_values (arguments fs) (map (json_of_value t) vs) no_members =
-    ap (in_order t) c.as_slice-4.ensures.value ∙ c.in_ok-members-2.ensures t ∙ ap (λ (ms : List Member). put_all t ms no_members) c.as_slice-3.ensures.value ∙ c.in_ok-members.ensures t
+    ap (in_order t) c.as_slice-4.ensures.value ∙ c.in_ok-members-2.ensures t ∙ ap (λ (ms : List (Member Content)). put_all t ms no_members) c.as_slice-3.ensures.value ∙ c.in_ok-members.ensures t
     ∙ ap (λ (es : List Entry). with_values es (map (json_of_value t) vs) no_members) entries in
     let before : c.write_object.new.out.before ≡ [] = c.in_ok-write_object.ensures.before ∙ c.in_ok-out.ensures.before in
     let written : c.write_object.new.out.tokens ≡ tokens_of d =
@@ -48,7 +49,7 @@ returns-clause-reads_back c bare named =
     let d = arguments_data t (arguments fs) vs in
     let entries : map seen c.as_slice-2.result.now ≡ arguments fs = ap (map seen) c.as_slice-2.ensures ∙ c.in_ok-entries.ensures ∙ ap arguments c.as_slice.ensures in
     let is : in_order t c.as_slice-4.result.now ≡ with_values (arguments fs) (map (json_of_value t) vs) no_members =
-    ap (in_order t) c.as_slice-4.ensures.value ∙ c.in_ok-members-2.ensures t ∙ ap (λ (ms : List Member). put_all t ms no_members) c.as_slice-3.ensures.value ∙ c.in_ok-members.ensures t
+    ap (in_order t) c.as_slice-4.ensures.value ∙ c.in_ok-members-2.ensures t ∙ ap (λ (ms : List (Member Content)). put_all t ms no_members) c.as_slice-3.ensures.value ∙ c.in_ok-members.ensures t
     ∙ ap (λ (es : List Entry). with_values es (map (json_of_value t) vs) no_members) entries in
     let before : c.write_object.new.out.before ≡ [] = c.in_ok-write_object.ensures.before ∙ c.in_ok-out.ensures.before in
     let written : c.write_object.new.out.tokens ≡ tokens_of d =

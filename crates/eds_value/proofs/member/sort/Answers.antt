@@ -8,6 +8,6 @@ where_true : (b : Bool) (P : Type 0) → (b ≡ true → P) → OnTrue b P
 where_true true P h = h refl
 where_true false P h = tt
 
-pub returns : goal.returns
-returns c =
-    where_true c.ascends.result _ (λ yes t. sorted_put t c.args.members.now.items c.sort_unstable_by.new.self.items c.sort_unstable_by.ensures.permutation (ap ascends (sym c.as_slice.ensures.value) ∙ sym c.ascends.ensures ∙ yes))
+pub returns-clause-same : goal.returns-clause-same
+returns-clause-same g c =
+    where_true c.ascends.result _ (λ yes f. sorted_put f c.args.members.now.items c.sort_unstable_by.new.self.items c.sort_unstable_by.ensures.permutation (ap ascends (sym c.as_slice.ensures.value) ∙ sym c.ascends.ensures ∙ yes))

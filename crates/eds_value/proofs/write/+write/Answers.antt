@@ -5,6 +5,7 @@ use Rattle.serde_json.specs.Data.{Data, Members, array, no_members, object, put,
 use Rattle.serde_json.specs.View.{items_of}
 use Rattle.eds_types.specs.declared.value.Value.{Value}
 use Rattle.eds_types.specs.Plain.{plain}
+use Rattle.eds_value.specs.declared.member.Content.{Content}
 use Rattle.eds_value.specs.declared.member.Member.{Member}
 use Rattle.eds_value.specs.Entries.{entries_along}
 use Rattle.eds_value.specs.JsonOfValue.{fields_data, json_of_value, type_name, with_values}
@@ -83,11 +84,22 @@ write_fields-write_object-requires t c =
     let ds = map (json_of_value tb) (map plain c.args.values.now) in
     let entries : map seen c.as_slice.result.now ≡ entries_along tb k = ap (map seen) c.as_slice.ensures ∙ c.in_ok-entries.ensures in
     let is : in_order tb c.as_slice-3.result.now ≡ with_values (entries_along tb k) ds (put (codes "$type") (string (type_name tb k)) no_members) =
-    ap (in_order tb) c.as_slice-3.ensures.value ∙ c.in_ok-members-2.ensures tb ∙ ap (λ (ms : List Member). put_all tb ms no_members) c.as_slice-2.ensures.value ∙ c.in_ok-members.ensures tb
+    ap (in_order tb) c.as_slice-3.ensures.value ∙ c.in_ok-members-2.ensures tb ∙ ap (λ (ms : List (Member Content)). put_all tb ms no_members) c.as_slice-2.ensures.value ∙ c.in_ok-members.ensures tb
     ∙ ap₂ (λ es name. with_values es ds (put (codes "$type") (string name) no_members)) entries c.type_name-name.ensures in
     let as_many : length (tokens_of (object (in_order tb c.as_slice-3.result.now))) ≡ length (tokens_of (fields_data (type_name tb k) (entries_along tb k) ds)) = ap (λ (ms : Members). length (tokens_of (object ms))) is in
     let smaller : 4 * length (tokens_of (object (in_order tb c.as_slice-3.result.now))) < t = omega (arith, as_many, c.decreases) in
     (smaller, subst (λ (ms : Members). IsSound (object ms)) (sym is) c.requires)
+
+pub write_fields-returns-clause-tokens : goal.write_fields-returns-clause-tokens
+write_fields-returns-clause-tokens t c =
+    let tb = c.args.table.now in
+    let k = c.args.container.0 in
+    let ds = map (json_of_value tb) (map plain c.args.values.now) in
+    let entries : map seen c.as_slice.result.now ≡ entries_along tb k = ap (map seen) c.as_slice.ensures ∙ c.in_ok-entries.ensures in
+    let is : in_order tb c.as_slice-3.result.now ≡ with_values (entries_along tb k) ds (put (codes "$type") (string (type_name tb k)) no_members) =
+    ap (in_order tb) c.as_slice-3.ensures.value ∙ c.in_ok-members-2.ensures tb ∙ ap (λ (ms : List (Member Content)). put_all tb ms no_members) c.as_slice-2.ensures.value ∙ c.in_ok-members.ensures tb
+    ∙ ap₂ (λ es name. with_values es ds (put (codes "$type") (string name) no_members)) entries c.type_name-name.ensures in
+    subst (λ (ms : Members). OnOk c.write_object.result (c.write_object.new.out.tokens ≡ c.args.out.now.tokens ++ tokens_of (object ms))) is c.write_object.ensures.tokens
 
 pub write_value-write_items-requires : goal.write_value-write_items-requires
 write_value-write_items-requires t c =

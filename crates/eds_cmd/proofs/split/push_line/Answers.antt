@@ -1,0 +1,17 @@
+use Rattle.std.proofs.Common.{◌<◌, length, sym, subst}
+use Rattle.eds_overlap.specs.Laws.{IsThere}
+use Rattle.eds_types.specs.Plain.{plain}
+use Rattle.eds_types.specs.Rows.{Table}
+use Rattle.eds_value.specs.Laws.{IsOfType}
+use Rattle.eds_cmd.proofs.split.push_line.Goals as goal
+
+pub push_json-requires-clause-known : goal.push_json-requires-clause-known
+push_json-requires-clause-known c = subst (λ (t : Table). c.args.target.now.id.0 < length t) (sym c.requires.layouts) c.requires.known.there
+
+-- a value that is spelled has a canonical spelling
+pub push_json-requires-clause-one : goal.push_json-requires-clause-one
+push_json-requires-clause-one c =
+    let t = c.args.target.now.table.now in
+    let id = c.args.target.now.id.0 in
+    let there : IsThere t id = record { rules = c.keeps_rules.ensures; there = c.requires.known.there } in
+    subst (λ (t : Table). IsOfType t id (plain c.args.value.now)) (sym c.requires.layouts) ((c.canonical_spelling.ensures.some t id there _).0 c.requires.spelled.0 c.requires.spelled.1)
