@@ -24,7 +24,7 @@ use Rattle.eds_cmd.specs.Demonstrated.{IsDemonstrated, RunsTo}
 use Rattle.eds_cmd.specs.Reports.{demo_line}
 use Rattle.eds_cmd.specs.Run.{IsPlanOf, IsRunnable, Runs, all_events, wired}
 use Rattle.eds_cmd.specs.Running.{happenings}
-use Rattle.eds_cmd.specs.Tally.{Counts, is_reject, is_sent}
+use Rattle.eds_cmd.specs.Tally.{Counts}
 use Rattle.eds_cmd.proofs.AlikeRuns.{counted_alike}
 use Rattle.eds_cmd.proofs.SheetRuns.{ScriptLaws, plan_runs}
 

@@ -1,5 +1,5 @@
 -- What a demonstration with so many packets comes to.
-use Rattle.std.specs.Prelude.{◌≡◌, ℕ, List, [], ◌∷◌, Option, Some, None, Ok}
+use Rattle.std.specs.Prelude.{◌≡◌, ℕ, List, [], ◌∷◌, Some, None, Ok}
 use Rattle.eds_host.specs.Systems.{World}
 use Rattle.eds_host.specs.declared.wiring.Tie.{Tie}
 use Rattle.eds_plan.specs.Outs.{Report}

@@ -1,5 +1,5 @@
 -- The status and the report of a command over a shelf, some of whose reads may fail.
-use Rattle.std.specs.Prelude.{◌≡◌, ℕ, List, Bool, true, false, Some, IsSomeAnd, ⊤, ◌⊎◌}
+use Rattle.std.specs.Prelude.{◌≡◌, ℕ, List, Bool, true, false, IsSomeAnd, ⊤, ◌⊎◌}
 use Rattle.eds_io.specs.Files.{Files}
 use Rattle.eds_sheet.specs.Firsts.{Firsts}
 use Rattle.eds_cmd.specs.declared.status.Status.{Status}

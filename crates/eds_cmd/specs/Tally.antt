@@ -1,5 +1,5 @@
 -- How much of what leaves a run is sent, and how much is refused.
-use Rattle.std.specs.Prelude.{◌≡◌, ℕ, ◌+◌, List, Bool, true, false, count_by}
+use Rattle.std.specs.Prelude.{◌≡◌, ◌+◌, List, Bool, true, false, count_by}
 use Rattle.eds_plan.specs.Outs.{Report, left, stopped, refused}
 use Rattle.eds_cmd.specs.declared.tally.Tally.{Tally}
 

@@ -1,6 +1,6 @@
 -- What constraints admit of the entries to which they lead.
-use Rattle.std.proofs.Common.{◌≡◌, ℕ, ◌<◌, ℤ, pos, ◌≤ℤ◌, ◌⊎◌, inl, inr, ◌≤◌, Bool, true, false, List, [], ◌∷◌, ◌++◌, length, Option, Some, None, refl, sym, ap, subst, ◌∙◌, arith, append_assoc}
-use Rattle.std.specs.Prelude.{if◌then◌else◌, cond, ◌==◌, ◌&&◌, option_map, is_some, slice_get, IsSome, IsTrue}
+use Rattle.std.proofs.Common.{◌≡◌, ℕ, ℤ, pos, ◌≤ℤ◌, ◌⊎◌, inl, inr, ◌≤◌, Bool, true, false, List, [], ◌∷◌, ◌++◌, length, Option, Some, None, refl, sym, ap, subst, ◌∙◌, arith, append_assoc}
+use Rattle.std.specs.Prelude.{◌&&◌, option_map, is_some, slice_get}
 use Rattle.std.specs.Int.Signed.{≤ℤ_refl}
 use Rattle.std.proofs.lemmas.Bool.{and_parts}
 use Rattle.std.proofs.lemmas.Int.{ints}
@@ -13,11 +13,11 @@ use Rattle.eds_types.specs.declared.row.Kind.{Kind}
 use Rattle.eds_types.specs.declared.row.Kind.TheVariants as kind
 use Rattle.eds_types.specs.declared.row.TypeRow.{TypeRow}
 use Rattle.eds_types.specs.Domains.{int_domain_by, InDomainOf, InDomainOfRow}
-use Rattle.eds_types.specs.Fields.{listed, IsAtOrUnder}
+use Rattle.eds_types.specs.Fields.{listed}
 use Rattle.eds_types.specs.Reading.{is_within}
-use Rattle.eds_types.specs.Rows.{Table, container_by, container_in, container_of, is_concrete, chain, list_has}
-use Rattle.eds_types.specs.Rules.{IsContainer, HasKind, IsTypeSet, IsOneNumber, ComparesWith, TargetKeeps}
-use Rattle.eds_types.proofs.ChainLaws.{under_is, under_in}
+use Rattle.eds_types.specs.Rows.{Table, container_by, container_in, is_concrete, chain, list_has}
+use Rattle.eds_types.specs.Rules.{IsTypeSet, IsOneNumber, ComparesWith, TargetKeeps}
+use Rattle.eds_types.proofs.ChainLaws.{under_is}
 use Rattle.eds_types.proofs.LeastBound.{there}
 use Rattle.eds_types.proofs.ReadingTests.{has_from, has_in, within_from}
 use Rattle.eds_types.proofs.Tables.{IsTable}
@@ -28,7 +28,7 @@ use Rattle.eds_constraints.specs.ConstrainedRows.{is_on_kind}
 use Rattle.eds_domains.specs.Domains.{narrowed}
 use Rattle.eds_constraints.specs.Paths.{suits, suits_row}
 use Rattle.eds_constraints.specs.Sets.{one_number, truth_number, number_within, value_set, type_set, concrete_under, set_by, set_of}
-use Rattle.eds_constraints.proofs.ConcreteFacts.{is_concrete_at, concrete_within}
+use Rattle.eds_constraints.proofs.ConcreteFacts.{concrete_within}
 use Rattle.eds_domains.proofs.DomainFacts.{narrowed_within}
 
 -- ---- one number

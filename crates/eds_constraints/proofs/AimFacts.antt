@@ -1,6 +1,6 @@
 -- Where the paths of constraints lead: each step is at an entry that has the name.
-use Rattle.std.proofs.Common.{◌≡◌, ℕ, suc, ◌+◌, ◌<◌, Bool, true, false, List, [], ◌∷◌, ◌++◌, map, length, reverse, Option, Some, None, refl, sym, ap, subst, ◌∙◌, append_assoc, append-nil, arith}
-use Rattle.std.specs.Prelude.{if◌then◌else◌, ◌==◌, nat_lt, option_map, is_some, slice_get, IsSome}
+use Rattle.std.proofs.Common.{◌≡◌, ℕ, ◌+◌, ◌<◌, Bool, true, false, List, [], ◌∷◌, ◌++◌, map, length, reverse, Option, Some, None, refl, sym, ap, subst, ◌∙◌, append_assoc, append-nil, arith}
+use Rattle.std.specs.Prelude.{if◌then◌else◌, nat_lt, option_map, is_some, slice_get}
 use Rattle.std.specs.List.{AllByRecursion, flat_map}
 use Rattle.std.proofs.lemmas.List.{map-append}
 use Rattle.std.proofs.lemmas.Slice.Eq.{bytes_eq-Decides}
@@ -12,10 +12,9 @@ use Rattle.eds_types.specs.declared.row.Part.TheVariants as part
 use Rattle.eds_types.specs.Fields.{part_at, type_by, type_on, StartsInEntries}
 use Rattle.eds_types.specs.Rows.{Table, Placed, address, entries_of, trailers_of, container_of, placed_from, placed_entries, placed_trailers, chain, sequence}
 use Rattle.eds_types.specs.Rules.{IsContainer, Follows}
-use Rattle.eds_types.proofs.AllOf.{All-both, All-flat, All-has, All-reverse, All-at}
+use Rattle.eds_types.proofs.AllOf.{All-both, All-flat, All-has, All-reverse}
 use Rattle.eds_constraints.specs.declared.asked.Aim.{Aim}
 use Rattle.eds_constraints.specs.declared.asked.Asked.{Asked}
-use Rattle.eds_constraints.specs.declared.asked.Test.{Test}
 use Rattle.eds_constraints.specs.Paths.{is_point, before_names, names_in, called, is_called, place_called, first_called, entry_type, entry_at, is_listed, first_step, further_step, follow, aim_from, suits_row, suited, aim_of}
 
 -- ---- names in a text

@@ -1,5 +1,5 @@
 -- Tables that differ in the constraints of their containers alone: all else that the rules speak of is the same.
-use Rattle.std.proofs.Common.{◌≡◌, ℕ, zero, suc, ◌+◌, ◌<◌, ◌≤◌, ℤ, pos, ◌≤ℤ◌, inl, inr, Bool, true, false, List, [], ◌∷◌, ◌++◌, length, map, filter, reverse, Option, Some, None, refl, sym, ap, subst, ◌∙◌}
+use Rattle.std.proofs.Common.{◌≡◌, ℕ, zero, suc, ◌+◌, ◌<◌, ◌≤◌, ℤ, pos, ◌≤ℤ◌, Bool, true, false, List, [], ◌∷◌, ◌++◌, length, filter, reverse, Option, Some, None, refl, sym, ap, subst, ◌∙◌}
 use Rattle.std.specs.Prelude.{cond, option_map, slice_get, IsSome, IfSome, IsTrue}
 use Rattle.std.specs.List.{AllByRecursion, flat_map, range_with_len}
 use Rattle.eds_base.specs.declared.ids.TypeId.{TypeId}
@@ -18,7 +18,7 @@ use Rattle.eds_types.specs.Domains.{InDomainOf, InDomainOfRow, InDomainOfType, I
 use Rattle.eds_types.specs.Fields.{type_by, part_at, type_on, IsAtOrUnder, StartsInEntries}
 use Rattle.eds_types.specs.Plain.{plain}
 use Rattle.eds_types.specs.Rows.{Table, base_in, base_of, container_by, container_in, container_of, entries_in, entries_of, trailers_in, trailers_of, concrete_in, is_concrete, chain_before, chain_within, chain, list_has, numbers, derived, Placed, placed_from, placed_entries, placed_trailers, own_parts, sequence}
-use Rattle.eds_types.specs.Rules.{IsContainer, HasKind, IsIntBy, IsInt, KindKeeps, DerivesFrom, IsHollow, IsNested, ItemsNest, IsValueOf, IsCounted, HoldsCheck, TailKeeps, PartKeeps, is_length, Follows, ComparesWith, IsTypeSet, TargetKeeps}
+use Rattle.eds_types.specs.Rules.{IsContainer, HasKind, IsIntBy, IsInt, DerivesFrom, IsHollow, IsNested, ItemsNest, IsValueOf, IsCounted, HoldsCheck, TailKeeps, PartKeeps, is_length, Follows, ComparesWith, IsTypeSet, TargetKeeps}
 use Rattle.eds_types.specs.Sizes.{open_by, open_in, open_of, kind_size, row_size, size_within, part_size, trailers_along}
 use Rattle.eds_types.proofs.AllOf.{All-weaker}
 use Rattle.eds_constraints.specs.ConstrainedRows.{kind_with, row_with}

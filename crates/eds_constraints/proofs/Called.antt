@@ -1,15 +1,14 @@
 -- Parts by their names, along a chain.
-use Rattle.std.proofs.Common.{◌≡◌, ℕ, zero, suc, ◌+◌, ◌-◌, ◌<◌, ◌≤◌, Bool, true, false, List, [], ◌∷◌, ◌++◌, map, length, reverse, Option, Some, None, refl, sym, ap, ◌∙◌, arith, append_assoc, append-nil}
-use Rattle.std.specs.Prelude.{if◌then◌else◌, option_map, slice_get, is_some}
-use Rattle.std.specs.List.{flat_map, list_all}
+use Rattle.std.proofs.Common.{◌≡◌, ℕ, suc, ◌+◌, ◌-◌, ◌<◌, Bool, true, false, List, [], ◌∷◌, ◌++◌, map, length, reverse, Option, Some, None, refl, sym, ap, ◌∙◌, arith, append_assoc, append-nil}
+use Rattle.std.specs.Prelude.{option_map, slice_get}
+use Rattle.std.specs.List.{flat_map}
 use Rattle.std.proofs.lemmas.Grind.{flat_map-append}
 use Rattle.std.proofs.lemmas.List.{map-append, reverse-append}
 use Rattle.eds_base.specs.Reading.{same}
 use Rattle.eds_base.specs.declared.ids.TypeId.{TypeId}
 use Rattle.eds_names.specs.Positions.{place_from, place_among}
 use Rattle.eds_types.specs.declared.row.Part.{Part}
-use Rattle.eds_types.specs.declared.row.TypeRow.{TypeRow}
-use Rattle.eds_types.specs.Rows.{Table, Placed, id_of, address, or_else, base_of, base_in, container_in, container_of, container_by, entries_in, trailers_in, entries_of, trailers_of, placed_from, placed_entries, placed_trailers, chain_before, chain_within, chain, sequence}
+use Rattle.eds_types.specs.Rows.{Table, Placed, id_of, address, or_else, base_of, entries_of, trailers_of, placed_from, placed_entries, placed_trailers, chain_before, chain_within, chain}
 use Rattle.eds_types.specs.Fields.{part_at}
 use Rattle.eds_constraints.specs.Paths.{called, is_called, place_called, first_called}
 

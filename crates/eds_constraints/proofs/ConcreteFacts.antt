@@ -1,13 +1,13 @@
 -- The concrete containers at or under a type, gathered by their numbers.
-use Rattle.std.proofs.Common.{◌≡◌, ℕ, zero, suc, ◌+◌, ◌-◌, ◌<◌, ◌≤◌, ℤ, pos, ◌≤ℤ◌, ◌<ℤ◌, ◌↔◌, ◌⊎◌, inl, inr, List, [], ◌∷◌, ◌++◌, map, filter, length, Bool, true, false, Option, Some, None, refl, sym, ap, subst, ◌∙◌, arith, append_assoc}
+use Rattle.std.proofs.Common.{◌≡◌, ℕ, zero, suc, ◌+◌, ◌-◌, ◌<◌, ◌≤◌, ℤ, pos, ◌≤ℤ◌, ◌<ℤ◌, ◌↔◌, ◌⊎◌, inl, inr, List, [], ◌∷◌, ◌++◌, map, filter, length, Bool, true, false, Option, refl, sym, ap, subst, ◌∙◌, arith, append_assoc}
 use Rattle.std.specs.Prelude.{◌==◌, ◌&&◌, if◌then◌else◌, cond}
 use Rattle.std.specs.List.{range_with_len}
 use Rattle.std.proofs.lemmas.Int.{ints}
 use Rattle.eds_base.specs.declared.spans.Span.{Span}
-use Rattle.eds_base.specs.Spans.{IsWithin, Rises, RisesFrom, bottom, top}
+use Rattle.eds_base.specs.Spans.{IsWithin, Rises, bottom}
 use Rattle.eds_base.proofs.SpansLemmas.{rises_lower}
-use Rattle.eds_types.specs.Rows.{Table, base_of, is_concrete, chain, chain_before, chain_within, list_has, derived, numbers}
-use Rattle.eds_constraints.specs.Sets.{set_of_numbers, concrete_under}
+use Rattle.eds_types.specs.Rows.{Table, base_of, is_concrete, chain, chain_before, chain_within, list_has, derived}
+use Rattle.eds_constraints.specs.Sets.{concrete_under}
 use Rattle.eds_constraints.proofs.SetFacts.{same_set, Among, RiseTo, numbers_rise, numbers_within}
 
 -- a concrete container at or under a type

@@ -1,5 +1,5 @@
 -- Rows that keep the rules on types keep them with the constraints of their containers, where nothing breaks a rule on constraints.
-use Rattle.std.proofs.Common.{◌≡◌, ℕ, zero, suc, ◌+◌, ◌<◌, ◌≤◌, ℤ, Bool, true, false, List, [], ◌∷◌, ◌++◌, map, length, Option, Some, None, refl, sym, ap, subst, ◌∙◌, arith}
+use Rattle.std.proofs.Common.{◌≡◌, ℕ, zero, suc, ◌+◌, ◌<◌, ◌≤◌, ℤ, Bool, List, [], ◌∷◌, map, length, Option, Some, None, refl, sym, ap, subst, ◌∙◌, arith}
 use Rattle.std.specs.Prelude.{option_map, slice_get}
 use Rattle.std.specs.List.{AllByRecursion, filter_map, flat_map}
 use Rattle.std.proofs.lemmas.Option.{slice_get_within}
@@ -9,15 +9,14 @@ use Rattle.eds_base.specs.declared.spans.Span.{Span}
 use Rattle.eds_base.specs.Spans.{IsWithin}
 use Rattle.eds_bits.specs.Lists.{Has}
 use Rattle.eds_types.specs.declared.row.Constraint.{Constraint}
-use Rattle.eds_types.specs.declared.row.Container.{Container}
 use Rattle.eds_types.specs.declared.row.Kind.{Kind}
 use Rattle.eds_types.specs.declared.row.Kind.TheVariants as kind
 use Rattle.eds_types.specs.declared.row.TypeRow.{TypeRow}
 use Rattle.eds_types.specs.Domains.{InDomain, InDomainOfType}
 use Rattle.eds_types.specs.Fields.{type_by, type_on, StartsInEntries, constraints_along}
 use Rattle.eds_types.specs.Overlap.{IsSolution}
-use Rattle.eds_types.specs.Rows.{Table, base_in, base_of, container_in, constraints_in, constraints_of, derived, chain, Placed, own_parts, sequence}
-use Rattle.eds_types.specs.Rules.{AreDistinct, IsHollow, IsContainer, HasKind, KindKeeps, DerivesFrom, IsNested, ItemsNest, PartKeeps, SequenceKeeps, Follows, TargetKeeps, ConstraintKeeps, KeepsRules}
+use Rattle.eds_types.specs.Rows.{Table, base_in, base_of, container_in, constraints_in, constraints_of, chain, Placed, own_parts}
+use Rattle.eds_types.specs.Rules.{AreDistinct, IsHollow, HasKind, KindKeeps, DerivesFrom, IsNested, ItemsNest, PartKeeps, SequenceKeeps, Follows, TargetKeeps, ConstraintKeeps, KeepsRules}
 use Rattle.eds_types.proofs.AllOf.{All-weaker, All-unflat, All-flat, All-has, All-at}
 use Rattle.eds_types.proofs.ChainLaws.{itself_in}
 use Rattle.eds_types.proofs.RuleFacts.{table_of}
@@ -28,8 +27,8 @@ use Rattle.eds_constraints.specs.ConstrainedRows.{is_on_kind, constraint_by, con
 use Rattle.eds_constraints.specs.Laws.{ConstraintsKeepRules}
 use Rattle.eds_constraints.specs.Sets.{set_of}
 use Rattle.eds_constraints.proofs.AdmittedFacts.{set_speaks, set_in_domain}
-use Rattle.eds_constraints.proofs.AimFacts.{IsPath, Leads, aim_leads, one_text, name_at}
-use Rattle.eds_constraints.proofs.AlikeTables.{Alike, container_with, kind_kept, derives_kept, same_base, same_chain, same_derived, same_own_parts, same_sequence, same_type_on, container_before, hollow_before, has_kind, nested_then, items_then, part_then, starts_then, follows_then, target_then, domain_then}
+use Rattle.eds_constraints.proofs.AimFacts.{Leads, aim_leads, one_text, name_at}
+use Rattle.eds_constraints.proofs.AlikeTables.{Alike, kind_kept, derives_kept, same_base, same_chain, same_derived, same_own_parts, same_sequence, same_type_on, container_before, hollow_before, nested_then, items_then, part_then, starts_then, follows_then, target_then, domain_then}
 use Rattle.eds_constraints.proofs.LeftSome.{AdmitsIt, AdmitsOn, IsAimed, all_aimed, chain_leaves}
 
 -- ---- the rows

@@ -1,7 +1,6 @@
 -- Labels by their places in a listing.
-use Rattle.std.proofs.Common.{◌≡◌, ℕ, zero, suc, ◌+◌, ℤ, ◌≤ℤ◌, Bool, true, false, List, [], ◌∷◌, ◌++◌, map, length, Option, Some, None, refl, sym, ap, subst, ◌∙◌, arith, append_assoc}
+use Rattle.std.proofs.Common.{◌≡◌, ℕ, ◌+◌, ℤ, ◌≤ℤ◌, Bool, true, false, List, [], ◌∷◌, ◌++◌, map, length, Option, Some, None, refl, sym, ap, ◌∙◌, arith, append_assoc}
 use Rattle.std.specs.Prelude.{option_map, slice_get}
-use Rattle.std.specs.List.{AllByRecursion}
 use Rattle.std.proofs.lemmas.Option.{slice_get-map}
 use Rattle.eds_base.specs.Reading.{same}
 use Rattle.eds_base.specs.Spans.{bottom, top}
@@ -11,7 +10,7 @@ use Rattle.eds_types.specs.declared.row.Kind.TheVariants as kind
 use Rattle.eds_types.specs.declared.row.TypeRow.{TypeRow}
 use Rattle.eds_types.specs.Fields.{listed}
 use Rattle.eds_types.specs.Rows.{Table}
-use Rattle.eds_constraints.specs.ConstrainedRows.{AreRead, IsReadKind, IsSmallLabel}
+use Rattle.eds_constraints.specs.ConstrainedRows.{AreRead, IsReadKind}
 use Rattle.eds_constraints.specs.Named.{label_in, listing_in, labels_of, number_in_row, number_of_label}
 use Rattle.eds_constraints.proofs.ValueFacts.{label_bounds}
 

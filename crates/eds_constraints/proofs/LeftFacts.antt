@@ -1,9 +1,8 @@
 -- What constraints leave on their paths: those of a base and those of a container, put together.
-use Rattle.std.proofs.Common.{◌≡◌, inl, inr, ℕ, zero, suc, ◌+◌, ◌-◌, ◌<◌, ◌≤◌, ℤ, ◌≤ℤ◌, List, [], ◌∷◌, ◌++◌, map, length, drop, get_or, Bool, true, false, Option, Some, None, refl, sym, ap, subst, ◌∙◌, arith, append_assoc, append-nil, drop-cons, add-one}
+use Rattle.std.proofs.Common.{◌≡◌, inl, inr, ℕ, zero, suc, ◌+◌, ◌-◌, ◌<◌, ◌≤◌, ℤ, ◌≤ℤ◌, List, [], ◌∷◌, ◌++◌, map, length, drop, get_or, Bool, true, false, Option, Some, None, refl, sym, ap, subst, ◌∙◌, arith, append-nil, drop-cons, add-one}
 use Rattle.std.specs.Prelude.{if◌then◌else◌, ◌⊎◌, option_map, slice_get, slice_set, Result, Ok, Err, IfOk}
-use Rattle.std.specs.List.{AllByRecursion, flat_map}
+use Rattle.std.specs.List.{flat_map}
 use Rattle.std.specs.Int.Signed.{≤ℤ_refl}
-use Rattle.std.specs.Str.{bytes_eq}
 use Rattle.std.proofs.lemmas.Grind.{flat_map-append}
 use Rattle.std.proofs.lemmas.Slice.Eq.{bytes_eq-Decides}
 use Rattle.std.proofs.lemmas.Option.{slice_get-get_or, slice_get-map}
@@ -11,8 +10,8 @@ use Rattle.eds_base.specs.declared.refusal.Refusal.{Refusal}
 use Rattle.eds_base.specs.declared.spans.Span.{Span}
 use Rattle.eds_base.specs.Numbers.{whole_number, flag_value}
 use Rattle.eds_base.specs.Reading.{same}
-use Rattle.eds_base.specs.Refusals.{least, first_of}
-use Rattle.eds_base.specs.Spans.{Rises, IsWithin, bottom, top}
+use Rattle.eds_base.specs.Refusals.{least}
+use Rattle.eds_base.specs.Spans.{Rises, bottom, top}
 use Rattle.eds_base.proofs.SpansLemmas.{within_floor, within_top}
 use Rattle.eds_names.specs.Positions.{place_from, place_among}
 use Rattle.eds_types.specs.declared.row.Kind.{Kind}
@@ -29,9 +28,8 @@ use Rattle.eds_constraints.specs.declared.asked.Test.{Test}
 use Rattle.eds_constraints.specs.declared.asked.Test.TheVariants.{Value, Within, Under}
 use Rattle.eds_constraints.specs.Breaks.{Lists, Posed, aim_at, admitted, some_of, left_by, left_behind, left_after, left_on, asked_of, posed_by, posed_of, empties_after, empties_of}
 use Rattle.eds_constraints.specs.ConstrainedRows.{AreRead, IsReadKind}
-use Rattle.eds_domains.specs.Domains.{narrowed}
 use Rattle.eds_constraints.specs.Lefts.{path_of, every_number_on, left_on_path, posed_over, IsPlaced, IsLeft, IsLeftOf, AreAllLeft, RiseIn, AreRising}
-use Rattle.eds_constraints.specs.Sets.{one_number, all_numbers, met, truth_number, number_within, value_set, type_set, concrete_under, set_by, set_of}
+use Rattle.eds_constraints.specs.Sets.{one_number, all_numbers, met, truth_number, number_within, value_set, concrete_under, set_by, set_of}
 use Rattle.eds_constraints.proofs.ConcreteFacts.{concrete_rises}
 use Rattle.eds_domains.proofs.DomainFacts.{narrowed_rises}
 use Rattle.eds_constraints.proofs.SetFacts.{met_rises, met-assoc, met-none, met-all, all_rise}

@@ -1,5 +1,5 @@
 -- What is left on a path by the constraints of a chain, where no rule on constraints is broken: some number, which they all admit.
-use Rattle.std.proofs.Common.{◌≡◌, ℕ, zero, suc, ◌+◌, ◌<◌, ◌≤◌, ℤ, ◌≤ℤ◌, ◌⊎◌, inl, inr, Bool, true, false, List, [], ◌∷◌, ◌++◌, map, length, Option, Some, None, refl, sym, ap, subst, ◌∙◌, arith, append_assoc, append-nil}
+use Rattle.std.proofs.Common.{◌≡◌, ℕ, zero, suc, ◌+◌, ◌<◌, ◌≤◌, ℤ, ◌≤ℤ◌, ◌⊎◌, inl, inr, Bool, true, false, List, [], ◌∷◌, ◌++◌, length, Option, Some, None, refl, sym, ap, subst, ◌∙◌, arith, append_assoc, append-nil}
 use Rattle.std.specs.Prelude.{if◌then◌else◌, int_le, is_some, slice_get}
 use Rattle.std.specs.List.{AllByRecursion, flat_map, range_with_len}
 use Rattle.std.specs.Int.Signed.{≤ℤ_refl}
@@ -7,8 +7,7 @@ use Rattle.std.proofs.lemmas.Grind.{flat_map-append}
 use Rattle.std.proofs.lemmas.Int.{ints}
 use Rattle.std.proofs.lemmas.Option.{slice_get_within}
 use Rattle.std.proofs.lemmas.Slice.Eq.{bytes_eq-Decides}
-use Rattle.eds_base.specs.Reading.{◌>>=◌, same}
-use Rattle.eds_base.specs.declared.refusal.Refusal.{Refusal}
+use Rattle.eds_base.specs.Reading.{same}
 use Rattle.eds_base.specs.declared.rule.Rule.TheVariants.{ConstraintTarget, ConstraintValue}
 use Rattle.eds_base.specs.declared.spans.Span.{Span}
 use Rattle.eds_base.specs.Spans.{IsWithin, bottom}
@@ -20,7 +19,7 @@ use Rattle.eds_types.proofs.ChainLaws.{front_same, chain_step}
 use Rattle.eds_types.proofs.RuleFacts.{table_of}
 use Rattle.eds_constraints.specs.declared.asked.Aim.{Aim}
 use Rattle.eds_domains.specs.declared.range.Range.{Range}
-use Rattle.eds_constraints.specs.Breaks.{Lists, Posed, broken, aim_at, admitted, posed_of, target_at, value_at, some_of, left_by, left_behind, left_on, is_emptied, empty_by, empty_at, empties_after, posed_above, empties_of, breaks_over, breaks_target, breaks_value, breaks_empty}
+use Rattle.eds_constraints.specs.Breaks.{Lists, Posed, broken, aim_at, admitted, posed_of, target_at, value_at, some_of, left_by, left_behind, left_on, is_emptied, empty_by, empty_at, empties_after, posed_above, empties_of, breaks_target, breaks_value, breaks_empty}
 use Rattle.eds_domains.specs.Domains.{interval, raised, lowered, narrowed_span, narrowed, has_none}
 use Rattle.eds_constraints.specs.Sets.{all_numbers, between, met}
 use Rattle.eds_constraints.proofs.LeftFacts.{after_last}

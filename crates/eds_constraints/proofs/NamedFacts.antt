@@ -6,10 +6,9 @@ use Rattle.std.proofs.lemmas.Option.{slice_get-map}
 use Rattle.eds_base.specs.declared.ids.TypeId.{TypeId}
 use Rattle.eds_names.specs.Positions.{place_among}
 use Rattle.eds_types.specs.declared.row.TypeRow.{TypeRow}
-use Rattle.eds_types.specs.declared.row.Container.{Container}
 use Rattle.eds_types.specs.declared.row.Kind.{Kind}
 use Rattle.eds_types.specs.declared.row.Kind.TheVariants as kind
-use Rattle.eds_types.specs.Rows.{Table, id_of, address, or_else, base_of, container_by, container_in, entries_in, trailers_in, entries_of, trailers_of, placed_entries, placed_trailers, chain_before, chain_within, chain}
+use Rattle.eds_types.specs.Rows.{Table, id_of, address, or_else, base_of, container_by, entries_in, trailers_in, entries_of, trailers_of, placed_entries, placed_trailers, chain_before, chain_within, chain}
 use Rattle.eds_constraints.specs.Paths.{called, place_called, first_called}
 use Rattle.eds_constraints.specs.Named.{names_of_entries, names_of_trailers, has_few_parts, have_few_parts}
 use Rattle.eds_constraints.specs.ConstrainedRows.{AreRead, IsReadKind}

@@ -1,19 +1,15 @@
 -- Sets of numbers: what two have in common, and those of the numbers of types.
-use Rattle.std.proofs.Common.{◌≡◌, ℕ, suc, ◌+◌, ◌<◌, ◌≤◌, ℤ, pos, ◌+ℤ◌, ◌≤ℤ◌, ◌<ℤ◌, ◌↔◌, ◌⊎◌, inl, inr, List, [], ◌∷◌, ◌++◌, map, filter, length, Bool, true, false, Option, Some, None, refl, sym, ap, subst, ◌∙◌, arith}
-use Rattle.std.specs.Prelude.{int_le, ◌&&◌, if◌then◌else◌, ◌^◌, Result, Ok, Err, IfOk}
-use Rattle.std.specs.List.{flat_map, range_with_len}
+use Rattle.std.proofs.Common.{◌≡◌, ℕ, ◌+◌, ◌<◌, ◌≤◌, ℤ, pos, ◌+ℤ◌, ◌≤ℤ◌, ◌↔◌, ◌⊎◌, inl, inr, List, [], ◌∷◌, ◌++◌, Bool, true, false, refl, sym, subst, arith}
+use Rattle.std.specs.Prelude.{Result, Ok, Err, IfOk}
 use Rattle.std.specs.Ordering.{int_eq}
 use Rattle.std.specs.Int.Signed.{≤ℤ_refl}
 use Rattle.std.proofs.lemmas.Int.{ints}
 use Rattle.eds_base.specs.declared.spans.Span.{Span}
-use Rattle.eds_base.specs.Spans.{Lies, IsWithin, RisesFrom, Rises, bottom, top}
+use Rattle.eds_base.specs.Spans.{IsWithin, RisesFrom, Rises, bottom, top}
 use Rattle.eds_base.proofs.SpansLemmas.{rises_lower, within_floor, within_top}
-use Rattle.eds_types.specs.Rows.{Table, is_concrete, chain, list_has, derived, numbers}
-use Rattle.eds_domains.specs.declared.range.End.TheVariants.{Inclusive}
-use Rattle.eds_domains.specs.Ranges.{Admits}
-use Rattle.eds_domains.specs.Domains.{narrowed, narrowed_span, has_none}
-use Rattle.eds_constraints.specs.Sets.{one_number, all_numbers, between, met, put_before, set_of_numbers, concrete_under}
-use Rattle.eds_domains.proofs.DomainFacts.{one_list, both_within, narrowed_within, narrowed_rises, none-from}
+use Rattle.eds_domains.specs.Domains.{narrowed}
+use Rattle.eds_constraints.specs.Sets.{one_number, all_numbers, between, met, put_before, set_of_numbers}
+use Rattle.eds_domains.proofs.DomainFacts.{one_list, both_within, narrowed_within, narrowed_rises}
 
 -- ---- what two sets have in common
 

@@ -9,7 +9,6 @@ use Rattle.eds_base.specs.declared.refusal.Refusal.{Refusal}
 use Rattle.eds_base.specs.Refusals.{first_of, least}
 use Rattle.eds_base.proofs.LeastLaws.{least-append, first_assoc}
 use Rattle.eds_graph.specs.declared.course.Course.{Course}
-use Rattle.eds_graph.specs.declared.course.Course.TheVariants.{OnCircle}
 use Rattle.eds_graph.specs.Ways.{course, all_courses, all_reached, is_reached, is_met, is_on_circle, is_circular, reaches_circle}
 use Rattle.eds_generic.specs.declared.face.Face.{Face}
 use Rattle.eds_generic.specs.Every.{over_from}

@@ -1,18 +1,17 @@
 -- Where no interface that is met is its own base, all ways up end.
-use Rattle.std.proofs.Common.{◌≡◌, ℕ, zero, suc, ◌+◌, ◌<◌, ◌≤◌, ◌&&◌, ◌||◌, ◌++◌, length, map, Bool, true, false, List, [], ◌∷◌, Option, Some, None, refl, sym, ap, ◌∙◌, arith, slice_get}
-use Rattle.std.specs.Prelude.{nat_lt, if◌then◌else◌}
+use Rattle.std.proofs.Common.{◌≡◌, ℕ, zero, suc, ◌+◌, ◌≤◌, ◌&&◌, ◌||◌, ◌++◌, length, Bool, true, false, List, [], ◌∷◌, None, refl, sym, ap, ◌∙◌, arith}
+use Rattle.std.specs.Prelude.{nat_lt}
 use Rattle.std.specs.List.{list_any, list_all, range_with_len}
-use Rattle.std.proofs.lemmas.Bool.Decides.{nat_tests}
 use Rattle.eds_base.specs.declared.ids.Place.{Place}
 use Rattle.eds_base.specs.Refusals.{least}
-use Rattle.eds_graph.specs.Ways.{children, reaches_circle, is_circle_met, is_met, is_on_circle, has_way, tall, height, largest, larger}
+use Rattle.eds_graph.specs.Ways.{children, reaches_circle, is_circle_met, is_met, is_on_circle, has_way, tall, largest, larger}
 use Rattle.eds_graph.proofs.Depth.{ways-end}
 use Rattle.eds_generic.specs.declared.face.Base.{Base}
 use Rattle.eds_generic.specs.declared.face.Face.{Face}
-use Rattle.eds_generic.specs.Faces.{bases, bases_by}
+use Rattle.eds_generic.specs.Faces.{bases}
 use Rattle.eds_generic.specs.Pairs.{ends_within, most}
 use Rattle.eds_generic.specs.Every.{over_from, own_cycle_at, own_cycles}
-use Rattle.eds_generic.specs.Cycles.{base_numbers, graph_of, is_own_base, cycle_of, cycle_if, cycle_at, cycles_from, breaks_cycle}
+use Rattle.eds_generic.specs.Cycles.{base_numbers, graph_of, is_own_base, cycle_if, cycle_at, cycles_from, breaks_cycle}
 use Rattle.eds_generic.proofs.NameBreaks.{least-none}
 use Rattle.eds_generic.proofs.Once.{and-both}
 use Rattle.eds_generic.proofs.Cycling.{graph-length}

@@ -1,5 +1,5 @@
 -- An interface with too many members breaks that limit first.
-use Rattle.std.proofs.Common.{◌≡◌, ℕ, ◌<◌, ◌≤◌, Bool, true, false, List, [], ◌∷◌, ◌++◌, length, map, codes, Option, Some, None, Result, Ok, Err, option_map, refl, sym, ap, ◌∙◌, arith}
+use Rattle.std.proofs.Common.{◌≡◌, ℕ, ◌<◌, ◌≤◌, Bool, true, false, List, [], ◌++◌, length, map, codes, Option, Some, None, Result, Ok, Err, option_map, refl, sym, ap, ◌∙◌, arith}
 use Rattle.std.specs.Prelude.{nat_lt, IsErrAnd}
 use Rattle.std.proofs.lemmas.Bool.Decides.{nat_tests}
 use Rattle.std.proofs.lemmas.Bool.{eq-eqb}
@@ -21,7 +21,7 @@ use Rattle.eds_generic.specs.declared.face.Face.{Face}
 use Rattle.eds_generic.specs.declared.pair.Pair.{Pair}
 use Rattle.eds_generic.specs.Members.{members, repeated}
 use Rattle.eds_generic.specs.NameRules.{first, keeping, limit_of, duplicates_of, breaks_unmapped, breaks_unknown, breaks_generic_base, names_under, unmapped_at, unknown_at, refused_at}
-use Rattle.eds_generic.specs.Resolved.{breaks_given, pair_breaks, members_or_limit, unless}
+use Rattle.eds_generic.specs.Resolved.{pair_breaks, members_or_limit, unless}
 use Rattle.eds_generic.proofs.NameBreaks.{least-duplicate, least-unmapped, least-unknown, least-generic_base}
 
 -- ---- numbers of members

@@ -1,9 +1,9 @@
 -- Numbers from which a circle is reached.
-use Rattle.std.proofs.Common.{◌≡◌, ℕ, ◌<◌, ◌≤◌, ◌+◌, ◌==◌, ◌||◌, ◌&&◌, length, Bool, true, false, List, [], ◌∷◌, refl, sym, ap, ◌∙◌, subst, arith, inl, inr, ◌⊎◌}
+use Rattle.std.proofs.Common.{◌≡◌, ℕ, length, true, false, List, sym, ◌∙◌, subst, arith, inl, inr, ◌⊎◌}
 use Rattle.std.specs.List.{list_any, range_with_len}
 use Rattle.eds_graph.specs.Search.{Has}
 use Rattle.eds_graph.specs.Ways.{children, leads, is_on_circle, is_met, is_circle_met, reaches_circle}
-use Rattle.eds_graph.proofs.Tests.{and-both, and-left, and-right, alike, not-true, no-both, any-has, has-any, has-range, Passes}
+use Rattle.eds_graph.proofs.Tests.{and-both, and-left, and-right, alike, not-true, no-both, any-has, has-any, has-range}
 use Rattle.eds_graph.proofs.Leading.{leads-is, leads-within, leads-child, met-itself, met-leads, met-or}
 
 module _ (g : List (List ℕ)) where

@@ -1,5 +1,5 @@
 -- How long the ways from a number are.
-use Rattle.std.proofs.Common.{◌≡◌, ℕ, zero, suc, ◌<◌, ◌≤◌, ◌+◌, ◌||◌, length, Bool, true, false, List, [], ◌∷◌, refl, sym, ap, ◌∙◌, subst, arith, inl, inr, ◌⊎◌}
+use Rattle.std.proofs.Common.{◌≡◌, ℕ, zero, suc, ◌<◌, ◌≤◌, ◌||◌, length, Bool, true, false, List, [], ◌∷◌, refl, sym, ap, ◌∙◌, subst, arith, inl, inr, ◌⊎◌}
 use Rattle.std.specs.Prelude.{nat_lt}
 use Rattle.std.specs.List.{list_any, range_with_len}
 use Rattle.eds_graph.specs.declared.course.Course.TheVariants.{OnCircle, ToCircle, Ends}
@@ -7,9 +7,9 @@ use Rattle.std.proofs.lemmas.Bool.Decides.{nat_tests}
 use Rattle.eds_graph.specs.Search.{Has}
 use Rattle.eds_graph.specs.Laws.{HeightIsLongest, WaysEnd, CirclesAreEndless, CourseTellsDepth}
 use Rattle.eds_graph.specs.Ways.{children, leads, is_on_circle, is_circle_met, reaches_circle, is_met, has_way, largest, larger, height, course, is_deeper}
-use Rattle.eds_graph.proofs.Tests.{true-or, any-has, has-any, and-left, and-right, split, Passes}
-use Rattle.eds_graph.proofs.Leading.{leads-is, met-or, met-itself, met-leads}
-use Rattle.eds_graph.proofs.Circles.{reaches-by, reaches-is, clear-child}
+use Rattle.eds_graph.proofs.Tests.{any-has, has-any, and-left, and-right, split}
+use Rattle.eds_graph.proofs.Leading.{leads-is, met-or, met-itself}
+use Rattle.eds_graph.proofs.Circles.{clear-child}
 use Rattle.eds_graph.proofs.Heights.{height-is, larger-less, larger-not}
 
 less : (c d : ℕ) → c < d → nat_lt c d ≡ true

@@ -1,15 +1,14 @@
 -- How many numbers the longest way has, where no circle is reached.
-use Rattle.std.proofs.Common.{◌≡◌, ℕ, zero, suc, ◌<◌, ◌≤◌, ◌+◌, ◌==◌, ◌||◌, length, Bool, true, false, List, [], ◌∷◌, refl, sym, ap, ◌∙◌, subst, arith, inl, inr, ◌⊎◌}
+use Rattle.std.proofs.Common.{◌≡◌, ℕ, zero, suc, ◌<◌, ◌≤◌, ◌+◌, ◌||◌, length, Bool, true, false, List, [], ◌∷◌, refl, sym, ap, ◌∙◌, subst, arith, inl, inr, ◌⊎◌}
 use Rattle.std.specs.Prelude.{nat_lt}
 use Rattle.std.specs.List.{list_any}
 use Rattle.std.proofs.lemmas.Bool.Decides.{nat_tests}
-use Rattle.eds_graph.specs.declared.course.Course.{Course}
-use Rattle.eds_graph.specs.declared.course.Course.TheVariants.{OnCircle, ToCircle, Ends}
+use Rattle.eds_graph.specs.declared.course.Course.TheVariants.{ToCircle, Ends}
 use Rattle.eds_graph.specs.declared.search.State.{State}
 use Rattle.eds_graph.specs.declared.search.State.TheVariants.{Done}
 use Rattle.eds_graph.specs.Search.{Has, state, course_in, join, join_all}
-use Rattle.eds_graph.specs.Ways.{children, leads, is_on_circle, reaches_circle, tall, larger, largest, height, course}
-use Rattle.eds_graph.proofs.Tests.{split, true-or, either, or-left, or-right, no-both}
+use Rattle.eds_graph.specs.Ways.{children, is_on_circle, reaches_circle, tall, larger, largest, height, course}
+use Rattle.eds_graph.proofs.Tests.{split}
 use Rattle.eds_graph.proofs.Leading.{no-children, trues, above, above-few, above-fewer}
 use Rattle.eds_graph.proofs.Circles.{clear-child, clear-own, reaches-is}
 

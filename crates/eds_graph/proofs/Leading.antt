@@ -1,5 +1,5 @@
 -- One number leads to another over any number of steps.
-use Rattle.std.proofs.Common.{◌≡◌, ℕ, zero, suc, ◌+◌, ◌<◌, ◌≤◌, ◌==◌, ◌||◌, ◌&&◌, ◌++◌, length, map, Bool, true, false, List, [], ◌∷◌, refl, sym, ap, ◌∙◌, subst, arith, inl, inr, ◌⊎◌}
+use Rattle.std.proofs.Common.{◌≡◌, ℕ, zero, suc, ◌<◌, ◌≤◌, ◌==◌, ◌||◌, length, map, Bool, true, false, List, [], ◌∷◌, refl, sym, ap, ◌∙◌, subst, arith, inl, inr, ◌⊎◌}
 use Rattle.std.specs.Prelude.{slice_get, unwrap_or}
 use Rattle.std.specs.List.{list_any, range_with_len}
 use Rattle.std.proofs.lemmas.Bool.{eq-eqb, eqb-true}
@@ -7,7 +7,7 @@ use Rattle.std.proofs.lemmas.List.FromFn.{get_or-map-range_with_len, length-map-
 use Rattle.std.proofs.lemmas.Option.{slice_get-get_or, slice_get_past}
 use Rattle.eds_graph.specs.Search.{Has}
 use Rattle.eds_graph.specs.Ways.{children, reaches, leads, is_met}
-use Rattle.eds_graph.proofs.Tests.{or-left, or-right, either, same-or, split, any-has, has-any, any-alike, any-implied, no-both, Passes}
+use Rattle.eds_graph.proofs.Tests.{or-left, or-right, either, split, any-has, has-any, any-alike, any-implied, no-both}
 
 -- ---- flags
 

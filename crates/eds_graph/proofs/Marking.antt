@@ -1,11 +1,11 @@
 -- A search with marks finds what is reached.
-use Rattle.std.proofs.Common.{◌≡◌, ℕ, zero, suc, ◌<◌, ◌≤◌, ◌+◌, ◌++◌, length, map, set, replicate, get_or, Bool, true, false, List, [], ◌∷◌, refl, sym, ap, ◌∙◌, subst, arith, inl, inr, ◌⊎◌}
-use Rattle.std.specs.List.{list_any, range_with_len}
+use Rattle.std.proofs.Common.{◌≡◌, ℕ, zero, suc, ◌<◌, ◌≤◌, ◌+◌, length, map, set, replicate, get_or, Bool, true, false, List, [], ◌∷◌, refl, sym, ap, ◌∙◌, subst, arith, inl, inr, ◌⊎◌}
+use Rattle.std.specs.List.{range_with_len}
 use Rattle.eds_graph.specs.Search.{Has}
 use Rattle.eds_graph.specs.Stacks.{pushed}
 use Rattle.eds_graph.specs.Reaching.{mark, IsNoted, Reaching, unmarked}
-use Rattle.eds_graph.specs.Ways.{children, leads, is_met, is_reached, all_reached}
-use Rattle.eds_graph.proofs.Tests.{same-or, true-or, alike, no-both, any-has, has-any, Passes}
+use Rattle.eds_graph.specs.Ways.{children, is_met, is_reached, all_reached}
+use Rattle.eds_graph.proofs.Tests.{same-or, alike, no-both, any-has, has-any}
 use Rattle.eds_graph.proofs.Leading.{no-children, met-itself, met-leads, met-or, met-on, leads-step, leads-all}
 use Rattle.eds_graph.proofs.Searching.{pushed-has, has-old, has-pushed, pushed-length}
 

@@ -1,14 +1,14 @@
 -- What the search keeps true, after each of its steps.
-use Rattle.std.proofs.Common.{◌≡◌, ℕ, zero, suc, ◌<◌, ◌≤◌, ◌+◌, ◌++◌, length, Bool, true, false, List, [], ◌∷◌, refl, sym, ap, ◌∙◌, subst, arith, inl, inr, ◌⊎◌}
+use Rattle.std.proofs.Common.{◌≡◌, ℕ, ◌<◌, ◌≤◌, ◌+◌, ◌++◌, length, Bool, true, false, List, [], ◌∷◌, refl, sym, ap, ◌∙◌, subst, arith, inl, inr, ◌⊎◌}
 use Rattle.std.proofs.lemmas.List.{length-append, append_assoc}
 use Rattle.eds_graph.specs.declared.course.Course.{Course}
-use Rattle.eds_graph.specs.declared.course.Course.TheVariants.{OnCircle, Ends}
+use Rattle.eds_graph.specs.declared.course.Course.TheVariants.{OnCircle}
 use Rattle.eds_graph.specs.declared.search.State.{State}
 use Rattle.eds_graph.specs.declared.search.State.TheVariants.{New, Open, Done}
-use Rattle.eds_graph.specs.Search.{Has, At, Segment, IsSegment, IsSeen, AreSegments, AreOpen, IsSound, state, is_done, members_of, waiting_of, course_of_top, join_all}
-use Rattle.eds_graph.specs.Ways.{children, leads, is_met, is_on_circle, course}
-use Rattle.eds_graph.proofs.Tests.{has-left, has-right, has-either, has-any, same-or, true-or, not-true, no-both, Passes}
-use Rattle.eds_graph.proofs.Leading.{leads-is, leads-step, leads-on, leads-met, met-on, met-or, leads-all}
+use Rattle.eds_graph.specs.Search.{Has, At, Segment, IsSegment, IsSeen, AreSegments, AreOpen, IsSound, state, is_done, members_of, waiting_of, course_of_top}
+use Rattle.eds_graph.specs.Ways.{children, leads, is_met, course}
+use Rattle.eds_graph.proofs.Tests.{has-left, has-right, has-either, has-any, same-or, not-true, no-both}
+use Rattle.eds_graph.proofs.Leading.{leads-is, leads-step, leads-on, leads-met, met-or, leads-all}
 use Rattle.eds_graph.proofs.Heights.{course-after}
 
 -- ---- places

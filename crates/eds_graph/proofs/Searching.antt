@@ -1,22 +1,22 @@
 -- The search over its stacks.
-use Rattle.std.proofs.Common.{◌≡◌, ℕ, zero, suc, ◌<◌, ◌≤◌, ◌+◌, ◌-◌, ◌++◌, length, map, set, get_or, replicate, Bool, true, false, List, [], ◌∷◌, Option, Some, None, refl, sym, ap, ◌∙◌, subst, arith, inl, inr, ◌⊎◌}
-use Rattle.std.specs.Prelude.{slice_get, IfSome, IfNone}
+use Rattle.std.proofs.Common.{◌≡◌, ℕ, zero, suc, ◌<◌, ◌≤◌, ◌+◌, ◌-◌, ◌++◌, length, map, set, replicate, Bool, true, false, List, [], ◌∷◌, Option, Some, None, refl, sym, ap, ◌∙◌, subst, arith, inl, inr, ◌⊎◌}
+use Rattle.std.specs.Prelude.{IfSome, IfNone}
 use Rattle.std.specs.List.{range_with_len}
 use Rattle.std.proofs.lemmas.List.{length-append, append_assoc, append-nil}
 use Rattle.eds_graph.specs.declared.course.Course.{Course}
-use Rattle.eds_graph.specs.declared.course.Course.TheVariants.{OnCircle, Ends}
+use Rattle.eds_graph.specs.declared.course.Course.TheVariants.{Ends}
 use Rattle.eds_graph.specs.declared.search.Part.{Part}
 use Rattle.eds_graph.specs.declared.search.State.{State}
 use Rattle.eds_graph.specs.declared.search.State.TheVariants.{New, Open, Done}
 use Rattle.eds_graph.specs.Stacks.{top, pushed, with_top}
-use Rattle.eds_graph.specs.Search.{Has, At, Segment, IsSegment, AreSegments, AreOpen, IsSound, Sound, Closes, Starts, IsWaiting, IsUnder, state, state_by, is_done, course_in, members_of, waiting_of, part_of, parts_of, course_of_top, fresh, left_over}
-use Rattle.eds_graph.specs.Ways.{children, leads, is_on_circle, reaches_circle, height, course, all_courses}
+use Rattle.eds_graph.specs.Search.{Has, At, Segment, AreOpen, IsSound, Sound, Closes, Starts, IsWaiting, IsUnder, state, is_done, course_in, members_of, waiting_of, part_of, parts_of, course_of_top, fresh, left_over}
+use Rattle.eds_graph.specs.Ways.{children, reaches_circle, course, all_courses}
 use Rattle.eds_graph.proofs.Tests.{has-left, has-right, has-either, same-or, split}
 use Rattle.std.specs.List.{list_any}
 use Rattle.eds_graph.proofs.Leading.{no-children, leads-past}
 use Rattle.eds_graph.proofs.Circles.{reaches-is}
 use Rattle.eds_graph.proofs.Heights.{height-past, course-ends}
-use Rattle.eds_graph.proofs.Parts.{seg, at-has, at-less, at-either, has-at, pass-sound, turn-sound, merge-sound, open-sound, finish-sound, right-course}
+use Rattle.eds_graph.proofs.Parts.{seg, at-less, pass-sound, turn-sound, merge-sound, open-sound, finish-sound, right-course}
 
 -- ---- one state more
 

@@ -1,5 +1,5 @@
 -- A search with marks of what is reached from given numbers.
-use Rattle.std.specs.Prelude.{◌≡◌, ◌<◌, ◌≤◌, ℕ, suc, ◌+◌, List, [], ◌∷◌, length, Bool, true, false, slice_get, unwrap_or, ◌⊎◌}
+use Rattle.std.specs.Prelude.{◌≡◌, ◌≤◌, ℕ, suc, ◌+◌, List, [], ◌∷◌, length, Bool, true, false, slice_get, unwrap_or, ◌⊎◌}
 use Rattle.eds_graph.specs.Search.{Has}
 use Rattle.eds_graph.specs.Ways.{children, is_reached}
 

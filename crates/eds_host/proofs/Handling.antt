@@ -21,7 +21,7 @@ use Rattle.eds_host.specs.Plans.{AreStates, Arrives}
 use Rattle.eds_host.specs.Resting.{IsAtRest, IsCalm, LineIs, MayBeTold}
 use Rattle.eds_host.specs.Runs.{Course, LineGoes}
 use Rattle.eds_host.specs.Steps.{IsLine}
-use Rattle.eds_host.specs.Settings.{AtRest, running, world}
+use Rattle.eds_host.specs.Settings.{AtRest, running}
 use Rattle.eds_host.specs.Systems.{StateNow, World}
 
 module _ (s : Setting) (now : ℕ) (states : List StateNow) (queue : List Signal) (dues : List (Option (ℕ × ℕ))) where

@@ -1,8 +1,8 @@
 -- Lines that are handed to a host one after another.
-use Rattle.std.proofs.Common.{◌≡◌, ℕ, List, ◌∷◌, Option, Some, refl, sym, ap, subst, ◌∙◌, inl, inr}
+use Rattle.std.proofs.Common.{◌≡◌, ℕ, List, ◌∷◌, refl, sym, ap, ◌∙◌, inl, inr}
 use Rattle.std.specs.Prelude.{Result, Ok, Err, IfOk, IfErr, ◌⊎◌}
 use Rattle.eds_base.specs.declared.fail.Memory.{Memory}
-use Rattle.eds_plan.specs.Lines.{Told, starts}
+use Rattle.eds_plan.specs.Lines.{Told}
 use Rattle.eds_plan.specs.Outs.{Report}
 use Rattle.eds_host.specs.declared.handled.Handled.{Handled}
 use Rattle.eds_host.specs.declared.handled.Handled.TheVariants as handled

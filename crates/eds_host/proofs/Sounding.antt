@@ -1,12 +1,12 @@
 -- Runs of a plan that fits keep its worlds sound, and what leaves them is as it may be.
 use Rattle.std.proofs.Common.{◌≡◌, ◌≤◌, ◌<◌, ◌+◌, ◌-◌, ℕ, zero, suc, List, [], ◌∷◌, ◌++◌, length, length-append, map, Option, Some, None, slice_get, refl, sym, ap, subst, ◌∙◌, arith, inl, inr}
-use Rattle.std.specs.Prelude.{IfSome, Result, Ok, Err, option_map, slice_set, unwrap_or, ◌⊎◌}
+use Rattle.std.specs.Prelude.{IfSome, Result, Ok, Err, option_map, unwrap_or, ◌⊎◌}
 use Rattle.std.specs.List.{AllByRecursion}
 use Rattle.std.proofs.lemmas.Option.{slice_get_within}
 use Rattle.eds_base.specs.Reading.{◌>>=◌}
 use Rattle.eds_base.specs.declared.fault.Fault.{Fault}
 use Rattle.eds_bits.specs.Bits.{Bits, bits_of}
-use Rattle.eds_overlap.specs.Laws.{HasOneOutcome, IsReadable, OneOutcome}
+use Rattle.eds_overlap.specs.Laws.{IsReadable, OneOutcome}
 use Rattle.eds_types.specs.Failing.{FailsAt, fault_here}
 use Rattle.eds_base.specs.declared.fault.Reason.TheVariants.{Trailing}
 use Rattle.eds_types.specs.PackedSizes.{SizesAreExact, packs}
@@ -14,12 +14,12 @@ use Rattle.eds_types.specs.Plain.{Plain, plain}
 use Rattle.eds_types.specs.Rows.{Table}
 use Rattle.eds_types.specs.Spelling.{Spells}
 use Rattle.std.proofs.lemmas.Bool.{cases_lt}
-use Rattle.eds_plan.specs.Carried.{carried, arriving}
+use Rattle.eds_plan.specs.Carried.{carried}
 use Rattle.eds_plan.specs.Ends.{end_at}
 use Rattle.eds_plan.specs.Fitting.{ComponentFits}
 use Rattle.eds_plan.specs.Lines.{Told, starts, passes, framed}
 use Rattle.eds_plan.specs.Lines as lines
-use Rattle.eds_plan.specs.Outs.{Report, Signal, left, stopped, refused}
+use Rattle.eds_plan.specs.Outs.{Signal}
 use Rattle.eds_plan.specs.Plans.{component_at, variable_types}
 use Rattle.eds_plan.specs.Sends.{Sent, primitive, halted}
 use Rattle.eds_plan.specs.declared.activity.Op.TheVariants as op
@@ -32,18 +32,18 @@ use Rattle.eds_act.specs.Does.{AllConform, Conforms, Tells}
 use Rattle.eds_act.specs.Leaves.{MayAllLeave}
 use Rattle.eds_act.proofs.Leaving.{all_append}
 use Rattle.eds_act.proofs.Telling.{packs_tell}
-use Rattle.eds_machine.specs.Reactions.{Reacting, fires, first_values, fresh, receives, starts as all_begin}
+use Rattle.eds_machine.specs.Reactions.{fires, receives, starts as all_begin}
 use Rattle.eds_machine.proofs.KeptValues.{fires_keeps, receives_keeps, starts_keep}
 use Rattle.eds_machine.proofs.Leaving.{fires_leaves, receives_leaves, starts_send_well}
 use Rattle.eds_host.specs.declared.due.Due.{Due}
 use Rattle.eds_host.specs.Frames.{Begins, FrameIs}
 use Rattle.eds_host.specs.Hosts.{BringsOne, brought_to, reading, way_to}
 use Rattle.eds_host.specs.Machines.{at_event, reacted, started}
-use Rattle.eds_host.specs.Plans.{Arrives, IsSent, Leaves, MayGoOut, WiresFit, system}
-use Rattle.eds_host.specs.Runs.{Course, LineGoes, after, all_start, at_time, begun, comes, follows, frame_goes, go_by, go_on, happening, most, nothing, rests, storm, time_passes}
-use Rattle.eds_host.specs.Systems.{System, World, StateNow, Happening, Reaction, Coming, arrival, moment, arrives, delivered_at, first_due, fires as fires_at, has_come, leaves_at, leaving, next, next_by, no_state, queued, sent_at, settles, state_at}
+use Rattle.eds_host.specs.Plans.{Arrives, IsSent, Leaves, MayGoOut, system}
+use Rattle.eds_host.specs.Runs.{Course, LineGoes, after, all_start, begun, comes, follows, frame_goes, go_by, go_on, happening, most, nothing, storm, time_passes}
+use Rattle.eds_host.specs.Systems.{System, World, StateNow, Happening, Reaction, arrival, moment, arrives, delivered_at, first_due, fires as fires_at, has_come, leaves_at, leaving, next, next_by, no_state, queued, sent_at, settles, state_at}
 use Rattle.eds_host.specs.Worlds.{IsRunnable, IsSound, IsSoundCourse, LinesHaveCourses, LinesKeepSound, MayComeBy}
-use Rattle.eds_host.proofs.Adapted.{all_sent, component_has, component_is, end_is}
+use Rattle.eds_host.proofs.Adapted.{all_sent, component_has, end_is}
 use Rattle.eds_host.proofs.Beginnings.{last_or}
 use Rattle.eds_host.proofs.FramedLines.{frame_packs, framed_arrives}
 use Rattle.eds_host.proofs.Moments.{due_waited}

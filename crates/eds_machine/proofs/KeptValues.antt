@@ -2,7 +2,7 @@
 use Rattle.std.proofs.Common.{◌≡◌, ◌+◌, ◌-◌, ℕ, zero, suc, List, [], ◌∷◌, ◌++◌, map, Bool, true, false, Option, Some, None, slice_get, refl, sym, ap, ◌∙◌}
 use Rattle.std.specs.Prelude.{ℤ, ◌+ℤ◌, if◌then◌else◌, option_to_list, slice_set}
 use Rattle.std.specs.List.{AllByRecursion, find}
-use Rattle.eds_types.specs.Plain.{Plain, num, plain}
+use Rattle.eds_types.specs.Plain.{Plain, num}
 use Rattle.eds_types.specs.Rows.{Table}
 use Rattle.eds_plan.specs.Carried.{carried}
 use Rattle.eds_plan.specs.Fitting.{MapFits}
@@ -26,7 +26,7 @@ use Rattle.eds_plan.specs.declared.run.Way.{Way}
 use Rattle.eds_act.specs.declared.ending.ActEnd.{ActEnd}
 use Rattle.eds_act.specs.declared.ending.ActEnd.TheVariants.{Done, Halted}
 use Rattle.eds_act.specs.Acting.{acting, acted, entered, noted_end}
-use Rattle.eds_act.specs.Does.{World, Tells, AllConform, Item, statement, turn, items_of, Started, goes, halts, exec, start, after, arguments_of, storing, iterating, entering, calling, emitting, sending, turns, begun, way_of, holds, number_of, value_of, calculated, targeted}
+use Rattle.eds_act.specs.Does.{World, Tells, AllConform, Item, statement, turn, items_of, Started, goes, halts, exec, start, after, arguments_of, storing, iterating, entering, calling, emitting, sending, turns, begun, way_of, number_of, value_of, calculated, targeted}
 use Rattle.eds_act.proofs.Conforming.{conform_set}
 use Rattle.eds_machine.specs.Reactions.{Reacting, standing, settles, taken, at_entry, at_exit, acts, moves, goes_or_stays, machine_reacts, machines_react, map_reacts, mapped_by, maps_to, is_required, fires, receives, fresh, starts, trigger_of}
 use Rattle.eds_machine.proofs.MapLaws.{found_fits, mapped_conforms, mapped_type}

@@ -1,5 +1,5 @@
 -- What a component that fits gives to the functions that run its machines.
-use Rattle.std.proofs.Common.{◌≤◌, ◌<◌, ◌^◌, ℕ, List, [], ◌∷◌, length, arith}
+use Rattle.std.proofs.Common.{◌<◌, ℕ, List, [], ◌∷◌, length, arith}
 use Rattle.std.specs.List.{AllByRecursion}
 use Rattle.eds_types.specs.Rows.{Table}
 use Rattle.eds_plan.specs.Fitting.{Brings, ComponentFits, MachineFits, TransitionFits}

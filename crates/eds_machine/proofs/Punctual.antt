@@ -1,6 +1,6 @@
 -- No moment of a machine is passed over.
-use Rattle.std.proofs.Common.{◌≡◌, ◌≤◌, ◌<◌, ◌+◌, ◌-◌, ℕ, zero, suc, List, [], ◌∷◌, map, Bool, Option, Some, None, slice_get, refl, sym, ap, subst, ◌∙◌, arith, inl, inr}
-use Rattle.std.specs.Prelude.{slice_set, ◌⊎◌}
+use Rattle.std.proofs.Common.{◌≤◌, ◌<◌, ◌+◌, ◌-◌, ℕ, zero, suc, List, [], ◌∷◌, map, Bool, Option, Some, None, slice_get, sym, subst, arith, inl, inr}
+use Rattle.std.specs.Prelude.{slice_set}
 use Rattle.eds_types.specs.Plain.{Plain, plain}
 use Rattle.eds_types.specs.Rows.{Table}
 use Rattle.eds_plan.specs.declared.activity.Op.{Op}
@@ -13,8 +13,8 @@ use Rattle.eds_plan.specs.declared.run.MachineState.{MachineState}
 use Rattle.eds_machine.specs.declared.event.Event.{Event}
 use Rattle.eds_machine.specs.declared.event.Event.TheVariants as event
 use Rattle.eds_machine.specs.Laws.{NoneBefore, ReactionsArePunctual, StartsArePunctual}
-use Rattle.eds_machine.specs.Moments.{AnyHas, moment}
-use Rattle.eds_machine.specs.Reactions.{Reacting, standing, taken, stays, moves, goes_or_stays, machine_reacts, machines_react, map_reacts, receives, fires, fresh, begins, reacts, starts, trigger_of}
+use Rattle.eds_machine.specs.Moments.{AnyHas}
+use Rattle.eds_machine.specs.Reactions.{Reacting, standing, taken, stays, goes_or_stays, machine_reacts, machines_react, map_reacts, receives, fires, fresh, begins, reacts, trigger_of}
 use Rattle.eds_machine.proofs.Keeping.{map_same, moves_same}
 use Rattle.eds_machine.proofs.MachineLaws.{IsLater, moment_later}
 

@@ -1,16 +1,15 @@
 -- Marks of the families that hold one whose bases have no end.
-use Rattle.std.proofs.Common.{◌≡◌, ℕ, zero, suc, ◌+◌, ◌<◌, ◌≤◌, ◌==◌, ◌||◌, Bool, true, false, length, map, filter, List, [], ◌∷◌, Option, Some, None, is_some, slice_get, refl, sym, ap, ◌∙◌, subst, arith, inl, inr, ◌⊎◌}
+use Rattle.std.proofs.Common.{◌≡◌, ℕ, ◌<◌, ◌≤◌, ◌==◌, ◌||◌, Bool, true, false, length, map, List, [], ◌∷◌, Option, Some, None, is_some, slice_get, refl, sym, ap, ◌∙◌, subst, arith, inl, inr}
 use Rattle.std.specs.Prelude.{unwrap_or, Result, Ok, Err, IfOk}
-use Rattle.std.specs.List.{list_any, range_with_len}
+use Rattle.std.specs.List.{list_any}
 use Rattle.std.proofs.lemmas.Bool.{eqb-true}
 use Rattle.std.proofs.lemmas.List.FromFn.{get_or-map-range_with_len, length-map-range_with_len}
 use Rattle.std.proofs.lemmas.Option.{slice_get-get_or, slice_get_past, slice_get_within}
 use Rattle.eds_types.specs.declared.row.TypeRow.{TypeRow}
 use Rattle.eds_types.specs.Rows.{Table, base_in, base_of}
-use Rattle.eds_graph.specs.Search.{Has}
 use Rattle.eds_graph.specs.Ways.{leads, is_met, reversed, is_reached, all_reached}
 use Rattle.eds_graph.specs.Reaching.{mark}
-use Rattle.eds_graph.proofs.Tests.{split, not-true, no-both}
+use Rattle.eds_graph.proofs.Tests.{split}
 use Rattle.eds_graph.proofs.Leading.{leads-past}
 use Rattle.eds_graph.proofs.OtherWay.{met-backwards}
 use Rattle.eds_nesting.specs.Families.{held_in, holding, endless}

@@ -1,21 +1,12 @@
 -- Looking for a length entry, and for a candidate.
-use Rattle.std.proofs.Common.{◌≡◌, ℕ, Bool, true, false, List, [], ◌∷◌, ◌++◌, map, reverse, Option, Some, None, refl, sym, ap, ◌∙◌}
-use Rattle.std.specs.Prelude.{◌&&◌}
-use Rattle.std.specs.List.{flat_map, list_all}
-use Rattle.std.proofs.lemmas.Grind.{flat_map-append}
-use Rattle.std.proofs.lemmas.List.Folds.{list_all-append}
+use Rattle.std.proofs.Common.{◌≡◌, ℕ, List, [], ◌∷◌, ◌++◌, map, reverse, Option, Some, None, refl, sym, ap, ◌∙◌}
+use Rattle.std.specs.List.{flat_map}
 use Rattle.eds_base.specs.declared.ids.TypeId.{TypeId}
 use Rattle.eds_pack.specs.declared.length.LengthEntry.{LengthEntry}
 use Rattle.eds_types.specs.Seeking.{entries_in_turn, trailers_in_turn}
 use Rattle.eds_types.proofs.Seeking.{entries_are, trailers_are}
-use Rattle.eds_types.specs.Choices.{meets, fits_choice}
 use Rattle.eds_pack.specs.Lengths.{if_length, length_among}
-use Rattle.eds_types.proofs.FamilyChoice.{first_in_family}
-use Rattle.eds_types.specs.declared.row.Constraint.{Constraint}
-use Rattle.eds_types.specs.Families.{first_of}
-use Rattle.eds_types.specs.Fields.{Field, constraints_along}
-use Rattle.eds_types.specs.Reading.{candidate_under}
-use Rattle.eds_types.specs.Rows.{Table, Placed, id_of, base_of, constraints_of, chain_before, chain_within, family, chain, sequence, placed_entries, placed_trailers, or_else, numbers_of}
+use Rattle.eds_types.specs.Rows.{Table, Placed, id_of, chain, sequence, placed_entries, placed_trailers, or_else}
 
 or_assoc : (a b c : Option LengthEntry) → or_else (or_else a b) c ≡ or_else a (or_else b c)
 or_assoc None b c = refl

@@ -1,16 +1,15 @@
 -- Values of a container that are looked up by their parts.
-use Rattle.std.proofs.Common.{◌≡◌, ℕ, zero, suc, ◌+◌, ◌<◌, ◌≤◌, Bool, true, false, List, [], ◌∷◌, ◌++◌, ◌==◌, ◌&&◌, ◌-◌, length, drop, map, reverse, take, get_or, Some, None, Ok, refl, sym, ap, subst, ◌∙◌, append_assoc, arith, Vec, Global}
+use Rattle.std.proofs.Common.{◌≡◌, ℕ, ◌+◌, ◌<◌, ◌≤◌, Bool, true, false, List, [], ◌∷◌, ◌++◌, ◌==◌, ◌&&◌, ◌-◌, length, drop, map, reverse, get_or, Ok, refl, sym, ap, subst, ◌∙◌, append_assoc, arith}
 use Rattle.std.specs.Prelude.{slice_get, if◌then◌else◌}
 use Rattle.std.specs.List.{AllByRecursion, flat_map}
 use Rattle.std.proofs.lemmas.List.{drop_more, reverse-append}
 use Rattle.std.proofs.lemmas.Bool.{eq-eqb, false_from_ne_true, eqb-true, and_from, and_parts}
 use Rattle.eds_base.specs.declared.ids.TypeId.{TypeId}
 use Rattle.eds_types.specs.declared.row.Part.{Part}
-use Rattle.eds_types.specs.declared.value.Value.{Value}
 use Rattle.eds_types.specs.declared.value.Value.TheVariants as value
-use Rattle.eds_types.specs.Fields.{Field, field_of, fields_in, has_value, paired, value_at}
+use Rattle.eds_types.specs.Fields.{Field, has_value, paired}
 use Rattle.eds_types.specs.Packing.{valued}
-use Rattle.eds_types.specs.Plain.{Plain, plain}
+use Rattle.eds_types.specs.Plain.{Plain}
 use Rattle.eds_types.specs.Rows.{Table, Placed, chain, entries_of, trailers_of, id_of, placed_from, placed_entries, placed_trailers, sequence}
 use Rattle.eds_types.specs.Rules.{KeepsRules}
 use Rattle.eds_types.proofs.AllOf.{All-back}
@@ -20,7 +19,6 @@ use Rattle.eds_types.specs.Seeking.{seek, nth, entries_in_turn, trailers_in_turn
 use Rattle.eds_types.proofs.FieldsOf.{found}
 use Rattle.eds_types.proofs.Seeking.{along, by_number}
 use Rattle.eds_pack.specs.Seeking.{AreNext, values_in}
-use Rattle.eds_types.proofs.SameValues.{list_of-plains_of}
 
 -- ---- one run of parts
 

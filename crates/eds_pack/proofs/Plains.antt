@@ -1,13 +1,12 @@
 -- The plain data of each kind of value.
-use Rattle.std.proofs.Common.{◌≡◌, ℕ, ℤ, List, [], ◌∷◌, Bool, length, map, refl, sym, ap, ◌∙◌, Vec, Global}
+use Rattle.std.proofs.Common.{◌≡◌, ℕ, List, Bool, length, map, sym, ap, ◌∙◌}
 use Rattle.std.proofs.lemmas.List.{length-map}
-use Rattle.eds_base.specs.declared.ids.TypeId.{TypeId}
 use Rattle.eds_types.specs.declared.value.Value.{Value}
-use Rattle.eds_types.specs.declared.value.Value.TheVariants.{rolls-Num, rolls-Label, rolls-Bool, rolls-Fields, rolls-Items, rolls-Text, rolls-Bits}
+use Rattle.eds_types.specs.declared.value.Value.TheVariants.{rolls-Label, rolls-Bool, rolls-Bits}
 use Rattle.eds_types.specs.declared.value.Value.TheVariants as value
 use Rattle.eds_types.specs.declared.value.Value.TheOpen.{Value-F}
 use Rattle.eds_types.specs.declared.value.Value.TheFolds.{fold-roll-Value}
-use Rattle.eds_types.specs.Plain.{Plain, num, label, truth, text, bits, fields, items, list_of, plains_of, plain_step, plain}
+use Rattle.eds_types.specs.Plain.{Plain, label, truth, bits, plain_step, plain}
 
 pub plain_label : (l : List ℕ) → plain (value.Label l) ≡ label l
 plain_label l = ap plain (sym (rolls-Label l)) ∙ fold-roll-Value Plain plain_step (Value-F.Label l)

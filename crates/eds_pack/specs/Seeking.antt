@@ -1,12 +1,10 @@
 -- The fields of a container, and the values that come next.
-use Rattle.std.specs.Prelude.{◌≡◌, ℕ, ◌+◌, List, [], ◌∷◌, map, Option, None, Result, Ok, Err, ◌&&◌, ◌==◌, if◌then◌else◌, slice_get, IsTrue}
-use Rattle.std.specs.List.{flat_map}
-use Rattle.eds_base.specs.declared.ids.TypeId.{TypeId}
+use Rattle.std.specs.Prelude.{◌≡◌, ℕ, ◌+◌, List, [], ◌∷◌, map, if◌then◌else◌, slice_get, IsTrue}
 use Rattle.eds_types.specs.declared.row.Part.{Part}
 use Rattle.eds_types.specs.declared.value.Value.{Value}
-use Rattle.eds_types.specs.Fields.{Field, has_value, fields_in, paired, value_at}
+use Rattle.eds_types.specs.Fields.{Field, has_value, paired, value_at}
 use Rattle.eds_types.specs.Plain.{Plain, plain}
-use Rattle.eds_types.specs.Rows.{Table, Placed, placed_entries, placed_trailers, sequence}
+use Rattle.eds_types.specs.Rows.{Table, Placed, sequence}
 
 -- how many of the parts have a value
 abbrev pub values_in : List Part → ℕ

@@ -8,14 +8,13 @@ use Rattle.std.proofs.Math.ListN.{drop_of_length-le}
 use Rattle.std.proofs.lemmas.Option.{slice_get-map}
 use Rattle.eds_base.specs.Reading.{◌>>=◌, same}
 use Rattle.eds_base.specs.declared.ids.TypeId.{TypeId}
-use Rattle.eds_names.specs.Positions.{place_from, place_among}
+use Rattle.eds_names.specs.Positions.{place_among}
 use Rattle.eds_types.specs.declared.row.Part.{Part}
 use Rattle.eds_types.specs.declared.row.Part.TheVariants as part
 use Rattle.eds_types.specs.declared.row.TypeRow.{TypeRow}
 use Rattle.eds_types.specs.Rows.{Table, id_of, address, container_in, entries_in, trailers_in, entries_of, trailers_of, placed_from, placed_entries, placed_trailers, entry_places, trailer_places, chain, sequence, numbers, or_else}
 use Rattle.eds_types.specs.Fields.{part_at}
 use Rattle.eds_types.proofs.Places.{sequence_is}
-use Rattle.eds_read_act.specs.declared.entry_names.NamedParts.{NamedParts}
 use Rattle.eds_read_act.specs.declared.entry_names.OwnNames.{OwnNames}
 use Rattle.eds_read_act.specs.Naming.{has_name, entry_at, entry_among, entry_named}
 use Rattle.eds_read_act.specs.FirstPlaces.{first_place, first_named}

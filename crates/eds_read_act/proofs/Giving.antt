@@ -6,7 +6,7 @@ use Rattle.eds_tree.specs.declared.link.Link.{Link}
 use Rattle.eds_read_act.specs.BadReference.{is_field, is_the, is_stray}
 use Rattle.eds_read_act.specs.Carrying.{field_type}
 use Rattle.eds_read_act.specs.Scopes.{Field}
-use Rattle.std.specs.Prelude.{slice_get, if◌then◌else◌}
+use Rattle.std.specs.Prelude.{slice_get}
 use Rattle.eds_base.specs.Reading.{◌>>=◌, same}
 use Rattle.eds_names.specs.Positions.{place_among}
 use Rattle.eds_tree.specs.declared.tree.Node.{Node}

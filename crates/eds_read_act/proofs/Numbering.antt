@@ -1,12 +1,11 @@
 -- Items by their names, in other lists; the first of some elements.
-use Rattle.std.proofs.Common.{◌≡◌, ℕ, suc, ◌+◌, ◌-◌, Bool, true, false, List, [], ◌∷◌, map, Option, Some, None, refl, sym, ap, ◌∙◌, arith, is_some}
+use Rattle.std.proofs.Common.{◌≡◌, ℕ, suc, ◌+◌, ◌-◌, Bool, true, false, List, [], ◌∷◌, map, Option, Some, None, refl, ap, ◌∙◌, arith, is_some}
 use Rattle.std.specs.Prelude.{slice_get, option_map, if◌then◌else◌}
 use Rattle.std.specs.List.{list_any}
 use Rattle.std.proofs.lemmas.Option.{slice_get-map}
 use Rattle.eds_base.specs.Reading.{◌>>=◌, same}
 use Rattle.eds_names.specs.Positions.{place_from, place_among}
 use Rattle.eds_read_act.specs.BadReference.{is_field}
-use Rattle.eds_read_act.specs.Inside.{first_where}
 use Rattle.eds_read_act.specs.Numbered.{item_at, item_named}
 use Rattle.eds_read_act.specs.Scopes.{Field}
 use Rattle.eds_read_act.specs.Carrying.{field_type}

@@ -1,5 +1,5 @@
 -- What the code keeps of the states of a machine.
-use Rattle.std.specs.Prelude.{◌≡◌, ℕ, List}
+use Rattle.std.specs.Prelude.{◌≡◌, List}
 use Rattle.eds_tree.specs.declared.tree.Node.{Node}
 use Rattle.eds_read_act.specs.declared.state.States.{States}
 use Rattle.eds_read_act.specs.Machines.{states_of, state_names}

@@ -1,5 +1,5 @@
 -- What holds of each type that the interfaces of a sheet and the maps of its ends name holds of the types of all arguments of commands.
-use Rattle.std.proofs.Common.{◌≡◌, ℕ, true, List, [], ◌∷◌, ◌++◌, map, slice_get, Option, Some, None, refl, subst}
+use Rattle.std.proofs.Common.{◌≡◌, ℕ, true, List, [], ◌∷◌, map, slice_get, Option, Some, None, refl, subst}
 use Rattle.std.specs.Prelude.{Ok}
 use Rattle.std.specs.List.{AllByRecursion, flat_map}
 use Rattle.eds_base.specs.declared.refusal.Refusal.{Refusal}

@@ -1,15 +1,14 @@
 -- A line that doesn't begin with the first letter of a wire line ties no ends.
-use Rattle.std.proofs.Common.{◌≡◌, ℕ, zero, suc, List, [], ◌∷◌, Bool, true, false, cond, ◌&&◌, ◌<◌, ◌≤◌, length, get_or, arith, Option, Some, None, Result, Ok, Err, refl, ap, subst, take, drop, codes, nat_eq, option_map}
+use Rattle.std.proofs.Common.{◌≡◌, ℕ, zero, suc, List, [], ◌∷◌, Bool, true, false, cond, ◌&&◌, ◌<◌, ◌≤◌, length, get_or, arith, Option, Some, None, Ok, Err, refl, ap, take, codes, nat_eq, option_map}
 use Rattle.std.specs.List.{after_first, before_first, list_any, position_or_len}
 use Rattle.std.specs.Str.{is_utf8}
 use Rattle.eds_base.specs.Answering.{or_stop}
 use Rattle.eds_base.specs.Reading.{◌>>=◌, only, same}
-use Rattle.eds_script.specs.declared.why.LineWhy.{LineWhy}
 use Rattle.eds_script.specs.declared.why.LineWhy.TheVariants.{Text, Words}
 use Rattle.eds_script.specs.declared.words.Verb.{Verb}
 use Rattle.eds_script.specs.declared.words.Verb.TheVariants.{Cmd, Frame, Get, Set, Val}
 use Rattle.eds_script.specs.Meaning.{tied}
-use Rattle.eds_script.specs.Words.{Saying, ticks, arrives, is_space, word_and_rest, last_word, two_words, ties_in, asked_in, given_in, framed_in, said_by, said, form}
+use Rattle.eds_script.specs.Words.{Saying, ticks, arrives, is_space, word_and_rest, last_word, two_words, asked_in, given_in, framed_in, said_by, said, form}
 
 -- ends that a saying ties, if there is one
 abbrev ends : Option Saying → List (List ℕ)

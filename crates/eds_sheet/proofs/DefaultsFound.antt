@@ -35,7 +35,7 @@ use Rattle.eds_pack.specs.Defaults.{DefaultsWithin, EntryDefaults, IsDefault, Is
 use Rattle.eds_pack.specs.Packs.{Packs}
 use Rattle.eds_pack.proofs.Entries.{least_same}
 use Rattle.eds_pack.proofs.OneDefault.{one_within}
-use Rattle.eds_read_comp.specs.FirstValues.{TellsFirsts, text_value_in}
+use Rattle.eds_read_comp.specs.FirstValues.{text_value_in}
 use Rattle.eds_read_comp.specs.FirstValues as values
 use Rattle.eds_sheet.specs.Firsts.{Firsts}
 use Rattle.eds_sheet.specs.Laws.{FirstsAreTold}

@@ -1,4 +1,4 @@
-use Rattle.std.proofs.Common.{ℕ, ◌≡◌, ◌-◌, ◌*◌, List, length, drop, ◌∙◌, ap, length-drop, arith}
+use Rattle.std.proofs.Common.{◌-◌, length, drop, ◌∙◌, ap, length-drop, arith}
 use Rattle.eds_bits.specs.Bits.{bits_of}
 use Rattle.eds_bits.proofs.OctetLaws.{length-bits_of}
 use Rattle.eds_bench.proofs.letters.read_once.Goals as goal

@@ -1,4 +1,4 @@
-use Rattle.std.proofs.Common.{◌≡◌, ◌++◌, ◌+◌, ◌-◌, ◌≤◌, string_bytes}
+use Rattle.std.proofs.Common.{◌≡◌, ◌++◌, ◌+◌, ◌-◌, string_bytes}
 use Rattle.eds_cmd.specs.Demo.{front_text, packets_text}
 use Rattle.eds_cmd.proofs.demonstration.sheet_text.Given as goal
 

@@ -1,4 +1,4 @@
-use Rattle.std.proofs.Common.{arith, ap, sym, ◌∙◌, drop}
+use Rattle.std.proofs.Common.{arith, ◌∙◌}
 use Rattle.eds_types.specs.Rows.{number_of_id}
 use Rattle.eds_constraints.proofs.GoneOn.{gone_next, placed_path}
 use Rattle.eds_constraints.proofs.left.go_on.Goals as goal

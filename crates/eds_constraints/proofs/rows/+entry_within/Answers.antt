@@ -1,4 +1,4 @@
-use Rattle.std.proofs.Common.{arith, rules, ap, sym}
+use Rattle.std.proofs.Common.{arith, ap, sym}
 use Rattle.eds_types.specs.Rows.{number_of_id}
 use Rattle.eds_constraints.proofs.NamedFacts.{entry_zero, entry_root, entry_above, entry_own}
 use Rattle.eds_constraints.proofs.rows.+entry_within.Goals as goal

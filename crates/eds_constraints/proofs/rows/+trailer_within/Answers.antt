@@ -1,4 +1,4 @@
-use Rattle.std.proofs.Common.{arith, rules, ap, sym}
+use Rattle.std.proofs.Common.{arith, ap, sym}
 use Rattle.eds_types.specs.Rows.{number_of_id}
 use Rattle.eds_constraints.proofs.NamedFacts.{trailer_zero, trailer_own, trailer_root, trailer_above}
 use Rattle.eds_constraints.proofs.rows.+trailer_within.Goals as goal

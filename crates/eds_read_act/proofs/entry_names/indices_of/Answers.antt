@@ -1,4 +1,4 @@
-use Rattle.std.proofs.Common.{arith, ap, ◌∙◌, ◌++◌, ◌∷◌, [], length}
+use Rattle.std.proofs.Common.{arith, ap, ◌∙◌, ◌++◌, ◌∷◌, []}
 use Rattle.eds_read_act.proofs.EntryNames.{index-next}
 use Rattle.eds_read_act.proofs.entry_names.indices_of.Goals as goal
 

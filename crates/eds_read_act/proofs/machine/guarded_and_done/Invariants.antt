@@ -1,4 +1,4 @@
-use Rattle.std.proofs.Common.{◌≡◌, ◌++◌, filter, drop, codes}
+use Rattle.std.proofs.Common.{◌≡◌, ◌++◌, filter, drop}
 use Rattle.eds_read_act.specs.Machines.{is_guard_or_do, guarded_and_done}
 use Rattle.eds_read_act.proofs.machine.guarded_and_done.Given as goal
 

@@ -4,7 +4,7 @@ use Rattle.eds_base.specs.Refusals.{least}
 use Rattle.eds_read_act.specs.Events.{carried_if}
 use Rattle.eds_read_act.specs.MachineBreaks.{breaks_inside}
 use Rattle.eds_read_act.specs.Machines.{guarded_and_done}
-use Rattle.eds_read_act.specs.Scopes.{scope_of, with_known, with_arguments}
+use Rattle.eds_read_act.specs.Scopes.{scope_of, with_known}
 use Rattle.eds_read_act.proofs.machine.inner_break.Goals as goal
 
 pub returns-in-None : goal.returns-in-None

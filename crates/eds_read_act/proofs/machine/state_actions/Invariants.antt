@@ -1,4 +1,4 @@
-use Rattle.std.proofs.Common.{◌≡◌, ◌++◌, filter, drop, codes}
+use Rattle.std.proofs.Common.{◌≡◌, ◌++◌, filter, drop}
 use Rattle.eds_read_act.specs.Machines.{is_state_action, state_actions}
 use Rattle.eds_read_act.proofs.machine.state_actions.Given as goal
 

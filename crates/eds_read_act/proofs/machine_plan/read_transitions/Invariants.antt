@@ -1,4 +1,4 @@
-use Rattle.std.proofs.Common.{◌≡◌, ◌≤◌, ◌+◌, ◌++◌, map, drop, length}
+use Rattle.std.proofs.Common.{◌≡◌, ◌+◌, ◌++◌, map, drop, length}
 use Rattle.eds_read_act.specs.MachinePlans.{planned_transition, transition_at}
 use Rattle.eds_read_act.specs.Scopes.{scope_of}
 use Rattle.eds_read_act.proofs.machine_plan.read_transitions.Given as goal

@@ -1,4 +1,4 @@
-use Rattle.std.proofs.Common.{◌≡◌, ◌++◌, filter, drop, codes}
+use Rattle.std.proofs.Common.{◌≡◌, ◌++◌, filter, drop}
 use Rattle.eds_read_act.specs.Machines.{is_state, states_of}
 use Rattle.eds_read_act.proofs.state.states_of.Given as goal
 

@@ -1,5 +1,4 @@
-use Rattle.std.proofs.Common.{◌≡◌, map, true, false, sym, ◌∙◌, string_bytes}
-use Rattle.eds_names.specs.Repeats.{is_among}
+use Rattle.std.proofs.Common.{map, true, false, sym, ◌∙◌, string_bytes}
 use Rattle.eds_names.proofs.RepeatsLemmas.{among-map}
 use Rattle.eds_read_act.proofs.Transacting.{kept, put}
 use Rattle.eds_read_act.proofs.transaction.note.Goals as goal

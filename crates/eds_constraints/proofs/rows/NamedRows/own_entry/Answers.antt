@@ -1,4 +1,4 @@
-use Rattle.std.proofs.Common.{arith, lit≤, ◌∙◌}
+use Rattle.std.proofs.Common.{arith, ◌∙◌}
 use Rattle.eds_constraints.proofs.NamedFacts.{past_entries, entry_names_are, no_entry, entry_by, entry_fits}
 use Rattle.eds_constraints.proofs.rows.NamedRows.own_entry.Goals as goal
 

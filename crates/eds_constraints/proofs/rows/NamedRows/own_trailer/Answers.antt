@@ -1,4 +1,4 @@
-use Rattle.std.proofs.Common.{arith, ap, sym, rules, ◌∙◌, Some, ◌+◌, length}
+use Rattle.std.proofs.Common.{arith, ap, ◌∙◌, Some, ◌+◌, length}
 use Rattle.eds_constraints.proofs.NamedFacts.{past_trailers, trailer_names_are, no_trailer, trailer_by, trailer_fits}
 use Rattle.eds_constraints.proofs.rows.NamedRows.own_trailer.Goals as goal
 

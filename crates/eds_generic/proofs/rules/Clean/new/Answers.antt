@@ -1,6 +1,3 @@
-use Rattle.std.proofs.Common.{◌≡◌, true, List, [], ap, sym, ◌∙◌}
-use Rattle.eds_generic.specs.declared.pair.Pair.{Pair}
-use Rattle.eds_generic.specs.Pairs.{is_among}
 use Rattle.eds_generic.specs.NameRules.{unmapped_at, unknown_at, refused_at}
 use Rattle.eds_generic.proofs.Judging.{none-clean}
 use Rattle.eds_generic.proofs.rules.Clean.new.Goals as goal
