@@ -18,8 +18,9 @@ Runs `PROGRAM check FILE` on them (by default ./eds) and prints the least proces
 machine hardly changes, and that time for each container. Where the time grows with the family, the last column stays.
 
 With `read`, PROGRAM (by default crates/eds_bench/out/eds_bench) reads and recognises a frame of the last container of a family of
-4 and of one of 512, where one path tells the containers apart (number, packet, levels) and where none does (range, three). The time
-of one turn is that of many turns less that of one. Where the choice goes by look-up, the two families take the same time.
+4 and of one of 512, where each container wants one number on one path (number, packet, levels) and where it wants an interval
+(range) or no path tells all apart (three). The time of one turn is that of many turns less that of one. Where the choice goes by
+look-up, the two families take the same time.
 """
 
 import json
