@@ -1,5 +1,5 @@
 -- Octets shifted by less than an octet, and octets put into others.
-use Rattle.std.proofs.Common.{◌≡◌, ℕ, zero, suc, ◌+◌, ◌-◌, ◌*◌, ◌/◌, ◌%◌, ◌^◌, ◌<◌, ◌≤◌, List, [], ◌∷◌, ◌++◌, length, get_or, set, take, drop, bit_and, bit_or, refl, sym, ◌∙◌, ap, arith, length-drop, length-take, length-append}
+use Rattle.std.proofs.Common.{◌≡◌, ℕ, ◌+◌, ◌-◌, ◌*◌, ◌/◌, ◌%◌, ◌^◌, ◌<◌, ◌≤◌, List, [], ◌∷◌, ◌++◌, length, get_or, set, take, drop, bit_and, bit_or, refl, sym, ◌∙◌, ap, arith, length-drop, length-take, length-append}
 use Rattle.std.proofs.lemmas.List.{take_more_set, take_at, drop_at, drop_all, drop_more, drop-drop, append-nil, append_assoc, take-append-drop}
 use Rattle.std.proofs.lemmas.Nat.{or_shifted, shl-shr, shr_high, shr_below, mod_low, mod_below, mod-pow-add, pow_pos, one_shl, and_mask}
 use Rattle.std.proofs.Math.Nat.{mod-eq_of_lt, mul-mod_left}
@@ -7,7 +7,7 @@ use Rattle.std.proofs.Math.Seq.{take-add}
 use borrow.Rule.Slice.PartMut.{put_mid}
 use Rattle.eds_bits.specs.Bits.{Bits, low_bits, bits_of, with_piece}
 use Rattle.eds_bits.proofs.BitLaws.{length-low, low-append, low_same, with_piece-within, with_piece-append}
-use Rattle.eds_bits.proofs.OctetLaws.{length-bits_of, bits_of-append, take-bits_of, drop-bits_of}
+use Rattle.eds_bits.proofs.OctetLaws.{length-bits_of, bits_of-append, drop-bits_of}
 
 -- ---- an octet out of two
 

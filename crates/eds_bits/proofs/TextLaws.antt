@@ -1,13 +1,13 @@
 -- The octets at the front of bits, and where a termination octet stands.
-use Rattle.std.proofs.Common.{◌≡◌, ℕ, zero, suc, ◌+◌, ◌-◌, ◌*◌, ◌/◌, ◌<◌, ◌≤◌, Bool, true, false, cond, List, [], ◌∷◌, ◌++◌, length, get_or, take, drop, replicate, All, refl, sym, ap, subst, ◌∙◌, append_assoc, arith, ◌==◌}
+use Rattle.std.proofs.Common.{◌≡◌, ℕ, zero, suc, ◌+◌, ◌-◌, ◌*◌, ◌/◌, ◌<◌, ◌≤◌, Bool, true, false, cond, List, [], ◌∷◌, ◌++◌, length, get_or, take, drop, All, refl, sym, ap, subst, ◌∙◌, arith, ◌==◌}
 use Rattle.std.proofs.lemmas.Bool.{eqb-true, eqb-false, eq-eqb, ne_eqb}
-use Rattle.std.proofs.lemmas.List.{take-take, drop-take, drop-drop, take-append-drop, append-nil, length-take, length-drop, length-append}
-use Rattle.std.proofs.lemmas.List.Elements.{All-from_get_or, All-get_or, All-take, All-drop}
-use Rattle.eds_bits.specs.Bits.{Bits, bits_of, octets_of, oct}
+use Rattle.std.proofs.lemmas.List.{take-take, drop-take, take-append-drop, append-nil, length-take}
+use Rattle.std.proofs.lemmas.List.Elements.{All-take, All-drop}
+use Rattle.eds_bits.specs.Bits.{Bits, bits_of, octets_of}
 use Rattle.eds_bits.specs.Lists.{Has}
 use Rattle.eds_bits.specs.Scalars.{before_stop}
 use Rattle.eds_bits.specs.Texts.{front_octets, whole}
-use Rattle.eds_bits.proofs.OctetLaws.{length-bits_of, take-bits_of, drop-bits_of, oct_whole, filled_whole, octets_of-bits_of, bits_of-octets_of, octets_of_below, length-octets_of}
+use Rattle.eds_bits.proofs.OctetLaws.{take-bits_of, drop-bits_of, oct_whole, filled_whole, octets_of-bits_of, bits_of-octets_of, octets_of_below, length-octets_of}
 
 -- ---- the octets at the front
 

@@ -1,6 +1,6 @@
 -- Checks: what several octets more do to them.
-use Rattle.std.proofs.Common.{◌≡◌, ℕ, zero, suc, ◌+◌, ◌*◌, ◌/◌, ◌%◌, ◌<◌, ◌≤◌, Bool, true, false, List, [], ◌∷◌, ◌++◌, length, get_or, take, drop, replicate, bit_xor, refl, sym, ap, subst, ◌∙◌, append_assoc, arith}
-use Rattle.std.proofs.lemmas.List.{take-append-drop, take_all, append-nil, length-append, length-replicate, length-take, length-drop}
+use Rattle.std.proofs.Common.{◌≡◌, ℕ, ◌+◌, ◌*◌, ◌/◌, ◌%◌, ◌<◌, ◌≤◌, Bool, true, false, List, [], ◌∷◌, ◌++◌, length, get_or, take, drop, replicate, bit_xor, refl, sym, ap, ◌∙◌, append_assoc, arith}
+use Rattle.std.proofs.lemmas.List.{take-append-drop, append-nil, length-append, length-replicate, length-take, length-drop}
 use Rattle.eds_bits.specs.Bits.{Bits, bits_of, low_bits, unsigned_of}
 use Rattle.eds_bits.specs.Scalars.{xor_bits, remainder, invert_first, crc8_divisor, crc16_divisor, check_of_octets}
 use Rattle.eds_bits.specs.declared.forms.CheckKind.TheVariants.{Crc8, Crc16Ccitt}

@@ -1,6 +1,5 @@
 -- Names by their positions, as an index has them.
 use Rattle.std.proofs.Common.{◌≡◌, ℕ, ◌+◌, ◌<◌, length, get_or, drop, drop-cons, add-one, Bool, true, false, List, ◌∷◌, Option, Some, None, refl, sym, ap, ◌∙◌, is_some}
-use Rattle.std.specs.Prelude.{if◌then◌else◌}
 use Rattle.std.specs.Map.{update}
 use Rattle.std.specs.Str.{bytes_eq}
 use Rattle.std.proofs.lemmas.Slice.Eq.{bytes_eq-Decides}

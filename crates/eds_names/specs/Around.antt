@@ -1,5 +1,5 @@
 -- Names by their positions.
-use Rattle.std.specs.Prelude.{ℕ, ◌<◌, List, [], length, Option, Some, None, slice_get}
+use Rattle.std.specs.Prelude.{ℕ, ◌<◌, List, length, Option, Some, None, slice_get}
 
 -- the name at a position
 abbrev pub name_in : List (List ℕ) → Option ℕ → Option (List ℕ)

@@ -1,7 +1,6 @@
 -- The ends of components, by their texts.
 use Rattle.std.specs.Prelude.{ℕ, ◌+◌, List, [], ◌∷◌, ◌++◌, codes, Option, Some, None, option_map, if◌then◌else◌, slice_get}
 use Rattle.eds_base.specs.Reading.{◌>>=◌, same}
-use Rattle.eds_base.specs.declared.ids.CompId.{CompId}
 use Rattle.eds_types.specs.Rows.{or_else}
 use Rattle.eds_plan.specs.declared.component.ComponentPlan.{ComponentPlan}
 use Rattle.eds_plan.specs.declared.component.EndPlan.{EndPlan}

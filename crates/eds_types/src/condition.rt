@@ -2,7 +2,7 @@
 
 ghost use Rattle.std.specs.Prelude.{◌≡◌, List, option_map, slice_get};
 ghost use Rattle.std.specs.Option.{option_copied};
-ghost use Rattle.eds_types.specs.Fields.{Field, labelled, number_by, row_at, type_on, type_by, part_at, value_on};
+ghost use Rattle.eds_types.specs.Fields.{Field, labelled, number_by, number_on, row_at, type_on, type_by, part_at, value_on};
 ghost use Rattle.eds_types.specs.Plain.{plain};
 ghost use Rattle.eds_types.specs.Reading.{number_within, holds};
 ghost use Rattle.eds_types.specs.Seeking.{first_on};
@@ -74,6 +74,13 @@ fn value_from<'a>(
     }
 }
 
+/// The number that fields have on a path, by the value that it begins with, None exactly where they have none.
+pub fn number_from(table: &TypeTable, first: Option<&Value>, path: &[(TypeId, u16)]) -> Option<i128>
+    ensures { (fs : List Field) → option_map plain (option_copied first.entry) ≡ first_on fs path.now → result ≡ number_on table.now fs path.now }
+{
+    number_of(row_on(table, path), value_from(table, first, path))
+}
+
 /// Whether a set has the number, if there is one.
 fn has_number(set: &Spans, number: Option<i128>) -> bool
     ensures { result ≡ number_within set.now number }
@@ -88,7 +95,8 @@ fn has_number(set: &Spans, number: Option<i128>) -> bool
 pub fn holds_from(table: &TypeTable, first: Option<&Value>, constraint: &Constraint) -> bool
     ensures { (fs : List Field) → option_map plain (option_copied first.entry) ≡ first_on fs constraint.now.path → result ≡ holds table.now fs constraint.now }
 {
-    let path = constraint.path.as_slice();
-    let number = number_of(row_on(table, path), value_from(table, first, path));
-    has_number(&constraint.set, number)
+    has_number(
+        &constraint.set,
+        number_from(table, first, constraint.path.as_slice()),
+    )
 }

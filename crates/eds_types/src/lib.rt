@@ -24,7 +24,7 @@ mod values;
 
 pub use binary::is_binary;
 pub use chain::Chain;
-pub use condition::{holds_from, row_of};
+pub use condition::{holds_from, number_from, row_of};
 pub use copy::copy_all;
 pub use reason::PackReason;
 pub use row::{

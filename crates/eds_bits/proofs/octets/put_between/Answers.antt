@@ -1,4 +1,4 @@
-use Rattle.std.proofs.Common.{◌≡◌, ◌-◌, ◌+◌, ◌*◌, ◌/◌, ◌%◌, ◌^◌, ◌<◌, ◌≤◌, bit_and, get_or, List, ℕ, length, take, drop, length-take, length-drop, length-append, ap, refl, sym, subst, ◌∙◌, arith}
+use Rattle.std.proofs.Common.{◌≡◌, ◌-◌, ◌+◌, ◌*◌, ◌/◌, ◌%◌, get_or, List, ℕ, length, take, drop, length-take, length-drop, refl, ◌∙◌, arith}
 use Rattle.std.proofs.lemmas.Bool.{OnTrue_at}
 use borrow.Rule.Slice.PartMut.{put_mid}
 use Rattle.eds_bits.proofs.Shifts.{between_put, octet_high, octet_low, octet_fits, length_put}

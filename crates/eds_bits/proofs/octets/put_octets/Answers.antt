@@ -1,4 +1,4 @@
-use Rattle.std.proofs.Common.{◌≡◌, ◌-◌, ◌+◌, ◌*◌, ◌/◌, List, ℕ, length, ap, ◌∙◌, arith}
+use Rattle.std.proofs.Common.{◌≡◌, ◌-◌, ◌+◌, ◌*◌, ◌/◌, length, ap, ◌∙◌, arith}
 use Rattle.eds_bits.specs.Bits.{bits_of, with_piece}
 use Rattle.eds_bits.proofs.Shifts.{octets_put}
 use Rattle.eds_bits.proofs.octets.put_octets.Goals as goal

@@ -1,6 +1,4 @@
-use Rattle.std.proofs.Common.{◌*◌, ◌^◌, ◌/◌, ◌%◌, ◌-◌, ◌+◌, bit_or, get_or, length-set, ◌∙◌, ap, arith, refl}
-use Rattle.std.proofs.lemmas.List.{take_all}
-use Rattle.eds_bits.specs.Bits.{bits_of}
+use Rattle.std.proofs.Common.{◌*◌, ◌^◌, ◌/◌, ◌%◌, ◌-◌, ◌+◌, bit_or, get_or, length-set, arith, refl}
 use Rattle.eds_bits.proofs.Shifts.{shift_more}
 use Rattle.eds_bits.proofs.octets.shift_into.Goals as goal
 

@@ -1,4 +1,4 @@
-use Rattle.std.proofs.Common.{◌-◌, ◌+◌, ◌*◌, ◌/◌, ◌%◌, length, take, drop, ap, ◌∙◌, arith}
+use Rattle.std.proofs.Common.{◌-◌, ◌+◌, ◌/◌, ◌%◌, length, ap, ◌∙◌, arith}
 use Rattle.eds_bits.specs.Bits.{bits_of}
 use Rattle.eds_bits.proofs.Windows.{shifted_window, whole_part}
 use Rattle.eds_bits.proofs.reader.octets_at.Goals as goal

@@ -1,4 +1,4 @@
-use Rattle.std.proofs.Common.{◌∙◌, length, arith}
+use Rattle.std.proofs.Common.{◌∙◌, arith}
 use Rattle.eds_bits.proofs.Windows.{word_number}
 use Rattle.eds_bits.proofs.window.word_of.Goals as goal
 

@@ -1,4 +1,4 @@
-use Rattle.std.proofs.Common.{sym, ap, ◌∙◌, arith}
+use Rattle.std.proofs.Common.{ap, ◌∙◌, arith}
 use Rattle.eds_names.specs.LookUp.{slashes}
 use Rattle.eds_names.proofs.DepthsLemmas.{depths-next}
 use Rattle.eds_names.proofs.depths.depths_of.Goals as goal

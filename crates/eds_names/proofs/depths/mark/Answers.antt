@@ -1,4 +1,4 @@
-use Rattle.std.proofs.Common.{length, sym, ap, ◌∙◌, arith}
+use Rattle.std.proofs.Common.{sym, ap, ◌∙◌, arith}
 use Rattle.eds_names.specs.LookUp.{is_marked}
 use Rattle.eds_names.proofs.DepthsLemmas.{marked-more, marked-set}
 use Rattle.eds_names.proofs.depths.mark.Goals as goal

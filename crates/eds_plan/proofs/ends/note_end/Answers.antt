@@ -1,7 +1,5 @@
 use Rattle.std.proofs.Common.{ap, ◌∙◌, sym, Some, is_some, true, string_bytes}
 use Rattle.std.specs.HashMap.{get_by_text}
-use Rattle.std.specs.Map.{update}
-use Rattle.std.specs.Str.{bytes_eq}
 use Rattle.std.proofs.lemmas.Map.Text.{hash_map_updates_text}
 use Rattle.eds_plan.proofs.Called.{noted, kept}
 use Rattle.eds_plan.proofs.ends.note_end.Goals as goal

@@ -1,4 +1,4 @@
-use Rattle.std.proofs.Common.{◌∙◌, ◌-◌, ap, sym, arith, length, take, drop}
+use Rattle.std.proofs.Common.{◌∙◌, ◌-◌, ap, arith, length, take, drop}
 use Rattle.eds_types.specs.Seeking.{along}
 use Rattle.eds_types.proofs.Paths.{first_is, value_on_is}
 use Rattle.eds_types.proofs.condition.value_from.Goals as goal
