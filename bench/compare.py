@@ -6,9 +6,10 @@
 PROGRAM is a built program (by default crates/eds_prog/out/eds_prog), or `-` for the model alone. A run is one sheet: it is
 checked, and where it is accepted, frames and values of its types are read and packed, and packets are split. WORDS say what
 sheets may hold: `built`, `whole`, `scalars`, or words of `EVERYTHING` in bench/model/run_model.py with commas between them.
-With `runs` sheets have components, and where they are accepted, scripts are run over them. With `changed` a run is one of
+With `runs` sheets have components, and where they are accepted, scripts are run over them. With `recordings` the
+containers of an accepted sheet split recordings of some hundred packets each. With `changed` a run is one of
 bench/fuzz.py: a command of the cases and examples, of whose files some are changed. Each difference is printed with its words
-and files. The last lines count the answers, of scripts what their runs show, and the differences. The same seed
+and files. The last lines count the answers, of scripts what their runs show, the packets, and the differences. The same seed
 makes the same inputs.
 """
 
@@ -17,6 +18,7 @@ import collections
 import functools
 import os
 import random
+import re
 import signal
 import subprocess
 import sys
@@ -34,7 +36,7 @@ import gen_scripts  # noqa: E402
 import run_model  # noqa: E402
 import runs  # noqa: E402
 
-TYPES, INPUTS, SCRIPTS = 4, 3, 4
+TYPES, INPUTS, SCRIPTS, PACKETS = 4, 3, 4, 400
 PATIENCE = 5  # seconds for one answer of the model: 10,000 firings of 100,000 statements would take days
 
 
@@ -112,6 +114,17 @@ def of_scripts(seed, stage):
         yield ["run", "script", "sheet"], {**sheet, "script": gen_scripts.script(dice, judge)}
 
 
+def of_recordings(seed, stage):
+    """The words and files of one run: recordings of many packets of an accepted sheet's containers."""
+    dice = random.Random(seed)
+    sheet = {f"sheet{at}": octets for at, octets in enumerate(gen.case(dice, stage))}
+    if not accepted(sheet, stage):
+        return
+    for word in [it.name for it in run_model.judged(list(sheet.values()), None, stage).types if it.kind == "Container"]:
+        judge = run_model.judged(list(sheet.values()), word, stage)
+        yield ["split", word, "input", *sheet], {**sheet, "input": gen.recording(dice, judge, judge.word, PACKETS)}
+
+
 @functools.cache
 def seeds():
     return fuzz.Seeds()
@@ -122,6 +135,9 @@ def of_changed(seed, _):
     yield fuzz.Maker(seeds(), seed).made()
 
 
+OTHER = {"runs": of_scripts, "recordings": of_recordings, "changed": of_changed}
+
+
 def shown_by(words, status, report):
     """What an answer shows: of a run its events too."""
     if words[0] != "run" or status not in (0, 7):
@@ -130,6 +146,12 @@ def shown_by(words, status, report):
     events = [line.split(" ") for line in report.splitlines() if line[0].isdigit()]
     shown = {"run with " + " ".join(it[1:2] + it[4:5] * (it[1] in ("halt", "reject"))) for it in events}
     return shown | {"run with " + it for it, times in runs.SEEN.items() if times} | {"run done" if status == 0 else "limit deliveries"}
+
+
+def packets_read(words, report):
+    """How many packets `split` has read by its answer, the one that fails among them."""
+    told = re.search(r"(?:^packets|in packet) ([0-9]+)", report, re.M) if words[0] == "split" else None
+    return int(told[1]) if told else 0
 
 
 def compare(asked):
@@ -144,6 +166,7 @@ def compare(asked):
                 kinds["passed over, too slow for the model"] += 1
                 continue
             kinds.update(shown_by(words, *want) | {"answers"})
+            kinds["packets"] += packets_read(words, want[1])
             got = want if program == "-" else run(program, words, files)
             if got != want:
                 found.append((words, files, want, got))
@@ -162,8 +185,8 @@ def main():
     asked = asked.parse_args()
     program = asked.program if asked.program == "-" else os.path.abspath(asked.program)
     stage, makes = run_model.STAGES.get(asked.stage) or set(asked.stage.split(",")) - {"scalars"}, of_values
-    if asked.stage in ("runs", "changed"):
-        stage, makes = run_model.EVERYTHING, {"runs": of_scripts, "changed": of_changed}[asked.stage]
+    if asked.stage in OTHER:
+        stage, makes = run_model.EVERYTHING, OTHER[asked.stage]
     work = [(program, asked.seed * 10**9 + at, stage, makes) for at in range(asked.runs)]
     kinds, wrong = collections.Counter(), 0
     with ProcessPoolExecutor(asked.jobs) as pool:

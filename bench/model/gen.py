@@ -14,6 +14,7 @@ MEMBERS = ["p", "q", "r", "s", "t", "u", "v", "w", "On", "Count"]
 FACE_NAMES = ["I%d" % i for i in range(8)] + ["Sub"]
 COMPONENT_NAMES = ["C1", "C2", "Dev"]
 TYPE_NAMES = ["T%d" % i for i in range(40)] + ["U8", "Word", "Base"]
+MOST_RECORDED = 200_000
 
 
 class Gen:
@@ -756,6 +757,27 @@ def packets(rng, judge, t):
     frames = [frame_text(rng, judge, t) for _ in range(rng.choice([0, 1, 2, 3, 5]))]
     digits = ["".join(o for o in frame.decode("latin-1") if o in "0123456789abcdefABCDEF") for frame in frames]
     return b"".join(bytes.fromhex(it[: len(it) // 2 * 2]) for it in digits)
+
+
+def recording(rng, judge, t, count):
+    """Octets: many packets one after another, some of them made and the others among them again, and perhaps a changed one."""
+    made = []
+    for _ in range(40):
+        try:
+            v = m.value_of(judge, t, m.Json(json.dumps(Values(rng, judge).value(t)).encode()).read(), "")
+            bits = m.Packer(judge).pack(t, v)
+        except (m.BadJson, m.Fault, m.WrongShape):
+            continue
+        if bits:
+            made.append(m.octets_of(bits + [rng.randrange(2) for _ in range(-len(bits) % 8)]))
+    if not made:
+        return b""
+    frames = [rng.choice(made) for _ in range(count)]
+    if rng.random() < .7:
+        at, changed = rng.randrange(count // 2, count), bytearray(rng.choice(made))
+        changed[rng.randrange(len(changed))] ^= 1 << rng.randrange(8)
+        frames[at] = bytes(changed)
+    return b"".join(frames)[:MOST_RECORDED]
 
 
 def frame_text(rng, judge, t):
