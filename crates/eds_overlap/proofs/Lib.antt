@@ -18,6 +18,8 @@ pub mod WhatIsRead
 pub mod TailReading
 pub mod ExamplePacking
 pub mod Solutions
+pub mod PathOrder
+pub mod TakenIn
 pub mod LeastInAll
 pub mod FirstPairs
 pub mod UnderivedTables

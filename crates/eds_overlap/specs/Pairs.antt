@@ -1,6 +1,10 @@
 -- The numbers that constraints leave on their paths, and the first pair of containers that overlap.
 use Rattle.std.specs.Prelude.{◌≡◌, ◌≢◌, ℕ, suc, length, slice_get, ◌++◌, ◌<◌, ◌≤◌, ◌⊎◌, ℤ, List, [], ◌∷◌, map, Bool, true, false, ◌==◌, ◌&&◌, if◌then◌else◌, Option, Some, None}
+use Rattle.std.specs.Cmp.Lexicographic.{slice_cmp}
+use Rattle.std.specs.declared.cmp.Ordering.{Ordering}
+use Rattle.std.specs.declared.cmp.Ordering.TheVariants.{Less}
 use Rattle.std.specs.List.{AllByRecursion, flat_map}
+use Rattle.std.specs.Ordering.{is_lt, nat_cmp, ordering_then}
 use Rattle.eds_base.specs.declared.ids.TypeId.{TypeId}
 use Rattle.eds_base.specs.declared.spans.Span.{Span}
 use Rattle.eds_base.specs.Spans.{IsWithin}
@@ -31,22 +35,13 @@ pub record AreSets (t : Table) (cs : List Constraint) (sets : List PathSet) : Ty
   pub all : (path : Steps) → IsConstrained cs path → HasOne (λ s. s.path ≡ path) sets
   pub once : AreDistinct (map (λ (s : PathSet). s.path) sets)
 
--- the numbers that lie in the second set are those of the first that the constraints on the path admit
-pub record IsMet (path : Steps) (cs : List Constraint) (old new : List Span) : Type 0 where
-  pub from_old : (n : ℤ) → IsWithin new n → IsWithin old n
-  pub admitted : (n : ℤ) → IsWithin new n → AllByRecursion (λ c. c.path ≡ path → IsWithin c.set n) cs
-  pub all : (n : ℤ) → IsWithin old n → AllByRecursion (λ c. c.path ≡ path → IsWithin c.set n) cs → IsWithin new n
-
 -- the constraints of some types, one after the other
 abbrev pub constraints_among : Table → List TypeId → List Constraint
 constraints_among t ids = flat_map (λ (id : TypeId). constraints_of t id.0) ids
 
--- sets that were solved are kept, and those of some constraints' paths are added
-pub record AreAdded (t : Table) (cs some : List Constraint) (old new : List PathSet) : Type 0 where
-  pub each : AllByRecursion (IsSolved t cs) old → AllByRecursion (IsSolved t cs) new
-  pub kept : (path : Steps) → HasOne (λ s. s.path ≡ path) old → HasOne (λ s. s.path ≡ path) new
-  pub added : AllByRecursion (λ c. HasOne (λ s. s.path ≡ c.path) new) some
-  pub once : AreDistinct (map (λ (s : PathSet). s.path) old) → AreDistinct (map (λ (s : PathSet). s.path) new)
+-- the constraint is one of the table's
+abbrev pub IsDeclared : Table → Constraint → Type 0
+IsDeclared t c = (k : ℕ) × Has (constraints_of t k) c
 
 -- the domain of an integer type or sub-range, where the path leads to one
 abbrev pub int_domain_by : Table → Option ℕ → Option (List Span)
@@ -70,6 +65,38 @@ same_path (p ∷ ps) (q ∷ qs) = if (p.0).0 == (q.0).0 && p.1 == q.1 then same_
 abbrev pub set_on : List PathSet → Steps → Option (List Span)
 set_on [] path = None
 set_on (s ∷ sets) path = if same_path s.path path then Some s.set else set_on sets path
+
+-- ---- the order of paths
+
+-- the order of steps: by their containers, then by their positions
+abbrev pub step_cmp : TypeId × ℕ → TypeId × ℕ → Ordering
+step_cmp p q = ordering_then (nat_cmp (p.0).0 (q.0).0) (nat_cmp p.1 q.1)
+
+-- the order of paths, step by step
+abbrev pub path_cmp : Steps → Steps → Ordering
+path_cmp p q = slice_cmp step_cmp p q
+
+-- each path comes before all behind it
+abbrev pub AreRising : List Steps → Type 0
+AreRising [] = Unit {0}
+AreRising (p ∷ paths) = AllByRecursion (λ q. path_cmp p q ≡ Less) paths × AreRising paths
+
+-- the sets of some constraints, in the order of their paths
+abbrev pub AreSetsInOrder : Table → List Constraint → List PathSet → Type 0
+AreSetsInOrder t cs sets = AreSets t cs sets × AreRising (map (λ (s : PathSet). s.path) sets)
+
+-- the constraint's path comes before none of theirs
+abbrev pub IsBehind : List Constraint → Constraint → Type 0
+IsBehind cs c = AllByRecursion (λ (d : Constraint). is_lt (path_cmp c.path d.path) ≡ false) cs
+
+-- no constraint comes before one that stands ahead of it
+abbrev pub AreByPath : List Constraint → Type 0
+AreByPath [] = Unit {0}
+AreByPath (c ∷ cs) = AllByRecursion (λ (d : Constraint). is_lt (path_cmp d.path c.path) ≡ false) cs × AreByPath cs
+
+-- the sets of some constraints become those of one more, which comes before none of them
+abbrev pub TakesIn : Table → Constraint → List PathSet → List PathSet → Type 0
+TakesIn t c old new = (cs : List Constraint) → IsBehind cs c → AreSetsInOrder t cs old → AreSetsInOrder t (cs ++ c ∷ []) new
 
 -- ---- pairs
 

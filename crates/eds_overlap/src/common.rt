@@ -7,11 +7,11 @@ ghost use Rattle.eds_overlap.specs.Pairs.{AreSets, constraints_among};
 ghost use Rattle.eds_overlap.specs.PathTexts.{count_up_to};
 
 use crate::find::{Pair, starts_in};
-use crate::paths::{find_set, is_same};
-use crate::sets::copied_path;
+use crate::paths::is_same;
+use crate::sets::{SetsByPath, copied_path};
 use crate::texts::path_text;
 use eds_base::{Items, Memory, Text, TypeId};
-use eds_types::{Constraint, EntryPath, PathSet, TypeTable};
+use eds_types::{Constraint, EntryPath, TypeTable};
 use std::alloc::Global;
 
 /// The least number that the entry on a path can have in both of two containers.
@@ -34,8 +34,8 @@ pub(crate) fn common_numbers(
     alloc: Global,
     table: &TypeTable,
     pair: Pair,
-    ours: &[PathSet],
-    theirs: &[PathSet],
+    ours: &SetsByPath,
+    theirs: &SetsByPath,
 ) -> Result<Items<Common>, Memory>
     requires ours { AreSets table.now (constraints_along table.now pair.first.0) ours.now }
     requires theirs { AreSets table.now (constraints_along table.now pair.second.0) theirs.now }
@@ -61,8 +61,8 @@ fn add_among(
     table: &TypeTable,
     ancestor: TypeId,
     ids: &[TypeId],
-    ours: &[PathSet],
-    theirs: &[PathSet],
+    ours: &SetsByPath,
+    theirs: &SetsByPath,
     gathered: &mut Gathered,
 ) -> Result<(), Memory>
     requires { gathered.old.texts.items ≡ texts_of table.now gathered.old.common.items }
@@ -82,8 +82,8 @@ fn add_paths(
     table: &TypeTable,
     ancestor: TypeId,
     constraints: &[Constraint],
-    ours: &[PathSet],
-    theirs: &[PathSet],
+    ours: &SetsByPath,
+    theirs: &SetsByPath,
     gathered: &mut Gathered,
 ) -> Result<(), Memory>
     requires { gathered.old.texts.items ≡ texts_of table.now gathered.old.common.items }
@@ -103,8 +103,8 @@ fn add_path(
     table: &TypeTable,
     ancestor: TypeId,
     path: &[(TypeId, u16)],
-    ours: &[PathSet],
-    theirs: &[PathSet],
+    ours: &SetsByPath,
+    theirs: &SetsByPath,
     gathered: &mut Gathered,
 ) -> Result<(), Memory>
     requires { gathered.old.texts.items ≡ texts_of table.now gathered.old.common.items }
@@ -153,10 +153,10 @@ fn is_on(common: &[Common], path: &[(TypeId, u16)]) -> bool
 }
 
 // The least number on a path that the sets of both lists have, or that of the one that has a set there.
-fn least_in_both(ours: &[PathSet], theirs: &[PathSet], path: &[(TypeId, u16)]) -> Option<i128>
+fn least_in_both(ours: &SetsByPath, theirs: &SetsByPath, path: &[(TypeId, u16)]) -> Option<i128>
     ensures { result ≡ least_of_both ours.now theirs.now path.now }
 {
-    match (find_set(ours, path), find_set(theirs, path)) {
+    match (ours.find(path), theirs.find(path)) {
         (Some(set), Some(other)) => set.first_common(other),
         (Some(set), None) => set.first_common(set),
         (None, Some(set)) => set.first_common(set),

@@ -13,10 +13,9 @@ use crate::common::{Common, common_numbers};
 use crate::index::{
     Places, all_key, family_of, free_key, held_key, listed, mark_of, models_of, place_all,
 };
-use crate::paths::find_set;
-use crate::sets::solution_sets;
+use crate::sets::{SetsByPath, solution_sets};
 use eds_base::{Items, Memory, TypeId};
-use eds_types::{PathSet, Sets, TypeTable, Used, is_among};
+use eds_types::{PathSet, TypeTable, Used, is_among};
 use std::alloc::Global;
 
 /// Two concrete containers that overlap, the nearest base that both have, and for each path that is judged the least number
@@ -53,8 +52,8 @@ pub fn find_overlap(
     match found {
         None => Ok(None),
         Some(pair) => {
-            let ours = sets[pair.first.0 as usize].as_slice();
-            let theirs = sets[pair.second.0 as usize].as_slice();
+            let ours = &sets[pair.first.0 as usize];
+            let theirs = &sets[pair.second.0 as usize];
             let common = common_numbers(alloc, table, pair, ours, theirs)?;
             Ok(Some(Overlap {
                 first: pair.first,
@@ -137,19 +136,19 @@ pub(crate) fn starts_in(table: &TypeTable, id: TypeId, path: &[(TypeId, u16)]) -
 }
 
 // The least number of a path's set that the set on that path among others has too, if there is one.
-fn least_common(ours: &PathSet, theirs: &[PathSet]) -> Option<i128>
+fn least_common(ours: &PathSet, theirs: &SetsByPath) -> Option<i128>
     ensures some { IfSome result (λ n. IsWithin ours.now.set n × IsWithinOn (set_on theirs.now ours.now.path) n) }
     ensures least { IfSome result (λ n. (m : ℤ) → IsWithin ours.now.set m → IsWithinOn (set_on theirs.now ours.now.path) m → n ≤ℤ m) }
     ensures none { IfNone result ((m : ℤ) → IsWithin ours.now.set m → IsWithinOn (set_on theirs.now ours.now.path) m → ⊥) }
 {
-    match find_set(theirs, ours.path.as_slice()) {
+    match theirs.find(ours.path.as_slice()) {
         Some(set) => ours.set.first_common(set),
         None => ours.set.first_common(&ours.set),
     }
 }
 
 // Whether a path starts below a choice, or its set has a number that the set on that path among others has too.
-fn agrees(table: &TypeTable, id: TypeId, one: &PathSet, theirs: &[PathSet]) -> bool
+fn agrees(table: &TypeTable, id: TypeId, one: &PathSet, theirs: &SetsByPath) -> bool
     ensures { IsTrue result ↔ Agrees table.now id.0 theirs.now one.now }
 {
     if !starts_in(table, id, one.path.as_slice()) {
@@ -162,7 +161,7 @@ fn agrees(table: &TypeTable, id: TypeId, one: &PathSet, theirs: &[PathSet]) -> b
 }
 
 // Whether on each path that starts above a choice the sets have a common number.
-fn agree(table: &TypeTable, id: TypeId, ours: &[PathSet], theirs: &[PathSet]) -> bool
+fn agree(table: &TypeTable, id: TypeId, ours: &[PathSet], theirs: &SetsByPath) -> bool
     ensures { IsTrue result ↔ AllByRecursion (Agrees table.now id.0 theirs.now) ours.now }
 {
     for one in ours {
@@ -177,7 +176,7 @@ fn agree(table: &TypeTable, id: TypeId, ours: &[PathSet], theirs: &[PathSet]) ->
 fn overlap_of(
     table: &TypeTable,
     used: &[TypeId],
-    sets: &[Sets],
+    sets: &[SetsByPath],
     first: TypeId,
     second: TypeId,
 ) -> Option<TypeId>
@@ -191,8 +190,8 @@ fn overlap_of(
     if !table.is_concrete(first) || !table.is_concrete(second) {
         return None;
     }
-    let ours = sets[first.0 as usize].as_slice();
-    let theirs = sets[second.0 as usize].as_slice();
+    let ours = &sets[first.0 as usize];
+    let theirs = &sets[second.0 as usize];
     let id = parting(table, first, second)?;
     met_at(table, used, id, ours, theirs)
 }
@@ -202,14 +201,14 @@ fn met_at(
     table: &TypeTable,
     used: &[TypeId],
     id: TypeId,
-    ours: &[PathSet],
-    theirs: &[PathSet],
+    ours: &SetsByPath,
+    theirs: &SetsByPath,
 ) -> Option<TypeId>
     ensures some { IfSome result (λ x. (x ≡ id) × Meets table.now (Named used.now) id.0 ours.now theirs.now) }
     ensures none { IfNone result (Meets table.now (Named used.now) id.0 ours.now theirs.now → ⊥) }
 {
-    if agree(table, id, ours, theirs)
-        && agree(table, id, theirs, ours)
+    if agree(table, id, ours.as_slice(), theirs)
+        && agree(table, id, theirs.as_slice(), ours)
         && is_read_through(table, used, id)
     {
         Some(id)
@@ -233,7 +232,7 @@ fn is_reached(best: Option<Pair>, first: TypeId) -> bool
 fn better(
     table: &TypeTable,
     used: &[TypeId],
-    sets: &[Sets],
+    sets: &[SetsByPath],
     first: TypeId,
     second: TypeId,
     best: Option<Pair>,
@@ -259,7 +258,7 @@ fn better(
 fn first_among(
     table: &TypeTable,
     used: &[TypeId],
-    sets: &[Sets],
+    sets: &[SetsByPath],
     ids: &[TypeId],
     second: TypeId,
     best: Option<Pair>,
@@ -280,7 +279,7 @@ fn first_among(
 fn may_meet<'a>(
     alloc: Global,
     table: &TypeTable,
-    sets: &[Sets],
+    sets: &[SetsByPath],
     models: &[TypeId],
     places: &'a Places,
     id: TypeId,
@@ -306,7 +305,7 @@ fn first_with(
     alloc: Global,
     table: &TypeTable,
     used: &[TypeId],
-    sets: &[Sets],
+    sets: &[SetsByPath],
     models: &[TypeId],
     places: &Places,
     second: TypeId,
@@ -331,7 +330,7 @@ fn first_pair(
     alloc: Global,
     table: &TypeTable,
     used: &[TypeId],
-    sets: &[Sets],
+    sets: &[SetsByPath],
 ) -> Result<Option<Pair>, Memory>
     requires { AllSets table.now sets.now }
     ensures some { IfOk result (λ r. IfSome r (λ p. IsFirstPair table.now (Named used.now) p.ancestor.0 p.first.0 p.second.0)) }
@@ -351,7 +350,7 @@ fn first_pair(
 }
 
 // The solution sets of all types.
-fn all_sets(alloc: Global, table: &TypeTable) -> Result<Items<Sets>, Memory>
+fn all_sets(alloc: Global, table: &TypeTable) -> Result<Items<SetsByPath>, Memory>
     ensures { IfOk result (λ sets. AllSets table.now sets) }
 {
     let mut all = Items::new(alloc);

@@ -3,9 +3,9 @@
 ghost use Rattle.std.specs.Prelude.{◌≡◌, ◌++◌, ◌∷◌, ◌+◌, [], ℕ, List, length, option_map, string_bytes, bytes_eq, if◌then◌else◌, IfOk, OnOk};
 ghost use Rattle.eds_overlap.specs.Index.{AreListed, all_key as text_of_all, family as last_base, free_key as text_of_free, held_key as text_of_held, listed as listed_under, lone as lone_of, lone_in as lone_in_span, lone_on as lone_on_path, mark as mark_that_is, marks_on, model_of as model_that_is, numbers_text as text_of_numbers, own_key as text_of_own, sets_of as sets_that_are};
 
-use crate::paths::find_set;
+use crate::sets::SetsByPath;
 use eds_base::{Items, Memory, Span, Spans, TypeId};
-use eds_types::{PathSet, Sets, TypeTable};
+use eds_types::{PathSet, TypeTable};
 use std::alloc::Global;
 use std::collections::BTreeMap;
 
@@ -36,25 +36,27 @@ fn lone(set: &Spans) -> Option<i128>
     }
 }
 
-// The number to which sets hold a path.
-fn lone_on(sets: &[PathSet], path: &[(TypeId, u16)]) -> Option<i128>
-    ensures { result ≡ lone_on_path sets.now path.now }
+// The number to which the sets of a type hold a path.
+fn lone_on(sets: &[SetsByPath], id: TypeId, path: &[(TypeId, u16)]) -> Option<i128>
+    ensures { result ≡ lone_on_path (sets_that_are sets.now id.0) path.now }
 {
-    lone(find_set(sets, path)?)
+    lone(sets.get(id.0 as usize)?.find(path)?)
 }
 
-// The numbers to which sets hold those paths that a model's sets hold to one number. None where they leave one free.
+// The numbers to which the sets of a type hold those paths that a model's sets hold to one number. None where they leave one
+// free.
 fn numbers_on(
     alloc: Global,
     model: &[PathSet],
-    sets: &[PathSet],
+    sets: &[SetsByPath],
+    id: TypeId,
 ) -> Result<Option<Items<i128>>, Memory>
-    ensures { IfOk result (λ numbers. numbers ≡ marks_on model.now sets.now) }
+    ensures { IfOk result (λ numbers. numbers ≡ marks_on model.now (sets_that_are sets.now id.0)) }
 {
     let mut numbers = Items::new(alloc);
     for one in model {
         if lone(&one.set).is_some() {
-            let Some(number) = lone_on(sets, one.path.as_slice()) else {
+            let Some(number) = lone_on(sets, id, one.path.as_slice()) else {
                 return Ok(None);
             };
             numbers.push(number)?;
@@ -77,7 +79,7 @@ pub(crate) fn family_of(table: &TypeTable, id: TypeId) -> TypeId
 }
 
 /// The sets of a type.
-pub(crate) fn sets_of(sets: &[Sets], id: TypeId) -> &[PathSet]
+pub(crate) fn sets_of(sets: &[SetsByPath], id: TypeId) -> &[PathSet]
     ensures { result.now ≡ sets_that_are sets.now id.0 }
 {
     match sets.get(id.0 as usize) {
@@ -111,7 +113,7 @@ fn all_types(alloc: Global, table: &TypeTable) -> Result<Vec<TypeId>, Memory> {
 pub(crate) fn models_of(
     alloc: Global,
     table: &TypeTable,
-    sets: &[Sets],
+    sets: &[SetsByPath],
 ) -> Result<Vec<TypeId>, Memory> {
     let mut models = all_types(alloc, table)?;
     for id in 0..table.len() {
@@ -141,14 +143,14 @@ fn model_of(models: &[TypeId], family: TypeId) -> TypeId
 pub(crate) fn mark_of(
     alloc: Global,
     table: &TypeTable,
-    sets: &[Sets],
+    sets: &[SetsByPath],
     models: &[TypeId],
     id: TypeId,
 ) -> Result<Option<Items<i128>>, Memory>
     ensures { IfOk result (λ numbers. numbers ≡ mark_that_is table.now sets.now models.now id.0) }
 {
     let model = model_of(models, family_of(table, id));
-    numbers_on(alloc, sets_of(sets, model), sets_of(sets, id))
+    numbers_on(alloc, sets_of(sets, model), sets, id)
 }
 
 // ---- texts
@@ -232,7 +234,7 @@ fn note(alloc: Global, places: &mut Places, key: String, id: TypeId) -> Result<(
 fn place(
     alloc: Global,
     table: &TypeTable,
-    sets: &[Sets],
+    sets: &[SetsByPath],
     models: &[TypeId],
     id: TypeId,
     places: &mut Places,
@@ -254,7 +256,7 @@ fn place(
 pub(crate) fn place_all(
     alloc: Global,
     table: &TypeTable,
-    sets: &[Sets],
+    sets: &[SetsByPath],
     models: &[TypeId],
 ) -> Result<Places, Memory>
     ensures { IfOk result (λ places. AreListed table.now sets.now models.now (length table.now) places) }

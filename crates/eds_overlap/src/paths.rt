@@ -1,11 +1,10 @@
 //! Paths of entries.
 
 ghost use Rattle.std.specs.Prelude.{◌≡◌, map};
-ghost use Rattle.std.specs.Option.{option_copied};
-ghost use Rattle.eds_overlap.specs.Pairs.{same_path, set_on};
+ghost use Rattle.eds_overlap.specs.Pairs.{path_cmp, same_path};
 
-use eds_base::{Spans, TypeId};
-use eds_types::PathSet;
+use eds_base::TypeId;
+use std::cmp::Ordering;
 
 /// Whether two paths are one: as many steps, each with the same container and the same position.
 pub fn is_same(one: &[(TypeId, u16)], other: &[(TypeId, u16)]) -> bool
@@ -26,14 +25,9 @@ pub fn is_same(one: &[(TypeId, u16)], other: &[(TypeId, u16)]) -> bool
     theirs.is_empty()
 }
 
-/// The first set on a path.
-pub(crate) fn find_set<'a>(sets: &'a [PathSet], path: &[(TypeId, u16)]) -> Option<&'a Spans>
-    ensures { option_copied result ≡ set_on sets.now path.now }
+/// The order of two paths: step by step, by containers and then by positions.
+pub(crate) fn path_order(one: &[(TypeId, u16)], other: &[(TypeId, u16)]) -> Ordering
+    ensures { result ≡ path_cmp one.now other.now }
 {
-    for one in sets {
-        if is_same(one.path.as_slice(), path) {
-            return Some(&one.set);
-        }
-    }
-    None
+    one.cmp(&other)
 }

@@ -1,103 +1,155 @@
 //! The numbers that the constraints of a container leave on their paths.
 
-ghost use Rattle.std.specs.Prelude.{◌≡◌, ℤ, None, [], ◌∷◌, IfOk, OnOk, IfSome};
+ghost use Rattle.std.specs.Prelude.{◌≡◌, ◌≢◌, ℤ, None, [], ◌∷◌, ◌++◌, map, List, IfOk, OnOk, IfSome};
 ghost use Rattle.std.specs.Option.{option_copied};
 ghost use Rattle.std.specs.List.{AllByRecursion};
+ghost use Rattle.std.specs.List.Sorted.{IsPermutation};
 ghost use Rattle.eds_base.specs.Spans.{IsWithin};
-ghost use Rattle.eds_bits.specs.Lists.{Has};
+ghost use Rattle.eds_types.specs.declared.sets.PathSet.{PathSet as path_set};
 ghost use Rattle.eds_types.specs.Fields.{constraints_along};
-ghost use Rattle.eds_types.specs.Overlap.{IsSolution};
-ghost use Rattle.eds_overlap.specs.Pairs.{AreSets, AreAdded, IsMet, constraints_among, int_domain_on, set_on};
+ghost use Rattle.eds_overlap.specs.Pairs.{AreByPath, AreSets, AreSetsInOrder, IsDeclared, TakesIn, constraints_among, int_domain_on, set_on};
 
-use crate::paths::{find_set, is_same};
+use crate::paths::{is_same, path_order};
 use eds_base::{Items, Memory, Spans, TypeId};
-use eds_types::{Constraint, EntryPath, PathSet, Sets, TypeTable};
+use eds_types::{Constraint, EntryPath, PathSet, TypeTable};
 use std::alloc::Global;
+use std::marker::Model;
+
+/// Sets of numbers for several paths, each path once, in the order of the paths.
+#[derive(Drop)]
+pub struct SetsByPath {
+    sets: Vec<PathSet>,
+}
+
+impl Model for SetsByPath {
+    ghost use Rattle.std.specs.Prelude.{List, map};
+    ghost use Rattle.eds_types.specs.declared.sets.PathSet.{PathSet as path_set};
+    ghost use Rattle.eds_overlap.specs.Pairs.{AreRising};
+
+    ghost Value = { List path_set };
+
+    ghost view = { λ s. s.sets.items };
+
+    ghost invariant = { λ s. AreRising (map (λ (one : path_set). one.path) s.sets.items) };
+}
+
+impl SetsByPath {
+    /// The sets.
+    pub fn as_slice(&self) -> &[PathSet]
+        ensures { result.now ≡ self.now }
+    {
+        self.sets.as_slice()
+    }
+
+    /// The set on a path, found by halves.
+    pub fn find(&self, path: &[(TypeId, u16)]) -> Option<&Spans>
+        ensures { option_copied result ≡ set_on self.now path.now }
+    {
+        let found = self
+            .sets
+            .binary_search_by(|one| path_order(one.path.as_slice(), path));
+        match found {
+            Ok(at) => Some(&self.sets[at].set),
+            Err(_) => None,
+        }
+    }
+}
 
 /// For each path that a container or one of its bases constrains the numbers that all these constraints and the path's
 /// domain have in common.
-pub fn solution_sets(alloc: Global, table: &TypeTable, id: TypeId) -> Result<Sets, Memory>
+pub fn solution_sets(alloc: Global, table: &TypeTable, id: TypeId) -> Result<SetsByPath, Memory>
     ensures { IfOk result (λ sets. AreSets table.now (constraints_along table.now id.0) sets) }
 {
     table.keeps_rules();
     let chain = table.chain_of(id);
-    let ids = chain.as_slice();
-    let mut sets = Sets::new(alloc);
-    for above in ids {
-        push_sets(alloc, table, ids, table.constraints_of(*above), &mut sets)?;
+    let constraints = constraints_by_path(alloc, table, chain.as_slice())?;
+    let sets = gathered_sets(alloc, table, constraints.as_slice())?;
+    Ok(SetsByPath { sets })
+}
+
+// The constraints of some types, those on one path next to one another.
+fn constraints_by_path<'a>(
+    alloc: Global,
+    table: &'a TypeTable,
+    ids: &[TypeId],
+) -> Result<Vec<&'a Constraint>, Memory>
+    ensures all { IfOk result (λ all. IsPermutation (constraints_among table.now ids.now) (map (λ c. c.now) all.items)) }
+    ensures order { IfOk result (λ all. AreByPath (map (λ c. c.now) all.items)) }
+{
+    let mut all = Vec::new(alloc);
+    for id in ids {
+        push_all(table.constraints_of(*id), &mut all)?;
+    }
+    all.sort_by(|one, other| path_order(one.path.as_slice(), other.path.as_slice()))?;
+    Ok(all)
+}
+
+// Puts some constraints behind others.
+fn push_all<'a>(some: &'a [Constraint], all: &mut Vec<&'a Constraint>) -> Result<(), Memory>
+    ensures { OnOk result (map (λ c. c.now) all.new.items ≡ map (λ c. c.now) all.old.items ++ some.now) }
+{
+    for one in some {
+        all.push(one)?;
+    }
+    Ok(())
+}
+
+// The sets of some constraints, which are in the order of their paths.
+fn gathered_sets(
+    alloc: Global,
+    table: &TypeTable,
+    constraints: &[&Constraint],
+) -> Result<Vec<PathSet>, Memory>
+    requires order { AreByPath (map (λ c. c.now) constraints.now) }
+    requires declared { AllByRecursion (IsDeclared table.now) (map (λ c. c.now) constraints.now) }
+    ensures { IfOk result (λ sets. AreSetsInOrder table.now (map (λ c. c.now) constraints.now) sets.items) }
+{
+    let mut sets = Vec::new(alloc);
+    for constraint in constraints {
+        take_in(alloc, table, constraint, &mut sets)?;
     }
     Ok(sets)
 }
 
-// Adds the sets of the paths that some constraints of a chain are on.
-fn push_sets(
+// Takes in a constraint that comes behind all before it: the last set is narrowed by it, or a new one is added.
+fn take_in(
     alloc: Global,
     table: &TypeTable,
-    chain: &[TypeId],
-    constraints: &[Constraint],
-    sets: &mut Sets,
+    constraint: &Constraint,
+    sets: &mut Vec<PathSet>,
 ) -> Result<(), Memory>
-    requires { AllByRecursion (Has (constraints_among table.now chain.now)) constraints.now }
-    ensures { OnOk result (AreAdded table.now (constraints_among table.now chain.now) constraints.now sets.old sets.new) }
+    requires { IsDeclared table.now constraint.now }
+    ensures { OnOk result (TakesIn table.now constraint.now sets.old.items sets.new.items) }
 {
-    for constraint in constraints {
-        push_set(alloc, table, chain, constraint, sets)?;
+    let Some(last) = sets.pop() else {
+        return push_first(alloc, table, constraint, sets);
+    };
+    if is_same(last.path.as_slice(), constraint.path.as_slice()) {
+        let set = last.set.meet(alloc, &constraint.set)?;
+        let path = last.path;
+        sets.push(PathSet { path, set })?;
+        return Ok(());
     }
-    Ok(())
+    sets.push(last)?;
+    push_first(alloc, table, constraint, sets)
 }
 
-// Adds the set of the path that a constraint of a chain is on, if it isn't there.
-fn push_set(
+// Adds the set of a constraint on a path that no set is on.
+fn push_first(
     alloc: Global,
     table: &TypeTable,
-    chain: &[TypeId],
     constraint: &Constraint,
-    sets: &mut Sets,
+    sets: &mut Vec<PathSet>,
 ) -> Result<(), Memory>
-    requires { Has (constraints_among table.now chain.now) constraint.now }
-    ensures { OnOk result (AreAdded table.now (constraints_among table.now chain.now) (constraint.now ∷ []) sets.old sets.new) }
+    requires declared { IsDeclared table.now constraint.now }
+    requires new { (before : List path_set) → (last : path_set) → sets.old.items ≡ before ++ last ∷ [] → last.path ≢ constraint.now.path }
+    ensures { OnOk result (TakesIn table.now constraint.now sets.old.items sets.new.items) }
 {
-    match find_set(sets.as_slice(), constraint.path.as_slice()) {
-        Some(_) => Ok(()),
-        None => push_new(alloc, table, chain, constraint, sets),
-    }
-}
-
-fn push_new(
-    alloc: Global,
-    table: &TypeTable,
-    chain: &[TypeId],
-    constraint: &Constraint,
-    sets: &mut Sets,
-) -> Result<(), Memory>
-    requires among { Has (constraints_among table.now chain.now) constraint.now }
-    requires new { set_on sets.old constraint.now.path ≡ None }
-    ensures { OnOk result (AreAdded table.now (constraints_among table.now chain.now) (constraint.now ∷ []) sets.old sets.new) }
-{
-    let set = solved_set(alloc, table, chain, constraint)?;
+    table.keeps_rules();
+    let set = first_set(alloc, table, constraint)?;
     let path = copied_path(alloc, constraint.path.as_slice())?;
     sets.push(PathSet { path, set })?;
     Ok(())
-}
-
-// The numbers of a constraint's path that all constraints of a chain admit.
-fn solved_set(
-    alloc: Global,
-    table: &TypeTable,
-    chain: &[TypeId],
-    constraint: &Constraint,
-) -> Result<Spans, Memory>
-    requires { Has (constraints_among table.now chain.now) constraint.now }
-    ensures solves { IfOk result (λ set. (n : ℤ) → IsWithin set n → IsSolution table.now (constraints_among table.now chain.now) constraint.now.path n) }
-    ensures all { IfOk result (λ set. (n : ℤ) → IsSolution table.now (constraints_among table.now chain.now) constraint.now.path n → IsWithin set n) }
-{
-    table.keeps_rules();
-    let mut set = first_set(alloc, table, constraint)?;
-    for id in chain {
-        let path = constraint.path.as_slice();
-        set = met_set(alloc, set, path, table.constraints_of(*id))?;
-    }
-    Ok(set)
 }
 
 // The numbers of a constraint's set; of those of a path to an integer the ones of its domain.
@@ -121,38 +173,6 @@ fn domain_on<'a>(table: &'a TypeTable, path: &[(TypeId, u16)]) -> Option<&'a Spa
     };
     let part = table.part_at(last.0, last.1)?;
     table.domain_of(part.type_id()?)
-}
-
-// The numbers of a set that the constraints on a path admit.
-fn met_set(
-    alloc: Global,
-    set: Spans,
-    path: &[(TypeId, u16)],
-    constraints: &[Constraint],
-) -> Result<Spans, Memory>
-    ensures { IfOk result (λ met. IsMet path.now constraints.now set met) }
-{
-    let mut met = set;
-    for constraint in constraints {
-        met = met_by(alloc, met, path, constraint)?;
-    }
-    Ok(met)
-}
-
-// The numbers of a set that a constraint admits, if it is on a path.
-fn met_by(
-    alloc: Global,
-    set: Spans,
-    path: &[(TypeId, u16)],
-    constraint: &Constraint,
-) -> Result<Spans, Memory>
-    ensures { IfOk result (λ met. IsMet path.now (constraint.now ∷ []) set met) }
-{
-    if is_same(constraint.path.as_slice(), path) {
-        Ok(set.meet(alloc, &constraint.set)?)
-    } else {
-        Ok(set)
-    }
 }
 
 /// A copy of a path.

@@ -1,4 +1,4 @@
-use Rattle.std.proofs.Common.{◌≡◌, length, sym, subst, ap, ◌∙◌, arith, Some, None}
+use Rattle.std.proofs.Common.{◌≡◌, length, refl, sym, subst, ap, ◌∙◌, arith, Some, None}
 use Rattle.std.specs.Prelude.{option_map}
 use Rattle.eds_types.specs.Overlap.{Overlapping}
 use Rattle.eds_overlap.specs.FirstOverlap.{overlap_of}
@@ -34,7 +34,7 @@ common_numbers-requires-clause-ours c =
     let first = at_some _ c.in_ok-found.found c.in-Some.pair c.in_ok-found.ensures.some is in
     let all = subst (AllSets c.args.table.now) (sym c.as_slice-sets.ensures) c.in_ok-sets.ensures in
     let there_is = there c.args.table.now (Named c.as_slice.result.now) c.in-Some.pair.first.0 (first.overlapping).first in
-    sets_at c.args.table.now c.as_slice-sets.result.now c.in-Some.pair.first.0 c.as_slice-ours.result.now c.index-sets-pair.result all c.index-sets-pair.is there_is c.as_slice-ours.ensures
+    sets_at c.args.table.now c.as_slice-sets.result.now c.in-Some.pair.first.0 c.index-sets-pair.result c.index-sets-pair.result all c.index-sets-pair.is there_is refl
 
 pub common_numbers-requires-clause-theirs : goal.common_numbers-requires-clause-theirs
 common_numbers-requires-clause-theirs c =
@@ -42,7 +42,7 @@ common_numbers-requires-clause-theirs c =
     let first = at_some _ c.in_ok-found.found c.in-Some.pair c.in_ok-found.ensures.some is in
     let all = subst (AllSets c.args.table.now) (sym c.as_slice-sets.ensures) c.in_ok-sets.ensures in
     let there_is = there c.args.table.now (Named c.as_slice.result.now) c.in-Some.pair.second.0 (first.overlapping).second in
-    sets_at c.args.table.now c.as_slice-sets.result.now c.in-Some.pair.second.0 c.as_slice-theirs.result.now c.index-sets-pair-in-Some.result all c.index-sets-pair-in-Some.is there_is c.as_slice-theirs.ensures
+    sets_at c.args.table.now c.as_slice-sets.result.now c.in-Some.pair.second.0 c.index-sets-pair-in-Some.result c.index-sets-pair-in-Some.result all c.index-sets-pair-in-Some.is there_is refl
 
 pub returns : goal.returns
 returns c =
