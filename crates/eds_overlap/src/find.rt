@@ -13,7 +13,7 @@ use crate::common::{Common, common_numbers};
 use crate::index::{
     Places, all_key, family_of, free_key, held_key, listed, mark_of, models_of, place_all,
 };
-use crate::sets::{SetsByPath, solution_sets};
+use crate::sets::{SetsByPath, sets_by_path};
 use eds_base::{Items, Memory, TypeId};
 use eds_types::{PathSet, TypeTable, Used, is_among};
 use std::alloc::Global;
@@ -355,7 +355,7 @@ fn all_sets(alloc: Global, table: &TypeTable) -> Result<Items<SetsByPath>, Memor
 {
     let mut all = Items::new(alloc);
     for id in 0..table.len() {
-        all.push(solution_sets(alloc, table, TypeId(id))?)?;
+        all.push(sets_by_path(alloc, table, TypeId(id))?)?;
     }
     Ok(all)
 }

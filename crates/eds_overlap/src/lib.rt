@@ -14,4 +14,4 @@ pub use common::Common;
 pub use find::{Overlap, find_overlap};
 pub use note::overlap_refusal;
 pub use paths::is_same;
-pub use sets::{SetsByPath, copied_path, solution_sets};
+pub use sets::{copied_path, solution_sets};

@@ -11,13 +11,13 @@ ghost use Rattle.eds_overlap.specs.Pairs.{AreByPath, AreSets, AreSetsInOrder, Is
 
 use crate::paths::{is_same, path_order};
 use eds_base::{Items, Memory, Spans, TypeId};
-use eds_types::{Constraint, EntryPath, PathSet, TypeTable};
+use eds_types::{Constraint, EntryPath, PathSet, Sets, TypeTable};
 use std::alloc::Global;
 use std::marker::Model;
 
 /// Sets of numbers for several paths, each path once, in the order of the paths.
 #[derive(Drop)]
-pub struct SetsByPath {
+pub(crate) struct SetsByPath {
     sets: Vec<PathSet>,
 }
 
@@ -35,14 +35,14 @@ impl Model for SetsByPath {
 
 impl SetsByPath {
     /// The sets.
-    pub fn as_slice(&self) -> &[PathSet]
+    pub(crate) fn as_slice(&self) -> &[PathSet]
         ensures { result.now ≡ self.now }
     {
         self.sets.as_slice()
     }
 
     /// The set on a path, found by halves.
-    pub fn find(&self, path: &[(TypeId, u16)]) -> Option<&Spans>
+    pub(crate) fn find(&self, path: &[(TypeId, u16)]) -> Option<&Spans>
         ensures { option_copied result ≡ set_on self.now path.now }
     {
         let found = self
@@ -57,7 +57,19 @@ impl SetsByPath {
 
 /// For each path that a container or one of its bases constrains the numbers that all these constraints and the path's
 /// domain have in common.
-pub fn solution_sets(alloc: Global, table: &TypeTable, id: TypeId) -> Result<SetsByPath, Memory>
+pub fn solution_sets(alloc: Global, table: &TypeTable, id: TypeId) -> Result<Sets, Memory>
+    ensures { IfOk result (λ sets. AreSets table.now (constraints_along table.now id.0) sets) }
+{
+    let SetsByPath { sets } = sets_by_path(alloc, table, id)?;
+    Ok(Sets::from_vec(sets))
+}
+
+/// The same, so that the set on a path is found by halves.
+pub(crate) fn sets_by_path(
+    alloc: Global,
+    table: &TypeTable,
+    id: TypeId,
+) -> Result<SetsByPath, Memory>
     ensures { IfOk result (λ sets. AreSets table.now (constraints_along table.now id.0) sets) }
 {
     table.keeps_rules();

@@ -3,7 +3,7 @@ use Rattle.std.specs.List.{AllByRecursion}
 use Rattle.eds_overlap.specs.Pairs.{AreSets, IsDeclared, constraints_among}
 use Rattle.eds_overlap.proofs.Solutions.{all_declared}
 use Rattle.eds_overlap.proofs.TakenIn.{all_permuted, sets_along}
-use Rattle.eds_overlap.proofs.sets.solution_sets.Goals as goal
+use Rattle.eds_overlap.proofs.sets.sets_by_path.Goals as goal
 
 pub gathered_sets-requires-clause-declared : goal.gathered_sets-requires-clause-declared
 gathered_sets-requires-clause-declared c =
