@@ -181,10 +181,3 @@ module _ (t : Table) where
       (distinct_between (take i old) (drop i old) c (subst (λ xs. AreDistinct (paths_of xs)) (split_list i old) d) (λ h. apart c.path (subst (λ xs. IsOn xs c.path) (sym (split_list i old)) h) (inl refl)))
       e.1
       (λ path h k. elim (put_to old c path h) [ inl m ↦ apart path m (inr k) | inr m ↦ e.0 (on_has cs c.path (subst (IsOn cs) (sym m) k)) ])
-
--- ---- texts
-
-pub texts_insert : (t : Table) (texts : List (List ℕ)) (common : List Common) (i : ℕ) (text : List ℕ) (c : Common) (new : List (List ℕ)) (more : List Common) → texts ≡ texts_of t common → text ≡ path_text t c.path
-    → new ≡ insert texts i text → more ≡ insert common i c → new ≡ texts_of t more
-texts_insert t texts common i text c new more are is e f =
-    e ∙ ap (λ xs. insert xs i text) are ∙ ap (insert (texts_of t common) i) is ∙ sym (map_insert (λ (y : Common). path_text t y.path) common i c) ∙ ap (texts_of t) (sym f)

@@ -27,6 +27,7 @@ pub mod Parting
 pub mod Meeting
 pub mod UsedTypes
 pub mod Gathering
+pub mod UnderTexts
 pub mod CommonNumbers
 pub mod CommonFound
 pub mod CommonLaws

@@ -1,6 +1,12 @@
 -- The least numbers that the entries of two containers that overlap can have in both.
-use Rattle.std.specs.Prelude.{◌≡◌, ℕ, ℤ, ◌≤ℤ◌, List, [], ◌∷◌, ◌++◌, map, filter, fold, insert, flat_map, Bool, false, not, if◌then◌else◌, true, Option, Some, None}
+use Rattle.std.specs.Prelude.{◌≡◌, ℕ, ℤ, ◌≤ℤ◌, List, [], ◌∷◌, ◌++◌, map, filter, fold, insert, flat_map, unwrap_or, String, string_bytes, Bool, false, not, if◌then◌else◌, true, Option, Some, None}
+use Rattle.std.specs.Cmp.Lexicographic.{slice_cmp}
+use Rattle.std.specs.declared.alloc.Global.{Global}
 use Rattle.std.specs.List.{AllByRecursion}
+use Rattle.std.specs.List.Sorted.{IsStrictlySortedBy}
+use Rattle.std.specs.Map.{lookup}
+use Rattle.std.specs.Ordering.{is_eq, nat_cmp}
+use Rattle.std.specs.String.{string_cmp}
 use Rattle.eds_base.specs.declared.spans.Span.{Span}
 use Rattle.eds_bits.specs.Lists.{HasOne}
 use Rattle.eds_types.specs.declared.row.Constraint.{Constraint}
@@ -115,3 +121,18 @@ with_path t x least common path = if starts_above t x path then (if is_on common
 -- the same with the paths of some constraints, one after another
 abbrev pub with_paths : Table → (x : ℕ) → (Steps → Option ℤ) → List Common → List Constraint → List Common
 with_paths t x least common some = fold (λ old (c : Constraint). with_path t x least old c.path) common some
+
+-- ---- under texts
+
+-- all numbers of a map by texts, in the order of the texts
+abbrev pub all_under : List (String Global × List Common) → List Common
+all_under entries = flat_map (λ (e : String Global × List Common). e.1) entries
+
+-- the numbers under a text
+abbrev pub numbers_under : List (String Global × List Common) → List ℕ → List Common
+numbers_under entries text = unwrap_or (lookup (λ (k : String Global). is_eq (slice_cmp nat_cmp text (string_bytes k))) entries) []
+
+-- the texts rise, and each number is under the text of its path
+pub record AreUnderTexts (t : Table) (entries : List (String Global × List Common)) : Type 0 where
+  pub rise : IsStrictlySortedBy string_cmp (map (λ (e : String Global × List Common). e.0) entries)
+  pub own : AllByRecursion (λ (e : String Global × List Common). AllByRecursion (λ (c : Common). path_text t c.path ≡ string_bytes e.0) e.1) entries
