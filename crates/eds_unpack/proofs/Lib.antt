@@ -31,5 +31,5 @@ pub mod Indexing
 pub mod NotedSlots
 pub mod WalkLists
 pub mod WalkEnds
-pub mod Wanting
+pub mod Hulls
 pub mod Selecting

@@ -15,7 +15,7 @@ ghost use Rattle.eds_unpack.specs.Selectors.{IsSelectorOf};
 use crate::fields::ReadField;
 use crate::known::{Known, holds_known, number_known};
 use crate::segments::Segments;
-use crate::selector::{Selector, group};
+use crate::selector::{Selector, stretch_at};
 use eds_base::TypeId;
 use eds_types::{Constraint, TypeTable, is_among};
 
@@ -135,9 +135,9 @@ fn first_candidate(
     None
 }
 
-/// The members of a family that want the number that is known on a selector's path, none where there is no number.
+/// The members of a family that may have the number that is known on a selector's path, and all of them where none is known.
 fn selected<'a>(
-    table: &TypeTable,
+    table: &'a TypeTable,
     selector: &'a Selector,
     id: TypeId,
     known: &Known<'_>,
@@ -145,10 +145,12 @@ fn selected<'a>(
     requires { IsSelectorOf table.now id.0 selector.now }
     ensures { (fs : List Field) → TellsChoice table.now id.0 fs known.now → first_of (fits_choice table.now id.0 fs) (numbers_of result.now) ≡ candidate_under table.now id.0 fs }
 {
-    match number_known(table, known, selector.path.as_slice()) {
-        Some(number) => group(&selector.groups, number),
-        None => &[],
+    if let Some(number) = number_known(table, known, selector.path.as_slice()) {
+        if let Some(stretch) = stretch_at(selector.stretches.as_slice(), number) {
+            return stretch.members.as_slice();
+        }
     }
+    table.family_of(id)
 }
 
 /// The members of a container's family among which a candidate is the first: those that its selector leaves, and all of them
