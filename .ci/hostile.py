@@ -275,6 +275,16 @@ def inputs():
     yield "32,767 constraints on one entry, of which the last leaves nothing", "check s", {
         "s": sheet(*path[:2], derived("D", "K", *([asks("k", 7)] * 32766), asks("k", 8)))
     }, (1, "refused 25 ConstraintEmpty at 0:%d\n" % (10 + 32766))  # fmt: skip
+    wide = container("K", *(entry(f"e{i}", "U4") for i in range(30000)))
+    wide[1]["abstract"] = "true"
+    yield "30,000 constraints on an entry each", "check s", {"s": sheet(U4, wide, derived("D", "K", *(asks(f"e{29999 - i}", 1) for i in range(30000))))}, (
+        0, "accepted types 3 containers 2 interfaces 0 components 0\n")  # fmt: skip
+    halves = [derived("D", "K", *(asks(f"e{29999 - i}", 1) for i in range(15000))), derived("E", "K", *(asks(f"e{i}", 1) for i in range(15000)))]
+    yield "two containers of 15,000 constraints each, which overlap", "check s", {"s": sheet(U4, wide, *halves, container("X", entry("x", "K")))}, (
+        1, "refused 26 Overlap at 0:%d P/D P/E %s\n" % (7 + 30000 + 15002, " ".join(f"{it}=1" for it in sorted(f"e{i}" for i in range(30000)))))  # fmt: skip
+    halves[1][2][1] = asks("e29999", 2)
+    yield "two containers of 15,000 constraints each, which one tells apart", "check s", {"s": sheet(U4, wide, *halves, container("X", entry("x", "K")))}, (
+        0, "accepted types 5 containers 4 interfaces 0 components 0\n")  # fmt: skip
     yield "4,096 types", "check s", {"s": sheet(*([U4[0], {"name": f"T{i}"}] for i in range(4096)))}, (
         0, "accepted types 4096 containers 0 interfaces 0 components 0\n")  # fmt: skip
     yield "4,097 types", "check s", {"s": sheet(*([U4[0], {"name": f"T{i}"}] for i in range(4097)))}, (1, "refused 8 Limit at 0:4099 types\n")

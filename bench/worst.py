@@ -319,8 +319,7 @@ def sheets():
     yield "30,000 type constraints on one entry of a family of 512", "check s", {
         "s": sheet(U16, *family, abstract(container("K", entry("k", "F"))), derived("D", "K", [of_type("k", "F")] * 30000), container("X", entry("x", "K")))}
     paths = abstract(container("K", *(entry(f"e{i}", "U4") for i in range(30000))))
-    yield "30,000 constraints on an entry each", "check s", {"s": sheet(U4, paths, derived("D", "K", [value_is(f"e{29999 - i}", 1) for i in range(30000)]))}
-    yield "the same, with 60 containers below that one", "check s", {
+    yield "30,000 constraints on an entry each, with 60 containers below that one", "check s", {
         "s": sheet(U4, paths, derived("D", "K", [value_is(f"e{29999 - i}", 1) for i in range(30000)]), *(derived(f"D{i}", "D") for i in range(60)))}
     for count in (300, 1000):
         shared = [value_is(f"e{j}", 1) for j in range(count)]
