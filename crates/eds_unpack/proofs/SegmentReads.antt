@@ -2,12 +2,13 @@
 use Rattle.std.proofs.Common.{◌≡◌, ℕ, zero, suc, ◌+◌, ◌-◌, ◌^◌, ◌<◌, ◌≤◌, true, List, [], ◌∷◌, ◌++◌, length, map, get_or, take, drop, Option, Some, None, Result, Ok, refl, sym, ap, ap₂, subst, ◌∙◌, arith, ◌⊎◌, inl, inr, append_assoc, length-drop}
 use Rattle.std.specs.Prelude.{slice_get}
 use Rattle.std.specs.List.{All, AllByRecursion, AllZip, list_all}
-use Rattle.std.proofs.Math.Seq.{take-length}
-use Rattle.std.proofs.lemmas.List.{append-nil, drop-drop, length-map, length-take, length-take-le, map-append, take_more}
+use Rattle.std.proofs.Math.Seq.{take-append_seam, take-length}
+use Rattle.std.proofs.lemmas.List.{append-nil, drop-drop, length-append, length-map, length-take, length-take-le, take-map, take_more}
 use Rattle.std.proofs.lemmas.Bool.{and_parts}
 use Rattle.std.proofs.lemmas.List.Elements.{All-from_recursion, All-get_or}
 use Rattle.std.proofs.lemmas.Option.{slice_get_within}
 use Rattle.eds_base.specs.declared.fault.Fault.{Fault}
+use Rattle.eds_base.specs.declared.ids.TypeId.{TypeId}
 use Rattle.eds_base.specs.declared.fault.Step.TheVariants as step
 use Rattle.eds_bits.specs.Bits.{Bits, low_bits, unsigned_of}
 use Rattle.eds_bits.specs.IntForms.{number_of}
@@ -17,7 +18,7 @@ use Rattle.eds_types.specs.declared.row.Kind.{Kind}
 use Rattle.eds_types.specs.declared.row.Kind.TheVariants as kind
 use Rattle.eds_types.specs.declared.row.Part.{Part}
 use Rattle.eds_types.specs.declared.row.TypeRow.{TypeRow}
-use Rattle.eds_types.specs.Fields.{Field, field_at, values_of}
+use Rattle.eds_types.specs.Fields.{field_at, values_of}
 use Rattle.eds_types.specs.declared.value.Value.{Value}
 use Rattle.eds_types.specs.Plain.{Plain, plain, truth, fields, plains_of}
 use Rattle.eds_types.specs.Reading.{Read, ◌>>=◌, inside, advance, front, judged, judge, read_bits, ranged, named, truth_of, read_kind, read_row, read_within, read_entry, read_parts}
@@ -26,13 +27,13 @@ use Rattle.eds_types.specs.Spelling.{Progress, started, with_value}
 use Rattle.eds_unpack.specs.declared.progress.Reached.{Reached}
 use Rattle.eds_unpack.specs.declared.segment.Operation.{Operation}
 use Rattle.eds_unpack.specs.declared.segment.Segment.{Segment}
-use Rattle.eds_unpack.specs.Courses.{MovesOn, fields_of, progress_of}
+use Rattle.eds_unpack.specs.Courses.{AreHeld, MovesOn, fields_at, fields_of, parts_from, progress_of}
 use Rattle.eds_unpack.specs.Entries.{IsInner, IsLow, PartIsRead, placed}
-use Rattle.eds_unpack.specs.Segments.{scalar_bits, scalar_of, bits_in, value_in, IsOperation, IsOperationOf, AreOperationsOf, IsHeadOf, IsSegmentOf, AreSegments, Says, HasValue, IsPut, BeginsWith, ReadsAs, ReadsFirst, fields_from, with_fields}
+use Rattle.eds_unpack.specs.Segments.{scalar_bits, scalar_of, bits_in, value_in, IsOperation, IsOperationOf, AreOperationsOf, ArePut, HeadIsPut, IsHeadOf, IsSegmentOf, AreSegments, Says, HasValue, IsPut, ReadsAs, ReadsFirst, fields_from, with_fields}
 use Rattle.eds_unpack.specs.Straight.{is_straight, is_straight_entry}
 use Rattle.eds_unpack.proofs.Numbers.{bits_enough, pattern}
 use Rattle.eds_unpack.proofs.OnReads.{drops}
-use Rattle.eds_unpack.proofs.Reaches.{front_more, parts_append}
+use Rattle.eds_unpack.proofs.Reaches.{fields_append, front_more, parts_append}
 use Rattle.eds_unpack.proofs.Steps.{entries_low}
 use Rattle.eds_unpack.proofs.StraightReads.{IsStraightSoFar, entry_is, parts_step, straight_ends}
 
@@ -88,13 +89,26 @@ zip_more R [] (z ∷ ys) x y h r = absurd h
 zip_more R (w ∷ xs) [] x y h r = absurd h
 zip_more R (w ∷ xs) (z ∷ ys) x y h r = (h.0, zip_more R xs ys x y h.1 r)
 
+-- no value yet
+pub none_put : (t : Table) (b : Bits) (old new : List Value) → new ≡ old → ArePut t b [] old new
+none_put t b old new e = record { values = []; said = tt; last = ap (map plain) e ∙ sym (append-nil (map plain old)) }
+
 -- one value more
-pub values_more : (t : Table) (b : Bits) (ops : List Operation) (i : ℕ) (o : Operation) (x : ℕ) (old new : List Value) → i < length ops → o ≡ get_or ops i o → All (λ (o : Operation). o.at + o.bits ≤ length b) ops → x ≡ unsigned_of (take o.bits (drop o.at b))
-    → IsPut (value_in (slice_get t o.id.0) (low_bits o.bits x)) old new → AllZip (Says t b) (take i ops) (map plain old) → AllZip (Says t b) (take (i + 1) ops) (map plain new)
-values_more t b ops i o x old new lt is within e put so =
+pub values_more : (t : Table) (b : Bits) (ops : List Operation) (i : ℕ) (o : Operation) (x : ℕ) (start old new : List Value) → i < length ops → o ≡ get_or ops i o → All (λ (o : Operation). o.at + o.bits ≤ length b) ops → x ≡ unsigned_of (take o.bits (drop o.at b))
+    → IsPut (value_in (slice_get t o.id.0) (low_bits o.bits x)) old new → ArePut t b (take i ops) start old → ArePut t b (take (i + 1) ops) start new
+values_more t b ops i o x start old new lt is within e put so =
     let here : o.at + o.bits ≤ length b = subst (λ (o : Operation). o.at + o.bits ≤ length b) (sym is) (All-get_or (λ (o : Operation). o.at + o.bits ≤ length b) ops i o lt within) in
     let grown : take (i + 1) ops ≡ take i ops ++ o ∷ [] = take_more ops i o lt ∙ ap (λ p. take i ops ++ p ∷ []) (sym is) in
-    subst (λ os. AllZip (Says t b) os (map plain new)) (sym grown) (subst (AllZip (Says t b) (take i ops ++ o ∷ [])) (sym put.last) (zip_more (Says t b) (take i ops) (map plain old) o put.value so (said t b o x put.value here e put.is)))
+    record {
+      values = so.values ++ put.value ∷ [];
+      said = subst (λ os. AllZip (Says t b) os (so.values ++ put.value ∷ [])) (sym grown) (zip_more (Says t b) (take i ops) so.values o put.value so.said (said t b o x put.value here e put.is));
+      last = put.last ∙ ap (λ vs. vs ++ put.value ∷ []) so.last ∙ append_assoc (map plain start) so.values (put.value ∷ []);
+    }
+
+-- the list is cut back to what it was
+pub cut_back : (n : ℕ) (old xs ys : List Value) (vs : List Plain) → n ≡ length old → ys ≡ take n xs → map plain xs ≡ map plain old ++ vs → map plain ys ≡ map plain old
+cut_back n old xs ys vs l e f =
+    ap (map plain) e ∙ sym (take-map plain n xs) ∙ ap₂ take (l ∙ sym (length-map old plain)) f ∙ take-append_seam (map plain old) vs
 
 -- ---- operations
 
@@ -238,17 +252,6 @@ module _ (t : Table) (n y : ℕ) (b : Bits) (last : ℕ) (enough : last ≤ leng
       (append_assoc s.fields (field_at y place v ∷ []) (fields_from y (place + 1) vs))
       (append_assoc s.before (front (drop at b) (drop (at + o.bits) b)) (front (drop (at + o.bits) b) (drop last b)) ∙ ap (λ c. s.before ++ c) (front_more (drop at b) (drop (at + o.bits) b) (drop last b) next (to_last (at + o.bits) more)))
 
--- one field more
-pub fields_more : (y i : ℕ) (vs : List Plain) (v : Plain) → fields_from y i (vs ++ v ∷ []) ≡ fields_from y i vs ++ field_at y (i + length vs) v ∷ []
-fields_more y i [] v = ap (λ k. field_at y k v ∷ []) (omega arith)
-fields_more y i (u ∷ vs) v = ap (λ fs. field_at y i u ∷ fs) (fields_more y (i + 1) vs v ∙ ap (λ k. fields_from y (i + 1) vs ++ field_at y k v ∷ []) (omega arith))
-
-pub fields_kept : (y i : ℕ) (new old all : List Field) (xs : List Value) (x : Value) → new ≡ old ++ field_at y i (plain x) ∷ [] → old ≡ all ++ fields_from y 0 (map plain xs) → i ≡ length xs → new ≡ all ++ fields_from y 0 (map plain (xs ++ x ∷ []))
-fields_kept y i new old all xs x e f l =
-    let place : i ≡ 0 + length (map plain xs) = omega (arith, l, length-map xs plain) in
-    e ∙ ap (λ gs. gs ++ field_at y i (plain x) ∷ []) f ∙ append_assoc all (fields_from y 0 (map plain xs)) (field_at y i (plain x) ∷ [])
-    ∙ ap (λ gs. all ++ gs) (ap (λ k. fields_from y 0 (map plain xs) ++ field_at y k (plain x) ∷ []) place ∙ sym (fields_more y 0 (map plain xs) (plain x)) ∙ ap (fields_from y 0) (sym (map-append plain xs (x ∷ []))))
-
 values_from : (y i : ℕ) (vs : List Plain) → values_of (fields_from y i vs) ≡ vs
 values_from y i [] = refl
 values_from y i (v ∷ vs) = ap (λ us. v ∷ us) (values_from y (i + 1) vs)
@@ -262,25 +265,65 @@ as_many_values R (x ∷ xs) [] h = absurd h
 as_many_values R (x ∷ xs) (y ∷ ys) h = ap suc (as_many_values R xs ys h.1)
 
 -- the segment of a container's first entries tells their values
-pub head_begins : (t : Table) (id : ℕ) (s : Segment) (b d : Bits) (vs : List Plain) → IsHeadOf t id s → s.bits ≤ length b → AllZip (Says t b) s.operations.items vs → d ≡ drop s.bits b → BeginsWith t id b vs d
-head_begins t id s b d vs is enough says e = λ n u low.
-    let are = subst (λ k. AreOperationsOf t 0 s.bits (take k (entries_of t id)) s.operations.items) (sym (as_many_values (Says t b) s.operations.items vs says)) is.operations in
-    entries_read t n id b s.bits enough (take (length vs) (entries_of t id)) s.operations.items vs u 0 0 (parts_first (PartIsRead t n) (length vs) (entries_of t id) (entries_low t n id low)) are says
-    ∙ ap (λ c. Ok (with_fields u (fields_from id 0 vs) (front b c), c)) (sym e)
+pub head_put : (t : Table) (id k : ℕ) (s : Segment) (b d : Bits) (old new : List Value) → IsHeadOf t id s → s.bits ≤ length b → ArePut t b s.operations.items old new → k ≡ length s.operations.items → d ≡ drop s.bits b → HeadIsPut t id k b old new d
+head_put t id k s b d old new is enough put l e = record {
+  values = put.values;
+  many = as_many_values (Says t b) s.operations.items put.values put.said ∙ sym l;
+  last = put.last;
+  begins = λ n u low.
+      let are = subst (λ k. AreOperationsOf t 0 s.bits (take k (entries_of t id)) s.operations.items) (sym (as_many_values (Says t b) s.operations.items put.values put.said)) is.operations in
+      entries_read t n id b s.bits enough (take (length put.values) (entries_of t id)) s.operations.items put.values u 0 0 (parts_first (PartIsRead t n) (length put.values) (entries_of t id) (entries_low t n id low)) are put.said
+      ∙ ap (λ c. Ok (with_fields u (fields_from id 0 put.values) (front b c), c)) (sym e);
+}
 
-pub none_begins : (t : Table) (id : ℕ) (b : Bits) → BeginsWith t id b [] b
-none_begins t id b = λ n s low.
-    no_parts t n id b 0 (omega arith) s b
-    ∙ ap₂ (λ fs c. Ok (record { fields = fs; before = c; octets = s.octets }, b)) (sym (append-nil s.fields)) (sym (ap (λ c. s.before ++ c) (no_front b) ∙ append-nil s.before))
+pub no_head : (t : Table) (id : ℕ) (b : Bits) (old new : List Value) → map plain new ≡ map plain old → HeadIsPut t id 0 b old new b
+no_head t id b old new e = record {
+  values = [];
+  many = refl;
+  last = e ∙ sym (append-nil (map plain old));
+  begins = λ n s low.
+      no_parts t n id b 0 (omega arith) s b
+      ∙ ap₂ (λ fs c. Ok (record { fields = fs; before = c; octets = s.octets }, b)) (sym (append-nil s.fields)) (sym (ap (λ c. s.before ++ c) (no_front b) ∙ append-nil s.before));
+}
 
--- the values are kept with their places
-pub head_reads : (t : Table) (id k : ℕ) (r u : Reached) (b d : Bits) (vs : List Plain) → BeginsWith t id b vs d → MovesOn (bits_left r.start) b → MovesOn b d → length vs ≡ k
-    → fields_of u.fields.items ≡ fields_of r.fields.items ++ fields_from id 0 vs → u.octets ≡ r.octets → u.start ≡ r.start → ReadsFirst t id k (progress_of r b) b (progress_of u d) d
-head_reads t id k r u b d vs begins on next l f o g = λ n low.
-    ap (λ j. read_parts t (read_within n t) (placed_from id 0 (take j (entries_of t id))) (progress_of r b) b) (sym l)
-    ∙ begins n (progress_of r b) low
-    ∙ ap₂ (λ fs c. Ok (record { fields = fs; before = c; octets = r.octets }, d)) (sym f) (front_more (bits_left r.start) b d on next)
-    ∙ ap₂ (λ x y. Ok (record { fields = fields_of u.fields.items; before = front (bits_left x) d; octets = y }, d)) (sym g) (sym o)
+parts_more : (y : TypeId) (i k : ℕ) → parts_from y i (suc k) ≡ parts_from y i k ++ (y, i + k) ∷ []
+parts_more y i zero = let e : i ≡ i + 0 = omega arith in ap (λ j. (y, j) ∷ []) e
+parts_more y i (suc k) = let e : i + 1 + k ≡ i + suc k = omega arith in ap (λ ps. (y, i) ∷ ps) (parts_more y (i + 1) k ∙ ap (λ j. parts_from y (i + 1) k ++ (y, j) ∷ []) e)
+
+-- one part more of those from the first on
+pub first_parts_more : (y : TypeId) (k : ℕ) → parts_from y 0 (k + 1) ≡ parts_from y 0 k ++ (y, k) ∷ []
+first_parts_more y k =
+    let next : k + 1 ≡ suc k = omega arith in
+    let last : 0 + k ≡ k = omega arith in
+    ap (parts_from y 0) next ∙ parts_more y 0 k ∙ ap (λ j. parts_from y 0 k ++ (y, j) ∷ []) last
+
+parts_many : (y : TypeId) (i k : ℕ) → length (parts_from y i k) ≡ k
+parts_many y i zero = refl
+parts_many y i (suc k) = ap suc (parts_many y (i + 1) k)
+
+fields_first : (y : TypeId) (i k : ℕ) (vs : List Plain) → length vs ≡ k → fields_at (parts_from y i k) vs ≡ fields_from y.0 i vs
+fields_first y i zero [] l = refl
+fields_first y i zero (v ∷ vs) l = absurd cc
+fields_first y i (suc k) [] l = absurd cc
+fields_first y i (suc k) (v ∷ vs) l = ap (λ fs. field_at y.0 i v ∷ fs) (fields_first y (i + 1) k vs (omega arith))
+
+-- the values of the first entries are kept with their parts
+module _ (t : Table) (y : TypeId) (k : ℕ) (r u : Reached) (b d : Bits) (put : HeadIsPut t y.0 k b r.fields.values.items u.fields.values.items d) (parts : u.fields.parts.items ≡ r.fields.parts.items ++ parts_from y 0 k) (held : AreHeld r.fields) where
+  pub head_held : AreHeld u.fields
+  head_held = omega (arith, held, put.many, parts_many y 0 k, ap length parts, length-append r.fields.parts.items (parts_from y 0 k), ap length put.last, length-append (map plain r.fields.values.items) put.values, length-map r.fields.values.items plain, length-map u.fields.values.items plain)
+
+  head_fields : fields_of u.fields ≡ fields_of r.fields ++ fields_from y.0 0 put.values
+  head_fields =
+      let long : length r.fields.parts.items ≡ length (map plain r.fields.values.items) = omega (arith, held, length-map r.fields.values.items plain) in
+      ap₂ fields_at parts put.last ∙ fields_append r.fields.parts.items (parts_from y 0 k) (map plain r.fields.values.items) put.values long
+      ∙ ap (λ fs. fields_of r.fields ++ fs) (fields_first y 0 k put.values put.many)
+
+  pub head_reads : MovesOn (bits_left r.start) b → MovesOn b d → u.octets ≡ r.octets → u.start ≡ r.start → ReadsFirst t y.0 k (progress_of r b) b (progress_of u d) d
+  head_reads on next o g = λ n low.
+      ap (λ j. read_parts t (read_within n t) (placed_from y.0 0 (take j (entries_of t y.0))) (progress_of r b) b) (sym put.many)
+      ∙ put.begins n (progress_of r b) low
+      ∙ ap₂ (λ fs c. Ok (record { fields = fs; before = c; octets = r.octets }, d)) (sym head_fields) (front_more (bits_left r.start) b d on next)
+      ∙ ap₂ (λ x y. Ok (record { fields = fields_of u.fields; before = front (bits_left x) d; octets = y }, d)) (sym g) (sym o)
 
 placed_split : (y i k : ℕ) (ps : List Part) → placed_from y i ps ≡ placed_from y i (take k ps) ++ placed_from y (i + k) (drop k ps)
 placed_split y i zero ps = ap (λ m. placed_from y m ps) (omega arith)
@@ -302,13 +345,15 @@ head_goes t n id k s u b d rest low e reads =
     ∙ ap (λ ps. read_parts t (read_within n t) (placed_from id k ps) u d) (sym e)
 
 -- a container that is read straight begins so
-pub head_straight : (t : Table) (n id k : ℕ) (b d : Bits) (rest : List Part) (vs : List Plain) → IsLow t (n + 1) id → BeginsWith t id b vs d → length vs ≡ k → rest ≡ drop k (entries_of t id) → IsStraightSoFar t (read_within n t) id b k rest vs d
-head_straight t n id k b d rest vs low begins l e = record {
-  s = record { fields = fields_from id 0 vs; before = front b d; octets = None };
-  values = values_from id 0 vs;
-  octets = refl;
-  reads = sym (head_goes t n id k started (record { fields = fields_from id 0 vs; before = front b d; octets = None }) b d rest low e (λ m h. ap (λ j. read_parts t (read_within m t) (placed_from id 0 (take j (entries_of t id))) started b) (sym l) ∙ begins m started h));
-}
+pub head_straight : (t : Table) (n id k : ℕ) (b d : Bits) (rest : List Part) (old new : List Value) → old ≡ [] → IsLow t (n + 1) id → HeadIsPut t id k b old new d → rest ≡ drop k (entries_of t id) → IsStraightSoFar t (read_within n t) id b k rest (map plain new) d
+head_straight t n id k b d rest old new none low put e =
+    let all : map plain new ≡ put.values = put.last ∙ ap (λ xs. map plain xs ++ put.values) none in
+    record {
+      s = record { fields = fields_from id 0 put.values; before = front b d; octets = None };
+      values = values_from id 0 put.values ∙ sym all;
+      octets = refl;
+      reads = sym (head_goes t n id k started (record { fields = fields_from id 0 put.values; before = front b d; octets = None }) b d rest low e (λ m h. ap (λ j. read_parts t (read_within m t) (placed_from id 0 (take j (entries_of t id))) started b) (sym put.many) ∙ put.begins m started h));
+    }
 
 -- ---- the container
 
@@ -317,3 +362,9 @@ segment_reads t id s b vs is enough says = λ n low.
     let done = entries_read t n id b s.bits enough (entries_of t id) s.operations.items vs started 0 0 (entries_low t n id low) is.operations says in
     straight_ends t id is.straight (read_within n t) b (record { fields = fields_from id 0 vs; before = front b (drop s.bits b); octets = None }) (drop s.bits b) refl done
     ∙ ap (λ us. Ok (fields id (plains_of us), drop s.bits b)) (values_from id 0 vs)
+
+-- the values that were put into an empty list are the container's
+pub segment_put : (t : Table) (id : ℕ) (s : Segment) (b d : Bits) (old new : List Value) → IsSegmentOf t id s → s.bits ≤ length b → old ≡ [] → ArePut t b s.operations.items old new → d ≡ drop s.bits b → ReadsAs t id b (fields id (plains_of (map plain new))) d
+segment_put t id s b d old new is enough none put e = λ n low.
+    let all : map plain new ≡ put.values = put.last ∙ ap (λ xs. map plain xs ++ put.values) none in
+    segment_reads t id s b put.values is enough put.said n low ∙ ap₂ (λ us c. Ok (fields id (plains_of us), c)) (sym all) (sym e)

@@ -39,7 +39,7 @@ use Rattle.eds_types.specs.Choices.{IsNear}
 use Rattle.eds_types.specs.Seeking.{trailers_in_turn}
 use Rattle.eds_types.proofs.Paths.{rest_is}
 use Rattle.eds_types.proofs.Seeking.{last_of, trailers_are}
-use Rattle.eds_unpack.specs.Courses.{MovesOn, IsUnderWay, fields_of, progress_of, told_by}
+use Rattle.eds_unpack.specs.Courses.{AreHeld, MovesOn, IsUnderWay, fields_of, progress_of, told_by}
 use Rattle.eds_unpack.specs.Entries.{IsLow, PartIsRead, placed}
 use Rattle.eds_unpack.specs.Readers.{Stops, passed, stop_at}
 use Rattle.eds_unpack.proofs.OnReads.{moves, stays}
@@ -92,22 +92,27 @@ trailers_low t n y h = trailers_are_read t h.rules n y h.low
 
 -- ---- how far the reader has come
 
-pub under_way : (r u : Reached) (b d : Bits) → IsUnderWay r b → MovesOn b d → u.octets ≡ r.octets → u.start ≡ r.start → IsUnderWay u d
-under_way r u b d h on o s = record {
+pub under_way : (r u : Reached) (b d : Bits) → IsUnderWay r b → AreHeld u.fields → MovesOn b d → u.octets ≡ r.octets → u.start ≡ r.start → IsUnderWay u d
+under_way r u b d h held on o s = record {
+  held = held;
   begun = subst (λ x. MovesOn (bits_left x) d) (sym s) (moves (bits_left r.start) b d h.begun on);
   told = subst (λ x. IfSome x (λ n. nat_abs n ≤ 2 ^ 97)) (sym o) h.told;
 }
 
-pub told_way : (r u : Reached) (b d : Bits) → IsUnderWay r b → MovesOn b d → u.start ≡ r.start → IfSome u.octets (λ n. nat_abs n ≤ 2 ^ 97) → IsUnderWay u d
-told_way r u b d h on s most = record { begun = subst (λ x. MovesOn (bits_left x) d) (sym s) (moves (bits_left r.start) b d h.begun on); told = most }
+pub told_way : (r u : Reached) (b d : Bits) → IsUnderWay r b → u.fields ≡ r.fields → MovesOn b d → u.start ≡ r.start → IfSome u.octets (λ n. nat_abs n ≤ 2 ^ 97) → IsUnderWay u d
+told_way r u b d h e on s most = record {
+  begun = subst (λ x. MovesOn (bits_left x) d) (sym s) (moves (bits_left r.start) b d h.begun on);
+  held = subst AreHeld (sym e) h.held;
+  told = most;
+}
 
-pub begins : (r : Reached) (b : Bits) → bits_left r.start ≡ b → r.octets ≡ None → IsUnderWay r b
-begins r b e o = record { begun = subst (λ x. MovesOn x b) (sym e) (stays b); told = subst (λ x. IfSome x (λ n. nat_abs n ≤ 2 ^ 97)) (sym o) tt }
+pub begins : (r : Reached) (b : Bits) → AreHeld r.fields → bits_left r.start ≡ b → r.octets ≡ None → IsUnderWay r b
+begins r b held e o = record { begun = subst (λ x. MovesOn x b) (sym e) (stays b); held = held; told = subst (λ x. IfSome x (λ n. nat_abs n ≤ 2 ^ 97)) (sym o) tt }
 
 progress : List Field → Bits → Option ℤ → Progress
 progress fs b o = record { fields = fs; before = b; octets = o }
 
-pub is_started : (r : Reached) (b : Bits) → fields_of r.fields.items ≡ [] → r.octets ≡ None → bits_left r.start ≡ b → progress_of r b ≡ started
+pub is_started : (r : Reached) (b : Bits) → fields_of r.fields ≡ [] → r.octets ≡ None → bits_left r.start ≡ b → progress_of r b ≡ started
 unfolding progress
 is_started r b f o e =
     let k : length b - length b ≡ 0 = omega arith in
@@ -119,7 +124,7 @@ is_started r b f o e =
 -- ---- parts
 
 module _ (t : Table) (read : ℕ → Bits → Read Plain) (r : Reached) (y i : ℕ) (p : Part) (b d : Bits) (begun : MovesOn (bits_left r.start) b) (on : MovesOn b d) where
-  pub plain_part : (u : Reached) (name : List ℕ) (id : TypeId) (v : Plain) → p ≡ part.Plain name id → read id.0 b ≡ Ok (v, d) → fields_of u.fields.items ≡ fields_of r.fields.items ++ field_at y i v ∷ [] → u.octets ≡ r.octets → u.start ≡ r.start
+  pub plain_part : (u : Reached) (name : List ℕ) (id : TypeId) (v : Plain) → p ≡ part.Plain name id → read id.0 b ≡ Ok (v, d) → fields_of u.fields ≡ fields_of r.fields ++ field_at y i v ∷ [] → u.octets ≡ r.octets → u.start ≡ r.start
       → read_part t read (progress_of r b) (placed y i p) p b ≡ Ok (progress_of u d, d)
   plain_part u name id v is e f o s =
       ap (λ q. read_part t read (progress_of r b) (placed y i p) q b) is
@@ -127,7 +132,7 @@ module _ (t : Table) (read : ℕ → Bits → Read Plain) (r : Reached) (y i : �
       ∙ ap (λ x. Ok (x, d)) (value_kept r b d begun on u (placed y i p) v f o s)
 
   pub list_part : (u : Reached) (name : List ℕ) (id z : TypeId) (j n : ℕ) (vs : List Plain) → p ≡ part.List name id z j → n ≡ count_at (progress_of r b) z.0 j → read_items (read id.0) n 0 b ≡ Ok (vs, d)
-      → fields_of u.fields.items ≡ fields_of r.fields.items ++ field_at y i (items (plains_of vs)) ∷ [] → u.octets ≡ r.octets → u.start ≡ r.start → read_part t read (progress_of r b) (placed y i p) p b ≡ Ok (progress_of u d, d)
+      → fields_of u.fields ≡ fields_of r.fields ++ field_at y i (items (plains_of vs)) ∷ [] → u.octets ≡ r.octets → u.start ≡ r.start → read_part t read (progress_of r b) (placed y i p) p b ≡ Ok (progress_of u d, d)
   list_part u name id z j n vs is k e f o s =
       ap (λ q. read_part t read (progress_of r b) (placed y i p) q b) is
       ∙ ap (λ m. advance (λ vs c. with_value (progress_of r b) (placed y i p) (items (plains_of vs)) c) b (read_items (read id.0) m 0 b)) (sym k)

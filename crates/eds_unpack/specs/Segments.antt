@@ -1,5 +1,6 @@
 -- Containers as operations: entries at fixed places, which are read one after another.
 use Rattle.std.specs.Prelude.{◌≡◌, ℕ, ◌+◌, ◌%◌, ◌^◌, ◌<◌, ◌≤◌, ℤ, pos, ◌-ℤ◌, ◌≤ℤ◌, List, [], ◌∷◌, ◌++◌, length, map, Bool, true, not, ◌==◌, Option, Some, None, Result, Ok, Err, slice_get, nat_lt, take, drop, if◌then◌else◌}
+use Rattle.std.specs.List.{AllZip}
 use Rattle.eds_base.specs.declared.fault.Fault.{Fault}
 use Rattle.eds_base.specs.declared.fault.Reason.TheVariants.{Short}
 use Rattle.eds_bits.specs.declared.forms.ByteOrder.TheVariants.{Little}
@@ -146,6 +147,12 @@ pub record IsPut (found : Result Plain Fault) (old new : List Value) : Type 0 wh
   pub is : found ≡ Ok value
   pub last : map plain new ≡ map plain old ++ value ∷ []
 
+-- the values of operations were put last
+pub record ArePut (t : Table) (b : Bits) (os : List Operation) (old new : List Value) : Type 0 where
+  pub values : List Plain
+  pub said : AllZip (Says t b) os values
+  pub last : map plain new ≡ map plain old ++ values
+
 -- the container is read as this value, before the rest, wherever it is nested
 abbrev pub ReadsAs : Table → ℕ → Bits → Plain → Bits → Type 0
 ReadsAs t id b v rest = (n : ℕ) → IsLow t (n + 1) id → ended t (read_within n t) (read_to_end t (read_within n t) id b) ≡ Ok (v, rest)
@@ -154,6 +161,13 @@ ReadsAs t id b v rest = (n : ℕ) → IsLow t (n + 1) id → ended t (read_withi
 -- was read before it
 abbrev pub BeginsWith : Table → ℕ → Bits → List Plain → Bits → Type 0
 BeginsWith t id b vs rest = (n : ℕ) (s : Progress) → IsLow t (n + 1) id → read_parts t (read_within n t) (placed_from id 0 (take (length vs) (entries_of t id))) s b ≡ Ok (with_fields s (fields_from id 0 vs) (front b rest), rest)
+
+-- so many values were put last, those of the entries that the container begins with, which are read before the rest
+pub record HeadIsPut (t : Table) (id k : ℕ) (b : Bits) (old new : List Value) (rest : Bits) : Type 0 where
+  pub values : List Plain
+  pub many : length values ≡ k
+  pub last : map plain new ≡ map plain old ++ values
+  pub begins : BeginsWith t id b values rest
 
 -- the first k entries of the container are read from one state to another, wherever it is nested
 abbrev pub ReadsFirst : Table → ℕ → ℕ → Progress → Bits → Progress → Bits → Type 0

@@ -12,7 +12,7 @@ ghost use Rattle.eds_unpack.specs.Courses.{fields_of};
 ghost use Rattle.eds_unpack.specs.Choices.{TellsAbove, TellsChoice, next_in};
 ghost use Rattle.eds_unpack.specs.Selectors.{IsSelectorOf};
 
-use crate::fields::ReadField;
+use crate::fields::ReadFields;
 use crate::known::{Known, holds_known, number_known};
 use crate::segments::Segments;
 use crate::selector::{Selector, stretch_at};
@@ -193,7 +193,7 @@ pub(crate) fn next_container(
     table: &TypeTable,
     segments: &Segments<'_>,
     id: TypeId,
-    fields: &[ReadField],
+    fields: &ReadFields,
 ) -> Next
     requires { segments.now ≡ table.now }
     ensures { next_in result ≡ next table.now id.0 (fields_of fields.now) }

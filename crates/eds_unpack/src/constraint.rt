@@ -11,12 +11,12 @@ ghost use Rattle.eds_types.specs.Choices.{IsNear};
 ghost use Rattle.eds_unpack.specs.Courses.{fields_of};
 ghost use Rattle.eds_unpack.specs.Readers.{Gives, with_path, StopsReading};
 
-use crate::fields::{ReadField, field_at};
+use crate::fields::{ReadFields, field_at};
 use eds_base::{Fail, Path, Reason, Step, TypeId};
 use eds_types::{Constraint, TypeTable, Value, holds_from};
 
 /// The value that a path begins with.
-fn first_value<'a>(fields: &'a [ReadField], path: &[(TypeId, u16)]) -> Option<&'a Value>
+fn first_value<'a>(fields: &'a ReadFields, path: &[(TypeId, u16)]) -> Option<&'a Value>
     ensures { option_map plain (option_copied result) ≡ first_on (fields_of fields.now) path.now }
 {
     match path {
@@ -26,7 +26,7 @@ fn first_value<'a>(fields: &'a [ReadField], path: &[(TypeId, u16)]) -> Option<&'
 }
 
 /// Whether a constraint holds.
-pub(crate) fn holds(table: &TypeTable, fields: &[ReadField], constraint: &Constraint) -> bool
+pub(crate) fn holds(table: &TypeTable, fields: &ReadFields, constraint: &Constraint) -> bool
     ensures { result ≡ holds table.now (fields_of fields.now) constraint.now }
 {
     holds_from(
@@ -53,7 +53,7 @@ pub(crate) fn put_steps(path: &mut Path, steps: &[(TypeId, u16)])
 pub(crate) fn check_constraints(
     table: &TypeTable,
     constraints: &[Constraint],
-    fields: &[ReadField],
+    fields: &ReadFields,
     path: &mut Path,
 ) -> Result<(), Fail<Reason>>
     requires near { AllByRecursion (IsNear 32) constraints.now }

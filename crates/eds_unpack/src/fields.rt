@@ -1,31 +1,39 @@
 //! The fields of a container that were read so far.
 
-ghost use Rattle.std.specs.Prelude.{◌≡◌, ◌++◌, [], ◌∷◌, map, option_map, OnOk, IfOk};
+ghost use Rattle.std.specs.Prelude.{◌≡◌, map, option_map, slice_get};
 ghost use Rattle.std.specs.Option.{option_copied};
-ghost use Rattle.eds_types.specs.Fields.{value_at, values_of};
+ghost use Rattle.eds_types.specs.Fields.{value_at};
 ghost use Rattle.eds_types.specs.Plain.{plain};
 ghost use Rattle.eds_types.specs.Spelling.{count_in};
 ghost use Rattle.eds_unpack.specs.Courses.{fields_of};
 
-use eds_base::{Memory, TypeId};
+use eds_base::TypeId;
 use eds_types::Value;
-use std::alloc::Global;
 
-/// A value that was read, with the container that has the part that holds it, and the part's place there.
+/// The values that were read, and beside each, in a list of its own, the part that holds it: the container that has the part,
+/// and its place there.
 #[derive(Drop)]
-pub(crate) struct ReadField {
-    pub container: TypeId,
-    pub place: u16,
-    pub value: Value,
+pub(crate) struct ReadFields {
+    pub values: Vec<Value>,
+    pub parts: Vec<(TypeId, u16)>,
+}
+
+/// The value at a position, if there is one.
+fn nth(values: &[Value], index: usize) -> Option<&Value>
+    ensures { option_map plain (option_copied result) ≡ slice_get (map plain values.now) index }
+{
+    values.get(index)
 }
 
 /// The value of the part at a place of a container, None exactly where none was read.
-pub(crate) fn field_at(fields: &[ReadField], container: TypeId, place: u16) -> Option<&Value>
+pub(crate) fn field_at(fields: &ReadFields, container: TypeId, place: u16) -> Option<&Value>
     ensures { option_map plain (option_copied result) ≡ value_at (fields_of fields.now) container.0 place }
 {
-    for field in fields {
-        if field.container.0 == container.0 && field.place == place {
-            return Some(&field.value);
+    let parts = fields.parts.as_slice();
+    for index in 0..parts.len() {
+        let part = parts[index];
+        if part.0.0 == container.0 && part.1 == place {
+            return nth(fields.values.as_slice(), index);
         }
     }
     None
@@ -42,19 +50,8 @@ fn count_of(value: Option<&Value>) -> u128
 }
 
 /// How many items the entry at a place of a container tells.
-pub(crate) fn count_at(fields: &[ReadField], container: TypeId, place: u16) -> u128
+pub(crate) fn count_at(fields: &ReadFields, container: TypeId, place: u16) -> u128
     ensures { result ≡ count_in (value_at (fields_of fields.now) container.0 place) }
 {
     count_of(field_at(fields, container, place))
-}
-
-/// The values alone.
-pub(crate) fn values_of(alloc: Global, fields: Vec<ReadField>) -> Result<Vec<Value>, Memory>
-    ensures { IfOk result (λ vs. map plain vs.items ≡ values_of (fields_of fields.items)) }
-{
-    let mut values = Vec::with_capacity(alloc, fields.len())?;
-    for field in fields {
-        values.push(field.value)?;
-    }
-    Ok(values)
 }

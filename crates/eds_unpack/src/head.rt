@@ -1,15 +1,14 @@
 //! Reading the entries that a container begins with by its segment.
 
-ghost use Rattle.std.specs.Prelude.{◌≡◌, ◌≤◌, length, map, drop, IfOk, OnOk};
+ghost use Rattle.std.specs.Prelude.{◌≡◌, ◌≤◌, length, drop, IfOk, OnOk};
 ghost use Rattle.eds_bits.specs.Reader.{bits_left};
-ghost use Rattle.eds_types.specs.Plain.{plain};
 ghost use Rattle.eds_types.specs.Rows.{entries_of};
 ghost use Rattle.eds_unpack.specs.Courses.{IsUnderWay, MovesOn, progress_of};
-ghost use Rattle.eds_unpack.specs.Segments.{BeginsWith, ReadsFirst};
+ghost use Rattle.eds_unpack.specs.Segments.{HeadIsPut, ReadsFirst};
 
-use crate::progress::{Reached, keep_values};
+use crate::progress::{Reached, keep_first_parts};
 use crate::segments::Segments;
-use crate::values::values_of;
+use crate::values::put_values;
 use eds_base::{Memory, TypeId};
 use eds_bits::BitReader;
 use eds_types::{Part, TypeTable, Value};
@@ -24,35 +23,33 @@ pub(crate) fn behind(parts: &[Part], count: usize) -> &[Part]
     &parts[count..]
 }
 
-/// Reads the entries that a container begins with by its segment. There are no values, where the container has no segment, or
-/// the segment doesn't tell all of them.
+/// Puts the values of the entries that a container begins with last, by its segment, and says how many these are: none, where the
+/// container has no segment, or the segment doesn't tell all of them.
 #[inline(always)]
-pub(crate) fn head_values(
+pub(crate) fn put_head(
     alloc: Global,
     table: &TypeTable,
     segments: &Segments<'_>,
     container: TypeId,
+    values: &mut Vec<Value>,
     reader: &mut BitReader,
-) -> Result<Vec<Value>, Memory>
+) -> Result<u16, Memory>
     requires { segments.now ≡ table.now }
-    ensures few { IfOk result (λ vs. length vs.items ≤ length (entries_of table.now container.0)) }
-    ensures most { IfOk result (λ vs. length vs.items ≤ 32767) }
-    ensures begins { IfOk result (λ vs. BeginsWith table.now container.0 (bits_left reader.old) (map plain vs.items) (bits_left reader.new)) }
+    ensures few { IfOk result (λ k. k ≤ length (entries_of table.now container.0)) }
+    ensures put { IfOk result (λ k. HeadIsPut table.now container.0 k (bits_left reader.old) values.old.items values.new.items (bits_left reader.new)) }
     ensures moves { MovesOn (bits_left reader.old) (bits_left reader.new) }
 {
     let Some(head) = segments.head_of(container) else {
-        return Ok(Vec::new(alloc));
+        return Ok(0);
     };
     if reader.left() < u64::from(head.bits) {
-        return Ok(Vec::new(alloc));
+        return Ok(0);
     }
-    match values_of(alloc, table, head.operations.as_slice(), reader)? {
-        Some(values) => {
-            reader.skip(u64::from(head.bits));
-            Ok(values)
-        }
-        None => Ok(Vec::new(alloc)),
+    if !put_values(alloc, table, head.operations.as_slice(), reader, values)? {
+        return Ok(0);
     }
+    reader.skip(u64::from(head.bits));
+    Ok(head.operations.len() as u16)
 }
 
 /// Reads the entries that a container begins with by its segment, as far as that tells their values, keeps these, and says how
@@ -72,8 +69,14 @@ pub(crate) fn read_head(
     ensures read { IfOk result (λ k. ReadsFirst table.now container.0 k (progress_of reached.old (bits_left reader.old)) (bits_left reader.old) (progress_of reached.new (bits_left reader.new)) (bits_left reader.new)) }
     ensures begun { OnOk result (IsUnderWay reached.new (bits_left reader.new)) }
 {
-    let values = head_values(alloc, table, segments, container, reader)?;
-    let count = values.len() as u16;
-    keep_values(reached, container, values)?;
+    let count = put_head(
+        alloc,
+        table,
+        segments,
+        container,
+        &mut reached.fields.values,
+        reader,
+    )?;
+    keep_first_parts(&mut reached.fields.parts, container, count)?;
     Ok(count)
 }

@@ -6,7 +6,7 @@ ghost use Rattle.eds_types.specs.Reading.{holds};
 ghost use Rattle.eds_unpack.specs.Choices.{Tells, TellsOn};
 
 use crate::constraint::holds;
-use crate::fields::ReadField;
+use crate::fields::ReadFields;
 use crate::noted::{holds_noted, number_noted};
 use crate::notes::Notes;
 use crate::number::number_on;
@@ -16,7 +16,7 @@ use eds_types::{Constraint, TypeTable};
 /// What is known of the entries of a container: the fields that were read, or the numbers that were noted of them.
 #[derive(Clone, Copy)]
 pub(crate) enum Known<'a> {
-    Fields(&'a [ReadField]),
+    Fields(&'a ReadFields),
     Numbers(&'a Notes, &'a [Option<i128>]),
 }
 

@@ -1,26 +1,25 @@
 //! How far the reader of a container has come.
 
-ghost use Rattle.std.specs.Prelude.{◌≡◌, ◌≤◌, ◌++◌, ◌∷◌, [], length, map, None, IfOk, OnOk};
+ghost use Rattle.std.specs.Prelude.{◌≡◌, ◌++◌, ◌∷◌, [], length, None, IfOk, OnOk};
 ghost use Rattle.eds_bits.specs.Bits.{octets_for};
 ghost use Rattle.eds_bits.specs.Reader.{bits_left};
 ghost use Rattle.eds_types.specs.Fields.{field_at};
 ghost use Rattle.eds_types.specs.Plain.{plain};
 ghost use Rattle.eds_types.specs.Reading.{front, size_fits};
 ghost use Rattle.eds_types.specs.Spelling.{started};
-ghost use Rattle.eds_unpack.specs.Courses.{IsUnderWay, MovesOn, fields_of, progress_of};
-ghost use Rattle.eds_unpack.specs.Segments.{fields_from};
+ghost use Rattle.eds_unpack.specs.Courses.{AreHeld, IsUnderWay, MovesOn, fields_of, parts_from, progress_of};
 
-use crate::fields::ReadField;
+use crate::fields::ReadFields;
 use eds_base::{Memory, TypeId};
 use eds_bits::BitReader;
-use eds_types::Value;
+use eds_types::{TypeTable, Value};
 use std::alloc::Global;
 
 /// How far the reader of a container has come: the fields so far, how many octets the length entry tells, and a reader
 /// before the container's first bit.
 #[derive(Drop)]
 pub(crate) struct Reached<'a> {
-    pub fields: Vec<ReadField>,
+    pub fields: ReadFields,
     pub octets: Option<i128>,
     pub start: BitReader<'a>,
 }
@@ -28,18 +27,32 @@ pub(crate) struct Reached<'a> {
 /// The most fields that room is made for before any is read.
 pub(crate) const FEW: usize = 32;
 
-/// Before the first part of a container, with room for so many fields, or for a few where they are more.
+/// How many fields more room is made for where a container is derived from this one.
+const MORE: usize = 8;
+
+/// Before the first part of a container, with room for the fields of its entries, or for a few where they are more.
 pub(crate) fn begin<'a>(
     alloc: Global,
-    fields: usize,
+    table: &TypeTable,
+    id: TypeId,
     reader: &BitReader<'a>,
 ) -> Result<Reached<'a>, Memory>
-    ensures fields { IfOk result (λ r. fields_of r.fields.items ≡ []) }
+    ensures fields { IfOk result (λ r. fields_of r.fields ≡ []) }
+    ensures held { IfOk result (λ r. AreHeld r.fields) }
     ensures octets { IfOk result (λ r. r.octets ≡ None) }
     ensures start { IfOk result (λ r. bits_left r.start ≡ bits_left reader.now) }
 {
+    let own = table.entries_of(id).len();
+    let more = if table.family_of(id).len() > 1 {
+        MORE
+    } else {
+        0
+    };
+    let room = own.saturating_add(more).min(FEW);
+    let values = Vec::with_capacity(alloc, room)?;
+    let parts = Vec::with_capacity(alloc, room)?;
     Ok(Reached {
-        fields: Vec::with_capacity(alloc, fields.min(FEW))?,
+        fields: ReadFields { values, parts },
         octets: None,
         start: *reader,
     })
@@ -53,34 +66,28 @@ pub(crate) fn keep_field(
     place: u16,
     value: Value,
 ) -> Result<(), Memory>
-    ensures fields { OnOk result (fields_of reached.new.fields.items ≡ fields_of reached.old.fields.items ++ field_at container.0 place (plain value) ∷ []) }
+    requires { AreHeld reached.old.fields }
+    ensures fields { OnOk result (fields_of reached.new.fields ≡ fields_of reached.old.fields ++ field_at container.0 place (plain value) ∷ []) }
+    ensures held { OnOk result (AreHeld reached.new.fields) }
     ensures octets { reached.new.octets ≡ reached.old.octets }
     ensures start { reached.new.start ≡ reached.old.start }
 {
-    let field = ReadField {
-        container,
-        place,
-        value,
-    };
-    reached.fields.push(field)?;
+    let part = (container, place);
+    reached.fields.values.push(value)?;
+    reached.fields.parts.push(part)?;
     Ok(())
 }
 
-/// Puts the values of the first entries of a container last.
-pub(crate) fn keep_values(
-    reached: &mut Reached<'_>,
+/// Puts so many first parts of a container last.
+pub(crate) fn keep_first_parts(
+    parts: &mut Vec<(TypeId, u16)>,
     container: TypeId,
-    values: Vec<Value>,
+    count: u16,
 ) -> Result<(), Memory>
-    requires few { length values.items ≤ 32767 }
-    ensures fields { OnOk result (fields_of reached.new.fields.items ≡ fields_of reached.old.fields.items ++ fields_from container.0 0 (map plain values.items)) }
-    ensures octets { reached.new.octets ≡ reached.old.octets }
-    ensures start { reached.new.start ≡ reached.old.start }
+    ensures { OnOk result (parts.new.items ≡ parts.old.items ++ parts_from container 0 count) }
 {
-    let mut place = 0;
-    for value in values {
-        keep_field(reached, container, place, value)?;
-        place += 1;
+    for place in 0..count {
+        parts.push((container, place))?;
     }
     Ok(())
 }

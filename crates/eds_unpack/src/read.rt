@@ -17,8 +17,8 @@ ghost use Rattle.eds_unpack.specs.Straight.{is_straight};
 use crate::choice::{Next, next_container};
 use crate::constraint::check_constraints;
 use crate::expected::{expect_check, expect_value};
-use crate::fields::{count_at, values_of};
-use crate::head::{behind, head_values, read_head};
+use crate::fields::count_at;
+use crate::head::{behind, put_head, read_head};
 use crate::octets::{read_octets, read_string, skip_padding};
 use crate::progress::{FEW, Reached, begin, has_told_size, keep_field};
 use crate::scalar::{read_integer, read_label, read_truth};
@@ -191,11 +191,17 @@ fn read_straight(
     ensures reason { IfErr result StopsReading }
 {
     let entries = level.table.entries_of(container);
-    let mut values = head_values(level.alloc, level.table, level.segments, container, reader)?;
-    let first = values.len();
-    let rest = behind(entries, first);
-    values.reserve(rest.len().min(FEW))?;
-    let mut place = first as u16;
+    let mut values = Vec::with_capacity(level.alloc, entries.len().min(FEW))?;
+    let first = put_head(
+        level.alloc,
+        level.table,
+        level.segments,
+        container,
+        &mut values,
+        reader,
+    )?;
+    let rest = behind(entries, usize::from(first));
+    let mut place = first;
     for part in rest {
         let value = read_field(level, container, place, type_of(part), path, reader)?;
         values.push(value)?;
@@ -241,7 +247,7 @@ fn read_part(
             Ok(())
         }
         Part::List(_, id, teller, told) => {
-            let count = count_at(reached.fields.as_slice(), *teller, *told);
+            let count = count_at(&reached.fields, *teller, *told);
             let items = read_items(level, *id, count, path, reader)?;
             Ok(keep_field(reached, container, place, Value::Items(items))?)
         }
@@ -391,7 +397,7 @@ fn read_chain(
     table.keeps_rules();
     for id in chain {
         let constraints = table.constraints_of(*id);
-        check_constraints(table, constraints, reached.fields.as_slice(), path)?;
+        check_constraints(table, constraints, &reached.fields, path)?;
         read_own(level, *id, reached, path, reader)?;
     }
     Ok(())
@@ -452,6 +458,7 @@ fn read_under(
     requires begun { IsUnderWay reached.old (bits_left reader.old) }
     requires root { path.old ≡ [] }
     ensures gives { Gives (λ (x : Id). (x.0, progress_of reached.new (bits_left reader.new), bits_left reader.new)) (with_path path.new result) (under_read level.now.table.now (read_within level.now.depth level.now.table.now) 16 id.0 (progress_of reached.old (bits_left reader.old)) (bits_left reader.old)) }
+    ensures begun { OnOk result (IsUnderWay reached.new (bits_left reader.new)) }
     ensures near { length path.new ≤ 2 * level.now.depth + 2 }
     ensures calm { OnOk result (path.new ≡ []) }
     ensures reason { IfErr result StopsReading }
@@ -460,7 +467,7 @@ fn read_under(
     table.keeps_rules();
     let mut at = id;
     for _ in 0..CHAIN {
-        match next_container(table, level.segments, at, reached.fields.as_slice()) {
+        match next_container(table, level.segments, at, &reached.fields) {
             Next::Stay => {
                 let chain = table.chain_of(at);
                 read_trailers(level, chain.as_slice(), reached, path, reader)?;
@@ -500,13 +507,11 @@ fn read_container(
     if is_straight(level.table, id) {
         return read_straight(level, id, path, reader);
     }
-    let entries = level.table.entries_of(id).len();
-    let mut reached = begin(level.alloc, entries, reader)?;
+    let mut reached = begin(level.alloc, level.table, id, reader)?;
     let chain = level.table.chain_of(id);
     read_chain(level, chain.as_slice(), &mut reached, path, reader)?;
     let found = read_under(level, id, &mut reached, path, reader)?;
-    let values = values_of(level.alloc, reached.fields)?;
-    Ok(Value::Fields(found, values))
+    Ok(Value::Fields(found, reached.fields.values))
 }
 
 /// Reads the fields of a container, by its segment, where that tells them.

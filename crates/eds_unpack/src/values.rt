@@ -1,8 +1,8 @@
 //! Reading the values of a container by its segment.
 
 ghost use Rattle.std.specs.Prelude.{◌≡◌, ◌+◌, ◌*◌, ◌%◌, ◌^◌, ◌<◌, ◌≤◌, ℕ, List, Result, Some, true, length, map, take, drop, slice_get, IfOk, IfSome, IfNone};
-ghost use Rattle.std.specs.Bool.{OnTrue};
-ghost use Rattle.std.specs.List.{All, AllZip};
+ghost use Rattle.std.specs.Bool.{OnFalse, OnTrue};
+ghost use Rattle.std.specs.List.{All};
 ghost use Rattle.eds_base.specs.declared.fault.Fault.{Fault};
 ghost use Rattle.eds_bits.specs.Bits.{Bits, bits_of, low_bits, unsigned_of};
 ghost use Rattle.eds_bits.specs.IntForms.{number_of};
@@ -12,7 +12,7 @@ ghost use Rattle.eds_types.specs.Reading.{named, ranged};
 ghost use Rattle.eds_types.specs.Rules.{KindKeeps};
 ghost use Rattle.eds_unpack.specs.declared.segment.Meaning.TheVariants.{Number};
 ghost use Rattle.eds_unpack.specs.Labels.{AreLabels};
-ghost use Rattle.eds_unpack.specs.Segments.{Agrees, IsOperation, IsPut, IsSegmentOf, ReadsAs, Says, in_order, made, scalar_bits, scalar_of, value_in};
+ghost use Rattle.eds_unpack.specs.Segments.{Agrees, ArePut, IsOperation, IsPut, IsSegmentOf, ReadsAs, in_order, made, scalar_bits, scalar_of, value_in};
 
 use crate::lookup::label_of;
 use crate::segment::{Meaning, Numbers, Operation, Segment};
@@ -134,6 +134,7 @@ pub(crate) fn put_number(
     requires bound { number < 2 ^ bits }
     ensures more { IfOk result (λ put. OnTrue put (length values.new.items ≡ length values.old.items + 1)) }
     ensures put { (value : Bits → Result Plain Fault) → Agrees value bits (Number numbers) → IfOk result (λ put. OnTrue put (IsPut (value (low_bits bits number)) values.old.items values.new.items)) }
+    ensures same { IfOk result (λ put. OnFalse put (values.new.items ≡ values.old.items)) }
 {
     let found = made(numbers, bits, number);
     if found < numbers.low || numbers.high < found {
@@ -151,7 +152,8 @@ fn put_integer(
     values: &mut Vec<Value>,
 ) -> Result<bool, Memory>
     requires { number < 2 ^ form.bits }
-    ensures { IfOk result (λ put. OnTrue put (IsPut (ranged spans.now (number_of form (low_bits form.bits number))) values.old.items values.new.items)) }
+    ensures put { IfOk result (λ put. OnTrue put (IsPut (ranged spans.now (number_of form (low_bits form.bits number))) values.old.items values.new.items)) }
+    ensures same { IfOk result (λ put. OnFalse put (values.new.items ≡ values.old.items)) }
 {
     let Some(found) = decode_int(form, number) else {
         return Ok(false);
@@ -173,7 +175,8 @@ fn put_label(
 ) -> Result<bool, Memory>
     requires bound { number < 2 ^ form.bits }
     requires once { AreLabels listing.now }
-    ensures { IfOk result (λ put. OnTrue put (IsPut (named listing.now (number_of form (low_bits form.bits number))) values.old.items values.new.items)) }
+    ensures put { IfOk result (λ put. OnTrue put (IsPut (named listing.now (number_of form (low_bits form.bits number))) values.old.items values.new.items)) }
+    ensures same { IfOk result (λ put. OnFalse put (values.new.items ≡ values.old.items)) }
 {
     let Some(found) = decode_int(form, number) else {
         return Ok(false);
@@ -196,7 +199,8 @@ fn put_told(
 ) -> Result<bool, Memory>
     requires keeps { KindKeeps kind.now }
     requires bound { (n : ℕ) → scalar_bits kind.now ≡ Some n → number < 2 ^ n }
-    ensures { (n : ℕ) → scalar_bits kind.now ≡ Some n → IfOk result (λ put. OnTrue put (IsPut (scalar_of kind.now (low_bits n number)) values.old.items values.new.items)) }
+    ensures put { (n : ℕ) → scalar_bits kind.now ≡ Some n → IfOk result (λ put. OnTrue put (IsPut (scalar_of kind.now (low_bits n number)) values.old.items values.new.items)) }
+    ensures same { IfOk result (λ put. OnFalse put (values.new.items ≡ values.old.items)) }
 {
     match kind {
         Kind::Int(form, spans) => put_integer(*form, spans, number, values),
@@ -216,7 +220,8 @@ pub(crate) fn put_value(
 ) -> Result<bool, Memory>
     requires is { IsOperation table.now operation.now }
     requires bound { number < 2 ^ operation.now.bits }
-    ensures { IfOk result (λ put. OnTrue put (IsPut (value_in (slice_get table.now operation.now.id.0) (low_bits operation.now.bits number)) values.old.items values.new.items)) }
+    ensures put { IfOk result (λ put. OnTrue put (IsPut (value_in (slice_get table.now operation.now.id.0) (low_bits operation.now.bits number)) values.old.items values.new.items)) }
+    ensures same { IfOk result (λ put. OnFalse put (values.new.items ≡ values.old.items)) }
 {
     match operation.meaning {
         Meaning::Number(numbers) => put_number(numbers, operation.bits, number, values),
@@ -231,26 +236,30 @@ pub(crate) fn put_value(
     }
 }
 
-/// The values of operations, if the bits of each have one.
-pub(crate) fn values_of(
+/// Puts the values of operations last, if the bits of each have one, and else none.
+pub(crate) fn put_values(
     alloc: Global,
     table: &TypeTable,
     operations: &[Operation],
     reader: &BitReader<'_>,
-) -> Result<Option<Vec<Value>>, Memory>
+    values: &mut Vec<Value>,
+) -> Result<bool, Memory>
     requires are { All (IsOperation table.now) operations.now }
     requires within { All (λ o. o.at + o.bits ≤ length (bits_left reader.now)) operations.now }
-    ensures { IfOk result (λ o. IfSome o (λ vs. AllZip (Says table.now (bits_left reader.now)) operations.now (map plain vs.items))) }
+    ensures put { IfOk result (λ put. OnTrue put (ArePut table.now (bits_left reader.now) operations.now values.old.items values.new.items)) }
+    ensures same { IfOk result (λ put. OnFalse put (map plain values.new.items ≡ map plain values.old.items)) }
 {
     let octets = octets_left(reader);
-    let mut values = Vec::with_capacity(alloc, operations.len())?;
+    let before = values.len();
+    values.reserve(operations.len())?;
     for operation in operations {
         let number = number_of_bits(operation, octets, reader);
-        if !put_value(alloc, table, operation, number, &mut values)? {
-            return Ok(None);
+        if !put_value(alloc, table, operation, number, values)? {
+            values.truncate(before);
+            return Ok(false);
         }
     }
-    Ok(Some(values))
+    Ok(true)
 }
 
 /// Reads the values of a container by its segment. None, where it doesn't tell them: then the reader stays where it is.
@@ -268,13 +277,13 @@ fn read_segment(
     if reader.left() < u64::from(segment.bits) {
         return Ok(None);
     }
-    match values_of(alloc, table, segment.operations.as_slice(), reader)? {
-        Some(values) => {
-            reader.skip(u64::from(segment.bits));
-            Ok(Some(values))
-        }
-        None => Ok(None),
+    let operations = segment.operations.as_slice();
+    let mut values = Vec::with_capacity(alloc, operations.len())?;
+    if !put_values(alloc, table, operations, reader, &mut values)? {
+        return Ok(None);
     }
+    reader.skip(u64::from(segment.bits));
+    Ok(Some(values))
 }
 
 /// Reads the values of a container that has a segment. None, where it has none, or the segment doesn't tell them: then the

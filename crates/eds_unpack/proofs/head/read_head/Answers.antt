@@ -1,16 +1,17 @@
-use Rattle.std.proofs.Common.{◌≡◌, length, map, arith}
-use Rattle.std.proofs.lemmas.List.{length-map}
+use Rattle.std.proofs.Common.{refl}
 use Rattle.eds_bits.specs.Reader.{bits_left}
-use Rattle.eds_types.specs.Plain.{plain}
-use Rattle.eds_unpack.proofs.SegmentReads.{head_reads}
+use Rattle.eds_unpack.specs.declared.progress.Reached.{Reached}
+use Rattle.eds_unpack.proofs.SegmentReads.{head_held, head_reads}
 use Rattle.eds_unpack.proofs.Steps.{under_way}
 use Rattle.eds_unpack.proofs.head.read_head.Goals as goal
 
 pub returns-clause-read : goal.returns-clause-read
 returns-clause-read c =
-    let count : length (map plain c.in_ok-values.values.items) ≡ c.len-count.result = omega (arith, length-map c.in_ok-values.values.items plain, c.len-count.ensures) in
-    head_reads c.args.table.now c.args.container.0 c.len-count.result c.args.reached.now c.keep_values.new.reached (bits_left c.args.reader.now) (bits_left c.head_values.new.reader) (map plain c.in_ok-values.values.items) c.in_ok-values.ensures.begins c.requires.begun.begun c.head_values.ensures.moves
-    count c.in_ok-keep_values.ensures.fields c.keep_values.ensures.octets c.keep_values.ensures.start
+    let u : Reached = record { fields = record { values = c.put_head.new.values; parts = c.keep_first_parts.new.parts }; octets = c.args.reached.now.octets; start = c.args.reached.now.start } in
+    head_reads c.args.table.now c.args.container c.in_ok-count.count c.args.reached.now u (bits_left c.args.reader.now) (bits_left c.put_head.new.reader) c.in_ok-count.ensures.put c.in_ok-keep_first_parts.ensures c.requires.begun.held c.requires.begun.begun c.put_head.ensures.moves refl refl
 
 pub returns-clause-begun : goal.returns-clause-begun
-returns-clause-begun c = under_way c.args.reached.now c.keep_values.new.reached (bits_left c.args.reader.now) (bits_left c.head_values.new.reader) c.requires.begun c.head_values.ensures.moves c.keep_values.ensures.octets c.keep_values.ensures.start
+returns-clause-begun c =
+    let u : Reached = record { fields = record { values = c.put_head.new.values; parts = c.keep_first_parts.new.parts }; octets = c.args.reached.now.octets; start = c.args.reached.now.start } in
+    let held = head_held c.args.table.now c.args.container c.in_ok-count.count c.args.reached.now u (bits_left c.args.reader.now) (bits_left c.put_head.new.reader) c.in_ok-count.ensures.put c.in_ok-keep_first_parts.ensures c.requires.begun.held in
+    under_way c.args.reached.now u (bits_left c.args.reader.now) (bits_left c.put_head.new.reader) c.requires.begun held c.put_head.ensures.moves refl refl

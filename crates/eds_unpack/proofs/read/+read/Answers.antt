@@ -1,17 +1,15 @@
 use Rattle.std.proofs.Common.{◌≡◌, ◌∙◌, ◌+◌, ◌-◌, List, [], ◌∷◌, ◌++◌, length, map, get_or, true, false, refl, ap, ap₂, sym, subst, Ok, Err, Some, rules, arith, drop, length-drop}
 use Rattle.std.specs.List.{AllByRecursion, list_all}
-use Rattle.std.proofs.lemmas.List.{drop_all, length-map, length-take, map-append}
+use Rattle.std.proofs.lemmas.List.{drop_all, length-take, map-append}
 use Rattle.std.proofs.lemmas.Result.{err_from_is_err_and}
 use Rattle.eds_base.specs.declared.ids.TypeId.{TypeId}
 use Rattle.eds_base.specs.declared.fault.Reason.TheVariants.{LengthDiffers, NoDerived}
 use Rattle.eds_base.specs.declared.fault.Step.TheVariants as step
 use Rattle.eds_types.specs.Failing.{fault_at}
 use Rattle.eds_bits.specs.Reader.{bits_left}
-use Rattle.eds_types.specs.declared.value.Value.{Value}
-use Rattle.eds_types.specs.Fields.{type_by, field_at, value_at}
+use Rattle.eds_types.specs.Fields.{type_by, field_at}
 use Rattle.eds_types.specs.Plain.{plain, fields, plains_of}
-use Rattle.eds_types.specs.Reading.{read_within, check_all, next}
-use Rattle.eds_types.specs.Spelling.{count_in}
+use Rattle.eds_types.specs.Reading.{read_within, check_all}
 use Rattle.eds_types.specs.Rows.{chain, entries_of, numbers_of}
 use Rattle.eds_types.specs.Choices.{IsNear}
 use Rattle.eds_types.proofs.Candidates.{numbers_are}
@@ -23,6 +21,7 @@ use Rattle.eds_unpack.proofs.Labels.{kind_listed}
 use Rattle.eds_unpack.proofs.Levels.{next_level}
 use Rattle.eds_unpack.proofs.OnReads.{value_moves, items_move, pad_moves}
 use Rattle.eds_unpack.proofs.Ranks.{all_at, chain_is_low, child_is_low, item_is_read}
+use Rattle.eds_unpack.proofs.Reaches.{all_held}
 use Rattle.eds_unpack.proofs.SegmentReads.{head_goes, head_straight, parts_behind, straight_behind}
 use Rattle.eds_unpack.proofs.Steps.{stops_as, last_low, front_low, near_low, near_most, entries_low, trailers_low, under_way, told_way, begins, is_started, plain_part, list_part, fixed_part, check_part, pad_part, length_part, length_number, items_more, trailers_stop, trailers_go, trailers_done, stay_stops, stay_ends, nowhere_is, under_stops, under_goes, under_ends, chain_refused, chain_fails, chain_stops, end_stops, container_reads}
 use Rattle.eds_unpack.specs.Straight.{is_straight_entry}
@@ -86,41 +85,38 @@ read_part-returns-in_ok-keep_field-in-Plain-clause-gives t c =
 pub read_part-returns-in_ok-keep_field-in-Plain-clause-begun : goal.read_part-returns-in_ok-keep_field-in-Plain-clause-begun
 read_part-returns-in_ok-keep_field-in-Plain-clause-begun t c =
     let on = value_moves c.args.level.now.depth c.args.level.now.table.now c.in-Plain.id.0 (bits_left c.args.reader.now) (plain c.in_ok-value-in-Plain.value) (bits_left c.read_value.new.reader) c.in_ok-value-in-Plain.ensures.gives in
-    under_way c.args.reached.now c.keep_field.new.reached (bits_left c.args.reader.now) (bits_left c.read_value.new.reader) c.requires.begun on c.keep_field.ensures.octets c.keep_field.ensures.start
+    under_way c.args.reached.now c.keep_field.new.reached (bits_left c.args.reader.now) (bits_left c.read_value.new.reader) c.requires.begun c.in_ok-keep_field-in-Plain.ensures.held on c.keep_field.ensures.octets c.keep_field.ensures.start
 
 pub read_part-returns-in_ok-keep_field-in-List-clause-gives : goal.read_part-returns-in_ok-keep_field-in-List-clause-gives
 read_part-returns-in_ok-keep_field-in-List-clause-gives t c =
     let on = items_move c.args.level.now.depth c.args.level.now.table.now c.in-List.id.0 c.count_at-count.result (bits_left c.args.reader.now) (map plain c.in_ok-items-in-List.items.items) (bits_left c.read_items.new.reader) c.in_ok-items-in-List.ensures.gives in
     list_part c.args.level.now.table.now (read_within c.args.level.now.depth c.args.level.now.table.now) c.args.reached.now c.args.container.0 c.args.place c.args.part.now (bits_left c.args.reader.now) (bits_left c.read_items.new.reader) c.requires.begun.begun on c.keep_field-in-List.new.reached c.in-List.field-0 c.in-List.id c.in-List.teller c.in-List.told c.count_at-count.result (map plain c.in_ok-items-in-List.items.items) c.in-List.is
-    (c.count_at-count.ensures ∙ ap (λ fs. count_in (value_at (fields_of fs) c.in-List.teller.0 c.in-List.told)) c.as_slice.ensures.value)
+    c.count_at-count.ensures
     c.in_ok-items-in-List.ensures.gives
-    (c.in_ok-keep_field-in-List.ensures.fields ∙ ap (λ v. fields_of c.args.reached.now.fields.items ++ field_at c.args.container.0 c.args.place v ∷ []) (plain_items c.in_ok-items-in-List.items)) c.keep_field-in-List.ensures.octets c.keep_field-in-List.ensures.start
+    (c.in_ok-keep_field-in-List.ensures.fields ∙ ap (λ v. fields_of c.args.reached.now.fields ++ field_at c.args.container.0 c.args.place v ∷ []) (plain_items c.in_ok-items-in-List.items)) c.keep_field-in-List.ensures.octets c.keep_field-in-List.ensures.start
 
 pub read_part-returns-in_ok-keep_field-in-List-clause-begun : goal.read_part-returns-in_ok-keep_field-in-List-clause-begun
 read_part-returns-in_ok-keep_field-in-List-clause-begun t c =
     let on = items_move c.args.level.now.depth c.args.level.now.table.now c.in-List.id.0 c.count_at-count.result (bits_left c.args.reader.now) (map plain c.in_ok-items-in-List.items.items) (bits_left c.read_items.new.reader) c.in_ok-items-in-List.ensures.gives in
-    under_way c.args.reached.now c.keep_field-in-List.new.reached (bits_left c.args.reader.now) (bits_left c.read_items.new.reader) c.requires.begun on c.keep_field-in-List.ensures.octets c.keep_field-in-List.ensures.start
+    under_way c.args.reached.now c.keep_field-in-List.new.reached (bits_left c.args.reader.now) (bits_left c.read_items.new.reader) c.requires.begun c.in_ok-keep_field-in-List.ensures.held on c.keep_field-in-List.ensures.octets c.keep_field-in-List.ensures.start
 
 -- ---- containers that are read straight
 
 pub read_straight-behind-rest-requires : goal.read_straight-behind-rest-requires
 read_straight-behind-rest-requires t c =
-    let few = c.in_ok-values.ensures.few in
-    omega (arith, few, c.len-first.ensures, ap length c.entries_of-entries.ensures.value)
+    let few = c.in_ok-first.ensures.few in
+    omega (arith, few, c.from.ensures, ap length c.entries_of-entries.ensures.value)
 
 pub read_straight-loop-part-init : goal.read_straight-loop-part-init
 read_straight-loop-part-init t c =
-    let rest : c.behind-rest.result.now ≡ drop c.len-first.result (entries_of c.args.level.now.table.now c.args.container.0) = c.behind-rest.ensures ∙ ap (λ ps. drop c.len-first.result ps) c.entries_of-entries.ensures.value in
-    let count : length (map plain c.in_ok-values.values.items) ≡ c.len-first.result = omega (arith, length-map c.in_ok-values.values.items plain, c.len-first.ensures) in
-    let most = c.in_ok-values.ensures.most in
-    let few = c.in_ok-values.ensures.few in
+    let rest : c.behind-rest.result.now ≡ drop c.in_ok-first.first (entries_of c.args.level.now.table.now c.args.container.0) = c.behind-rest.ensures ∙ ap₂ (λ k ps. drop k ps) c.from.ensures c.entries_of-entries.ensures.value in
+    let few = c.in_ok-first.ensures.few in
     record {
       root = c.requires.root;
-      inner = subst (AllByRecursion (PartIsRead c.args.level.now.table.now c.args.level.now.depth)) (sym rest) (parts_behind (PartIsRead c.args.level.now.table.now c.args.level.now.depth) c.len-first.result (entries_of c.args.level.now.table.now c.args.container.0) (entries_low c.args.level.now.table.now c.args.level.now.depth c.args.container.0 c.requires.inner));
-      straight = ap (list_all (is_straight_entry c.args.level.now.table.now)) rest ∙ straight_behind c.args.level.now.table.now c.len-first.result (entries_of c.args.level.now.table.now c.args.container.0) (entries_straight c.args.level.now.table.now c.args.container.0 c.requires.straight);
-      few = omega (arith, most, few, count, length-map c.in_ok-values.values.items plain, ap length rest, length-drop c.len-first.result (entries_of c.args.level.now.table.now c.args.container.0), ap length c.entries_of-entries.ensures.value, c.entries_of-entries.ensures.few);
-      read = subst (λ (xs : List Value). IsStraightSoFar c.args.level.now.table.now (read_within c.args.level.now.depth c.args.level.now.table.now) c.args.container.0 (bits_left c.args.reader.now) c.len-first.result c.behind-rest.result.now (map plain xs) (bits_left c.head_values.new.reader)) (sym c.reserve.ensures.items)
-          (head_straight c.args.level.now.table.now c.args.level.now.depth c.args.container.0 c.len-first.result (bits_left c.args.reader.now) (bits_left c.head_values.new.reader) c.behind-rest.result.now (map plain c.in_ok-values.values.items) c.requires.inner c.in_ok-values.ensures.begins count rest);
+      inner = subst (AllByRecursion (PartIsRead c.args.level.now.table.now c.args.level.now.depth)) (sym rest) (parts_behind (PartIsRead c.args.level.now.table.now c.args.level.now.depth) c.in_ok-first.first (entries_of c.args.level.now.table.now c.args.container.0) (entries_low c.args.level.now.table.now c.args.level.now.depth c.args.container.0 c.requires.inner));
+      straight = ap (list_all (is_straight_entry c.args.level.now.table.now)) rest ∙ straight_behind c.args.level.now.table.now c.in_ok-first.first (entries_of c.args.level.now.table.now c.args.container.0) (entries_straight c.args.level.now.table.now c.args.container.0 c.requires.straight);
+      few = omega (arith, few, ap length rest, length-drop c.in_ok-first.first (entries_of c.args.level.now.table.now c.args.container.0), ap length c.entries_of-entries.ensures.value, c.entries_of-entries.ensures.few);
+      read = head_straight c.args.level.now.table.now c.args.level.now.depth c.args.container.0 c.in_ok-first.first (bits_left c.args.reader.now) (bits_left c.put_head.new.reader) c.behind-rest.result.now c.in_ok-values.values.items c.put_head.new.values.items c.in_ok-values.ensures.items c.requires.inner c.in_ok-first.ensures.put rest;
     }
 
 pub read_straight-read_field-requires : goal.read_straight-read_field-requires
@@ -186,13 +182,13 @@ pub read_chain-returns-in_err-check_constraints-clause-gives : goal.read_chain-r
 read_chain-returns-in_err-check_constraints-clause-gives t c =
     let p = err_from_is_err_and c.from_residual.result c.from_residual.ensures.1 in
     rw (p.1, p.2) (chain_refused c.args.level.now.table.now (read_within c.args.level.now.depth c.args.level.now.table.now) c.args.chain.now c.loop-id.id-index (record { 0 = 0 }) (progress_of c.loop-id.reached (bits_left c.loop-id.reader)) (bits_left c.loop-id.reader) _ (omega arith) c.loop-id.invariant.read (stop_at c.check_constraints.new.path c.in_err-check_constraints.field-0.0)
-    (stops_as (stop_at c.check_constraints.new.path c.in_err-check_constraints.field-0.0) _ _ (ap₂ (λ cs fs. check_all c.args.level.now.table.now cs (fields_of fs)) c.constraints_of-constraints.ensures c.as_slice.ensures.value) c.in_err-check_constraints.ensures.gives))
+    (stops_as (stop_at c.check_constraints.new.path c.in_err-check_constraints.field-0.0) _ _ (ap (λ cs. check_all c.args.level.now.table.now cs (fields_of c.loop-id.reached.fields)) c.constraints_of-constraints.ensures) c.in_err-check_constraints.ensures.gives))
 
 pub read_chain-returns-in_err-read_own-clause-gives : goal.read_chain-returns-in_err-read_own-clause-gives
 read_chain-returns-in_err-read_own-clause-gives t c =
     let p = err_from_is_err_and c.from_residual-in_err-read_own.result c.from_residual-in_err-read_own.ensures.1 in
     rw (p.1, p.2) (chain_fails c.args.level.now.table.now (read_within c.args.level.now.depth c.args.level.now.table.now) c.args.chain.now c.loop-id.id-index (record { 0 = 0 }) (progress_of c.loop-id.reached (bits_left c.loop-id.reader)) (bits_left c.loop-id.reader) _ (omega arith) c.loop-id.invariant.read (stop_at c.read_own.new.path c.in_err-read_own.field-0.0)
-    (sym (ap₂ (λ cs fs. check_all c.args.level.now.table.now cs (fields_of fs)) c.constraints_of-constraints.ensures c.as_slice.ensures.value) ∙ c.in_ok-check_constraints.ensures.gives) c.in_err-read_own.ensures.gives)
+    (sym (ap (λ cs. check_all c.args.level.now.table.now cs (fields_of c.loop-id.reached.fields)) c.constraints_of-constraints.ensures) ∙ c.in_ok-check_constraints.ensures.gives) c.in_err-read_own.ensures.gives)
 
 pub read_own-behind-rest-requires : goal.read_own-behind-rest-requires
 read_own-behind-rest-requires t c =
@@ -239,8 +235,8 @@ pub read_under-read_trailers-requires : goal.read_under-read_trailers-requires
 read_under-read_trailers-requires t c = (
   omega arith,
   (
-    chain_is_low c.args.level.now.table.now c.loop.invariant.low.rules (c.args.level.now.depth + 1) c.loop.at.0 c.as_slice-in-Stay.result.now c.loop.invariant.low.low (c.as_slice-in-Stay.ensures.value ∙ c.chain_of-chain.ensures),
-    (omega (arith, ap length c.as_slice-in-Stay.ensures.value, c.as_slice-in-Stay.ensures.few), (c.requires.few, (c.loop.invariant.begun, c.loop.invariant.root))),
+    chain_is_low c.args.level.now.table.now c.loop.invariant.low.rules (c.args.level.now.depth + 1) c.loop.at.0 c.as_slice.result.now c.loop.invariant.low.low (c.as_slice.ensures.value ∙ c.chain_of-chain.ensures),
+    (omega (arith, ap length c.as_slice.ensures.value, c.as_slice.ensures.few), (c.requires.few, (c.loop.invariant.begun, c.loop.invariant.root))),
   ),
 )
 
@@ -257,7 +253,7 @@ read_container-read_chain-requires t c = (
   omega arith,
   (
     chain_is_low c.args.level.now.table.now c.requires.inner.rules (c.args.level.now.depth + 1) c.args.id.0 c.as_slice.result.now c.requires.inner.low (c.as_slice.ensures.value ∙ c.chain_of-chain.ensures),
-    (c.requires.few, (begins c.in_ok-reached.reached (bits_left c.args.reader.now) c.in_ok-reached.ensures.start c.in_ok-reached.ensures.octets, c.requires.root)),
+    (c.requires.few, (begins c.in_ok-reached.reached (bits_left c.args.reader.now) c.in_ok-reached.ensures.held c.in_ok-reached.ensures.start c.in_ok-reached.ensures.octets, c.requires.root)),
   ),
 )
 
@@ -270,8 +266,8 @@ pub read_container-returns-clause-gives : goal.read_container-returns-clause-giv
 read_container-returns-clause-gives t c =
     container_reads c.args.level.now.table.now (read_within c.args.level.now.depth c.args.level.now.table.now) c.args.id.0 (bits_left c.args.reader.now) (numbers_of c.as_slice.result.now) (progress_of c.in_ok-reached.reached (bits_left c.args.reader.now)) (numbers_are c.as_slice.result.now (chain c.args.level.now.table.now c.args.id.0) (c.as_slice.ensures.value ∙ c.chain_of-chain.ensures)) (is_started c.in_ok-reached.reached (bits_left c.args.reader.now) c.in_ok-reached.ensures.fields c.in_ok-reached.ensures.octets c.in_ok-reached.ensures.start)
     (progress_of c.read_chain.new.reached (bits_left c.read_chain.new.reader)) (progress_of c.read_under.new.reached (bits_left c.read_under.new.reader)) (bits_left c.read_chain.new.reader) (bits_left c.read_under.new.reader) c.in_ok-found.found.0 c.in_ok-read_chain.ensures.gives c.in_ok-found.ensures.gives
-    ∙ ap (λ vs. Ok (fields c.in_ok-found.found.0 (plains_of vs), bits_left c.read_under.new.reader)) (sym c.in_ok-values.ensures)
-    ∙ ap (λ v. Ok (v, bits_left c.read_under.new.reader)) (sym (plain_fields c.in_ok-found.found c.in_ok-values.values))
+    ∙ ap (λ vs. Ok (fields c.in_ok-found.found.0 (plains_of vs), bits_left c.read_under.new.reader)) (all_held c.read_under.new.reached.fields c.in_ok-found.ensures.begun.held)
+    ∙ ap (λ v. Ok (v, bits_left c.read_under.new.reader)) (sym (plain_fields c.in_ok-found.found c.read_under.new.reached.fields.values))
 
 pub read_container-returns-in_err-found-clause-gives : goal.read_container-returns-in_err-found-clause-gives
 read_container-returns-in_err-found-clause-gives t c =
@@ -292,7 +288,7 @@ read_part-returns-in_ok-expect_value-in-Fixed-clause-gives t c =
 pub read_part-returns-in_ok-expect_value-in-Fixed-clause-begun : goal.read_part-returns-in_ok-expect_value-in-Fixed-clause-begun
 read_part-returns-in_ok-expect_value-in-Fixed-clause-begun t c =
     let on = value_moves c.args.level.now.depth c.args.level.now.table.now c.in-Fixed.id.0 (bits_left c.args.reader.now) (plain c.in_ok-value-in-Fixed.value) (bits_left c.read_value-in-Fixed.new.reader) c.in_ok-value-in-Fixed.ensures.gives in
-    under_way c.args.reached.now c.args.reached.now (bits_left c.args.reader.now) (bits_left c.read_value-in-Fixed.new.reader) c.requires.begun on refl refl
+    under_way c.args.reached.now c.args.reached.now (bits_left c.args.reader.now) (bits_left c.read_value-in-Fixed.new.reader) c.requires.begun c.requires.begun.held on refl refl
 
 pub read_part-returns-in_ok-skip_padding-in-Pad-clause-gives : goal.read_part-returns-in_ok-skip_padding-in-Pad-clause-gives
 read_part-returns-in_ok-skip_padding-in-Pad-clause-gives t c =
@@ -302,7 +298,7 @@ read_part-returns-in_ok-skip_padding-in-Pad-clause-gives t c =
 pub read_part-returns-in_ok-skip_padding-in-Pad-clause-begun : goal.read_part-returns-in_ok-skip_padding-in-Pad-clause-begun
 read_part-returns-in_ok-skip_padding-in-Pad-clause-begun t c =
     let on = pad_moves c.in-Pad.bits (bits_left c.args.reader.now) (bits_left c.skip_padding.new.reader) c.in_ok-skip_padding-in-Pad.ensures.gives in
-    under_way c.args.reached.now c.args.reached.now (bits_left c.args.reader.now) (bits_left c.skip_padding.new.reader) c.requires.begun on refl refl
+    under_way c.args.reached.now c.args.reached.now (bits_left c.args.reader.now) (bits_left c.skip_padding.new.reader) c.requires.begun c.requires.begun.held on refl refl
 
 pub read_part-returns-in_ok-keep_told-in-Length-clause-gives : goal.read_part-returns-in_ok-keep_told-in-Length-clause-gives
 read_part-returns-in_ok-keep_told-in-Length-clause-gives t c =
@@ -312,7 +308,7 @@ read_part-returns-in_ok-keep_told-in-Length-clause-gives t c =
 pub read_part-returns-in_ok-keep_told-in-Length-clause-begun : goal.read_part-returns-in_ok-keep_told-in-Length-clause-begun
 read_part-returns-in_ok-keep_told-in-Length-clause-begun t c =
     let on = value_moves c.args.level.now.depth c.args.level.now.table.now c.in-Length.id.0 (bits_left c.args.reader.now) (plain c.in_ok-value-in-Length.value) (bits_left c.read_value-in-Length.new.reader) c.in_ok-value-in-Length.ensures.gives in
-    told_way c.args.reached.now c.keep_told.new.reached (bits_left c.args.reader.now) (bits_left c.read_value-in-Length.new.reader) c.requires.begun on c.keep_told.ensures.start c.in_ok-keep_told-in-Length.ensures.told
+    told_way c.args.reached.now c.keep_told.new.reached (bits_left c.args.reader.now) (bits_left c.read_value-in-Length.new.reader) c.requires.begun c.keep_told.ensures.fields on c.keep_told.ensures.start c.in_ok-keep_told-in-Length.ensures.told
 
 pub read_part-returns-in_ok-expect_check-in-Check-clause-gives : goal.read_part-returns-in_ok-expect_check-in-Check-clause-gives
 read_part-returns-in_ok-expect_check-in-Check-clause-gives t c =
@@ -322,7 +318,7 @@ read_part-returns-in_ok-expect_check-in-Check-clause-gives t c =
 pub read_part-returns-in_ok-expect_check-in-Check-clause-begun : goal.read_part-returns-in_ok-expect_check-in-Check-clause-begun
 read_part-returns-in_ok-expect_check-in-Check-clause-begun t c =
     let on = value_moves c.args.level.now.depth c.args.level.now.table.now c.in-Check.id.0 (bits_left c.args.reader.now) (plain c.in_ok-value-in-Check.value) (bits_left c.read_value-in-Check.new.reader) c.in_ok-value-in-Check.ensures.gives in
-    under_way c.args.reached.now c.args.reached.now (bits_left c.args.reader.now) (bits_left c.read_value-in-Check.new.reader) c.requires.begun on refl refl
+    under_way c.args.reached.now c.args.reached.now (bits_left c.args.reader.now) (bits_left c.read_value-in-Check.new.reader) c.requires.begun c.requires.begun.held on refl refl
 
 pub read_trailers-returns-in_err-read_parts-clause-gives : goal.read_trailers-returns-in_err-read_parts-clause-gives
 read_trailers-returns-in_err-read_parts-clause-gives t c =
@@ -342,34 +338,34 @@ read_trailers-loop-rest-preserved t c =
 pub read_under-returns-in_err-read_trailers-in-Stay-clause-gives : goal.read_under-returns-in_err-read_trailers-in-Stay-clause-gives
 read_under-returns-in_err-read_trailers-in-Stay-clause-gives t c =
     let p = err_from_is_err_and c.from_residual.result c.from_residual.ensures.1 in
-    rw (p.1, p.2) (stay_stops c.args.level.now.table.now (read_within c.args.level.now.depth c.args.level.now.table.now) c.loop.counter c.loop.at.0 (omega (arith, c.loop-test.true)) (progress_of c.loop.reached (bits_left c.loop.reader)) (bits_left c.loop.reader) c.as_slice-in-Stay.result.now (stop_at c.read_trailers.new.path c.in_err-read_trailers-in-Stay.field-0.0) _ (c.in-Stay.ensures ∙ ap (λ fs. next c.args.level.now.table.now c.loop.at.0 (fields_of fs)) c.as_slice.ensures.value) (c.as_slice-in-Stay.ensures.value ∙ c.chain_of-chain.ensures) c.loop.invariant.read c.in_err-read_trailers-in-Stay.ensures.gives)
+    rw (p.1, p.2) (stay_stops c.args.level.now.table.now (read_within c.args.level.now.depth c.args.level.now.table.now) c.loop.counter c.loop.at.0 (omega (arith, c.loop-test.true)) (progress_of c.loop.reached (bits_left c.loop.reader)) (bits_left c.loop.reader) c.as_slice.result.now (stop_at c.read_trailers.new.path c.in_err-read_trailers-in-Stay.field-0.0) _ (c.in-Stay.ensures) (c.as_slice.ensures.value ∙ c.chain_of-chain.ensures) c.loop.invariant.read c.in_err-read_trailers-in-Stay.ensures.gives)
 
 pub read_under-returns-then-has_told_size-clause-gives : goal.read_under-returns-then-has_told_size-clause-gives
 read_under-returns-then-has_told_size-clause-gives t c =
-    stay_ends c.args.level.now.table.now (read_within c.args.level.now.depth c.args.level.now.table.now) c.loop.counter c.loop.at.0 (omega (arith, c.loop-test.true)) (progress_of c.loop.reached (bits_left c.loop.reader)) (bits_left c.loop.reader) c.as_slice-in-Stay.result.now (progress_of c.read_trailers.new.reached (bits_left c.read_trailers.new.reader)) (bits_left c.read_trailers.new.reader) _ true (c.in-Stay.ensures ∙ ap (λ fs. next c.args.level.now.table.now c.loop.at.0 (fields_of fs)) c.as_slice.ensures.value) (c.as_slice-in-Stay.ensures.value ∙ c.chain_of-chain.ensures) c.loop.invariant.read c.in_ok-read_trailers-in-Stay.ensures.gives c.if-has_told_size.ensures
+    stay_ends c.args.level.now.table.now (read_within c.args.level.now.depth c.args.level.now.table.now) c.loop.counter c.loop.at.0 (omega (arith, c.loop-test.true)) (progress_of c.loop.reached (bits_left c.loop.reader)) (bits_left c.loop.reader) c.as_slice.result.now (progress_of c.read_trailers.new.reached (bits_left c.read_trailers.new.reader)) (bits_left c.read_trailers.new.reader) _ true (c.in-Stay.ensures) (c.as_slice.ensures.value ∙ c.chain_of-chain.ensures) c.loop.invariant.read c.in_ok-read_trailers-in-Stay.ensures.gives c.if-has_told_size.ensures
 
 pub read_under-returns-in-Stay-clause-gives : goal.read_under-returns-in-Stay-clause-gives
 read_under-returns-in-Stay-clause-gives t c =
-    stay_ends c.args.level.now.table.now (read_within c.args.level.now.depth c.args.level.now.table.now) c.loop.counter c.loop.at.0 (omega (arith, c.loop-test.true)) (progress_of c.loop.reached (bits_left c.loop.reader)) (bits_left c.loop.reader) c.as_slice-in-Stay.result.now (progress_of c.read_trailers.new.reached (bits_left c.read_trailers.new.reader)) (bits_left c.read_trailers.new.reader) _ false (c.in-Stay.ensures ∙ ap (λ fs. next c.args.level.now.table.now c.loop.at.0 (fields_of fs)) c.as_slice.ensures.value) (c.as_slice-in-Stay.ensures.value ∙ c.chain_of-chain.ensures) c.loop.invariant.read c.in_ok-read_trailers-in-Stay.ensures.gives c.if-has_told_size.ensures
+    stay_ends c.args.level.now.table.now (read_within c.args.level.now.depth c.args.level.now.table.now) c.loop.counter c.loop.at.0 (omega (arith, c.loop-test.true)) (progress_of c.loop.reached (bits_left c.loop.reader)) (bits_left c.loop.reader) c.as_slice.result.now (progress_of c.read_trailers.new.reached (bits_left c.read_trailers.new.reader)) (bits_left c.read_trailers.new.reader) _ false (c.in-Stay.ensures) (c.as_slice.ensures.value ∙ c.chain_of-chain.ensures) c.loop.invariant.read c.in_ok-read_trailers-in-Stay.ensures.gives c.if-has_told_size.ensures
     ∙ ap (λ p. Err (fault_at LengthDiffers p)) (sym c.tell_length.ensures.value)
 
 pub read_under-read_own-requires : goal.read_under-read_own-requires
 read_under-read_own-requires t c =
-    let low = child_is_low c.args.level.now.table.now c.loop.invariant.low.rules (c.args.level.now.depth + 1) c.loop.at.0 c.in-Under.child.0 (fields_of c.loop.reached.fields.items) c.loop.invariant.low.low (c.in-Under.ensures ∙ ap (λ fs. next c.args.level.now.table.now c.loop.at.0 (fields_of fs)) c.as_slice.ensures.value) in
+    let low = child_is_low c.args.level.now.table.now c.loop.invariant.low.rules (c.args.level.now.depth + 1) c.loop.at.0 c.in-Under.child.0 (fields_of c.loop.reached.fields) c.loop.invariant.low.low (c.in-Under.ensures) in
     (omega arith, (low, (c.requires.few, (c.loop.invariant.begun, c.loop.invariant.root))))
 
 pub read_under-returns-in_err-read_own-in-Under-clause-gives : goal.read_under-returns-in_err-read_own-in-Under-clause-gives
 read_under-returns-in_err-read_own-in-Under-clause-gives t c =
     let p = err_from_is_err_and c.from_residual-in_err-read_own-in-Under.result c.from_residual-in_err-read_own-in-Under.ensures.1 in
-    rw (p.1, p.2) (under_stops c.args.level.now.table.now (read_within c.args.level.now.depth c.args.level.now.table.now) c.loop.counter c.loop.at.0 (omega (arith, c.loop-test.true)) (progress_of c.loop.reached (bits_left c.loop.reader)) (bits_left c.loop.reader) c.in-Under.child.0 (stop_at c.read_own.new.path c.in_err-read_own-in-Under.field-0.0) _ (c.in-Under.ensures ∙ ap (λ fs. next c.args.level.now.table.now c.loop.at.0 (fields_of fs)) c.as_slice.ensures.value) c.loop.invariant.read c.in_err-read_own-in-Under.ensures.gives)
+    rw (p.1, p.2) (under_stops c.args.level.now.table.now (read_within c.args.level.now.depth c.args.level.now.table.now) c.loop.counter c.loop.at.0 (omega (arith, c.loop-test.true)) (progress_of c.loop.reached (bits_left c.loop.reader)) (bits_left c.loop.reader) c.in-Under.child.0 (stop_at c.read_own.new.path c.in_err-read_own-in-Under.field-0.0) _ (c.in-Under.ensures) c.loop.invariant.read c.in_err-read_own-in-Under.ensures.gives)
 
 pub read_under-loop-preserved : goal.read_under-loop-preserved
 read_under-loop-preserved t c =
     record {
       root = c.in_ok-read_own-in-Under.ensures.calm;
       begun = c.in_ok-read_own-in-Under.ensures.begun;
-      low = child_is_low c.args.level.now.table.now c.loop.invariant.low.rules (c.args.level.now.depth + 1) c.loop.at.0 c.in-Under.child.0 (fields_of c.loop.reached.fields.items) c.loop.invariant.low.low (c.in-Under.ensures ∙ ap (λ fs. next c.args.level.now.table.now c.loop.at.0 (fields_of fs)) c.as_slice.ensures.value);
-      read = under_goes c.args.level.now.table.now (read_within c.args.level.now.depth c.args.level.now.table.now) c.loop.counter c.loop.at.0 (omega (arith, c.loop-test.true)) (progress_of c.loop.reached (bits_left c.loop.reader)) (bits_left c.loop.reader) c.in-Under.child.0 (progress_of c.read_own.new.reached (bits_left c.read_own.new.reader)) (bits_left c.read_own.new.reader) _ (c.in-Under.ensures ∙ ap (λ fs. next c.args.level.now.table.now c.loop.at.0 (fields_of fs)) c.as_slice.ensures.value) c.loop.invariant.read c.in_ok-read_own-in-Under.ensures.gives;
+      low = child_is_low c.args.level.now.table.now c.loop.invariant.low.rules (c.args.level.now.depth + 1) c.loop.at.0 c.in-Under.child.0 (fields_of c.loop.reached.fields) c.loop.invariant.low.low (c.in-Under.ensures);
+      read = under_goes c.args.level.now.table.now (read_within c.args.level.now.depth c.args.level.now.table.now) c.loop.counter c.loop.at.0 (omega (arith, c.loop-test.true)) (progress_of c.loop.reached (bits_left c.loop.reader)) (bits_left c.loop.reader) c.in-Under.child.0 (progress_of c.read_own.new.reached (bits_left c.read_own.new.reader)) (bits_left c.read_own.new.reader) _ (c.in-Under.ensures) c.loop.invariant.read c.in_ok-read_own-in-Under.ensures.gives;
     }
 
 pub read_under-returns-clause-gives : goal.read_under-returns-clause-gives
@@ -377,5 +373,5 @@ read_under-returns-clause-gives t c =
     let path = ap (λ p. Err (fault_at NoDerived p)) (sym (c.put_first.ensures ∙ ap (λ old. step.Choice c.loop.at ∷ old) c.loop.invariant.root)) in
     elim c.loop-test.branch [
       | read_under-else-loop-test w ↦ under_ends c.args.level.now.table.now (read_within c.args.level.now.depth c.args.level.now.table.now) c.loop.counter c.loop.at.0 (progress_of c.loop.reached (bits_left c.loop.reader)) (bits_left c.loop.reader) _ (omega (arith, w.loop-test.false)) c.loop.invariant.read ∙ path
-      | read_under-then-loop-test+in-Nowhere w ↦ nowhere_is c.args.level.now.table.now (read_within c.args.level.now.depth c.args.level.now.table.now) c.loop.counter c.loop.at.0 (omega (arith, w.loop-test.true)) (progress_of c.loop.reached (bits_left c.loop.reader)) (bits_left c.loop.reader) _ (w.in-Nowhere.ensures ∙ ap (λ fs. next c.args.level.now.table.now c.loop.at.0 (fields_of fs)) w.as_slice.ensures.value) c.loop.invariant.read ∙ path
+      | read_under-then-loop-test+in-Nowhere w ↦ nowhere_is c.args.level.now.table.now (read_within c.args.level.now.depth c.args.level.now.table.now) c.loop.counter c.loop.at.0 (omega (arith, w.loop-test.true)) (progress_of c.loop.reached (bits_left c.loop.reader)) (bits_left c.loop.reader) _ (w.in-Nowhere.ensures) c.loop.invariant.read ∙ path
     ]

@@ -10,7 +10,7 @@ loop-preserved c =
     let n = c.args.operation.now.bits in
     let b = bits_left c.args.reader.now in
     let so = c.loop.invariant in
-    let put = on_true c.in_ok-put_value.field-0 c.in_ok-put_value.ensures c.if-not-branch.false in
+    let put = on_true c.in_ok-put_value.field-0 c.in_ok-put_value.ensures.put c.if-not-branch.false in
     let enough : c.loop.at + n ≤ length b = grind (arith, c.requires.enough, so.place, c.loop-test.true) in
     record {
       place = omega (arith, so.place, c.from.ensures);

@@ -23,7 +23,7 @@ returns-in_ok-keep_field-in-Ok-clause-gives c = λ p.
 
 pub returns-in_ok-keep_field-in-Ok-clause-begun : goal.returns-in_ok-keep_field-in-Ok-clause-begun
 returns-in_ok-keep_field-in-Ok-clause-begun c =
-    under_way c.args.reached.now c.keep_field.new.reached (bits_left c.args.reader.now) (bits_left c.read_octets.new.reader) c.requires.begun (octets_move c.in-Some.octets (bits_left c.args.reader.now) (plain c.in-Ok.value) (bits_left c.read_octets.new.reader) c.in-Ok.ensures.gives) c.keep_field.ensures.octets c.keep_field.ensures.start
+    under_way c.args.reached.now c.keep_field.new.reached (bits_left c.args.reader.now) (bits_left c.read_octets.new.reader) c.requires.begun c.in_ok-keep_field-in-Ok.ensures.held (octets_move c.in-Some.octets (bits_left c.args.reader.now) (plain c.in-Ok.value) (bits_left c.read_octets.new.reader) c.in-Ok.ensures.gives) c.keep_field.ensures.octets c.keep_field.ensures.start
 
 pub returns-in-Err-clause-gives : goal.returns-in-Err-clause-gives
 returns-in-Err-clause-gives c = λ p.

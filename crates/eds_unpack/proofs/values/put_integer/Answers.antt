@@ -10,8 +10,8 @@ use Rattle.eds_types.proofs.ReadingTests.{within_is}
 use Rattle.eds_unpack.proofs.Meanings.{put_last, ranged_is}
 use Rattle.eds_unpack.proofs.values.put_integer.Goals as goal
 
-pub returns : goal.returns
-returns c =
+pub returns-clause-put : goal.returns-clause-put
+returns-clause-put c =
     let fits : SFits w128 c.in-Some.found = search rules in
     let z = to_z-of_z w128 c.in-Some.found fits in
     let items : c.push.new.self.items ≡ c.args.values.now.items ++ value.Num c.in-Some.found ∷ [] = search rules in

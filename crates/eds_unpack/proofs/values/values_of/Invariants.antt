@@ -1,9 +1,0 @@
-use Rattle.std.proofs.Common.{map, take}
-use Rattle.std.specs.List.{AllZip}
-use Rattle.eds_bits.specs.Reader.{bits_left}
-use Rattle.eds_types.specs.Plain.{plain}
-use Rattle.eds_unpack.specs.Segments.{Says}
-use Rattle.eds_unpack.proofs.values.values_of.Given as goal
-
-abbrev pub invariant-loop-operation : goal.invariant-loop-operation
-invariant-loop-operation l = AllZip (Says l.table (bits_left l.reader)) (take l.operation-index l.operations) (map plain l.values.items)
