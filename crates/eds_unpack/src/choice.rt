@@ -1,6 +1,6 @@
 //! The choice of the most derived container.
 
-ghost use Rattle.std.specs.Prelude.{◌≡◌, List, ◌&&◌, ◌==◌, not, length, option_map, unwrap_or, slice_get};
+ghost use Rattle.std.specs.Prelude.{◌≡◌, List, true, ◌&&◌, ◌==◌, not, length, option_map, unwrap_or, slice_get};
 ghost use Rattle.std.specs.List.{AllByRecursion, list_all, flat_map};
 ghost use Rattle.eds_base.specs.declared.ids.TypeId.{TypeId as Id};
 ghost use Rattle.eds_types.specs.Families.{first_of};
@@ -100,6 +100,24 @@ fn meets_all(
     true
 }
 
+/// Whether those of a container's chain do, where its own do.
+fn meets_bases(
+    table: &TypeTable,
+    id: TypeId,
+    chain: &[TypeId],
+    known: &Known<'_>,
+    under: TypeId,
+) -> bool
+    requires { numbers_of chain.now ≡ chain_of table.now id.0 }
+    ensures { (fs : List Field) → TellsChoice table.now id.0 fs known.now → list_all (meets table.now id.0 fs) (constraints_of table.now under.0) ≡ true → result ≡ list_all (meets table.now id.0 fs) (constraints_along table.now under.0) }
+{
+    let line = table.chain_of(under);
+    match line.as_slice() {
+        [bases @ .., _] => meets_all(table, id, chain, known, bases),
+        [] => true,
+    }
+}
+
 /// Whether those of a container's chain do. Its own come first, since these tell it from its siblings.
 fn fits_under(
     table: &TypeTable,
@@ -112,7 +130,7 @@ fn fits_under(
     ensures { (fs : List Field) → TellsChoice table.now id.0 fs known.now → result ≡ list_all (meets table.now id.0 fs) (constraints_along table.now under.0) }
 {
     meets_own(table, id, chain, known, table.constraints_of(under))
-        && meets_all(table, id, chain, known, table.chain_of(under).as_slice())
+        && meets_bases(table, id, chain, known, under)
 }
 
 /// The first of some containers, strictly under another one, that may be that of the fields.

@@ -1,18 +1,19 @@
 use Rattle.std.proofs.Common.{◌≡◌, Bool, false, ◌∙◌, ap, subst, sym}
 use Rattle.std.specs.Prelude.{◌&&◌}
-use Rattle.std.specs.List.{AllByRecursion, list_all, flat_map}
+use Rattle.std.specs.List.{AllByRecursion, list_all}
 use Rattle.eds_types.specs.declared.row.Constraint.{Constraint}
 use Rattle.eds_types.specs.Fields.{constraints_along}
-use Rattle.eds_types.specs.Rows.{chain, constraints_of}
+use Rattle.eds_types.specs.Rows.{constraints_of}
 use Rattle.eds_types.specs.Choices.{meets}
-use Rattle.eds_types.proofs.Candidates.{numbers_are, own_along}
+use Rattle.eds_types.proofs.Candidates.{own_along}
 use Rattle.eds_unpack.specs.Choices.{TellsAbove}
 use Rattle.eds_unpack.proofs.choice.fits_under.Goals as goal
 
 pub returns-then-meets_own : goal.returns-then-meets_own
 returns-then-meets_own c = λ fs h.
-    (c.meets_all.ensures fs h
-    ∙ ap (λ ys. list_all (meets c.args.table.now c.args.id.0 fs) (flat_map (constraints_of c.args.table.now) ys)) (numbers_are c.as_slice.result.now (chain c.args.table.now c.args.under.0) (c.as_slice.ensures.value ∙ c.chain_of.ensures)))
+    (let m : Constraint → Bool = meets c.args.table.now c.args.id.0 fs in
+    let told = subst (AllByRecursion (TellsAbove c.args.table.now c.args.id.0 fs c.args.known.now)) (sym c.constraints_of.ensures) (h c.args.under.0) in
+    c.meets_bases.ensures fs h (sym (c.meets_own.ensures fs told ∙ ap (list_all m) c.constraints_of.ensures) ∙ c.if-meets_own.true))
 
 pub returns-else-meets_own : goal.returns-else-meets_own
 returns-else-meets_own c = λ fs h.
