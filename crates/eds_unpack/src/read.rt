@@ -291,6 +291,7 @@ fn read_entry(
         return read_tail(
             level.alloc,
             level.table,
+            level.segments,
             most,
             container,
             place,

@@ -1,12 +1,15 @@
 //! The segments of the containers of a table.
 
 ghost use Rattle.std.specs.Prelude.{◌≡◌, Some, slice_get, IfOk, IfSome};
+ghost use Rattle.eds_types.specs.Sizes.{trailers_size};
 ghost use Rattle.eds_unpack.specs.Segments.{IsHeadOf, IsSegmentOf};
 ghost use Rattle.eds_unpack.specs.Selectors.{IsSelectorOf};
+ghost use Rattle.eds_unpack.specs.Tails.{limited};
 
 use crate::operations::segment_of;
 use crate::segment::Segment;
 use crate::selector::{Selector, selectors_of};
+use crate::tail::{trailers_along, trailers_of_all};
 use eds_base::{Memory, TypeId};
 use eds_types::TypeTable;
 use std::alloc::Global;
@@ -34,6 +37,14 @@ fn selector_at(selectors: &[Option<Selector>], id: TypeId) -> Option<&Selector>
     }
 }
 
+/// The size at the number of a container, if there is one.
+#[inline(always)]
+fn size_at(sizes: &[Option<u128>], id: TypeId) -> Option<u128>
+    ensures { IfSome result (λ size. slice_get sizes.now id.0 ≡ Some (Some size)) }
+{
+    *sizes.get(id.0 as usize)?
+}
+
 /// The scalars that the containers of a table begin with as lists of operations, made ready to read many values of any of its
 /// types (`unpack_by`). With them are the selectors of containers with large families. It refers to its table.
 #[derive(Drop)]
@@ -43,6 +54,8 @@ pub struct Segments<'a> {
     each: Vec<Option<Segment>>,
     // each at the number of its container; not every one has one
     selectors: Vec<Option<Selector>>,
+    // in bits, each at the number of its container; only those that end with an open binary have one
+    trailers: Vec<Option<u128>>,
 }
 
 impl<'a> Model for Segments<'a> {
@@ -51,6 +64,7 @@ impl<'a> Model for Segments<'a> {
     ghost use Rattle.eds_types.specs.contracts.value.Value as value;
     ghost use Rattle.eds_unpack.specs.Segments.{AreSegments};
     ghost use Rattle.eds_unpack.specs.Selectors.{AreSelectors};
+    ghost use Rattle.eds_unpack.specs.Tails.{AreBehind};
     ghost use Rattle.std.specs.Coded.{codes};
 
     ghost Value = { List TypeRow };
@@ -59,7 +73,7 @@ impl<'a> Model for Segments<'a> {
 
     ghost view = { λ s. s.table.now };
 
-    ghost invariant = { λ s. AreSegments s.table.now s.each.items × AreSelectors s.table.now s.selectors.items };
+    ghost invariant = { λ s. AreSegments s.table.now s.each.items × AreSelectors s.table.now s.selectors.items × AreBehind s.table.now s.trailers.items };
 }
 
 impl<'a> Segments<'a> {
@@ -71,6 +85,7 @@ impl<'a> Segments<'a> {
             table,
             each: Vec::new(alloc),
             selectors: Vec::new(alloc),
+            trailers: Vec::new(alloc),
         }
     }
 
@@ -84,10 +99,12 @@ impl<'a> Segments<'a> {
             each.push(segment)?;
         }
         let selectors = selectors_of(alloc, table)?;
+        let trailers = trailers_of_all(alloc, table)?;
         Ok(Segments {
             table,
             each,
             selectors,
+            trailers,
         })
     }
 
@@ -123,5 +140,15 @@ impl<'a> Segments<'a> {
         ensures { IfSome result (λ s. IsSelectorOf self.now id.0 s.now) }
     {
         selector_at(self.selectors.as_slice(), id)
+    }
+
+    /// The size of the trailers of a container's chain in bits, which is known beforehand where a tail stands before them.
+    pub(crate) fn trailers_along(&self, id: TypeId) -> u128
+        ensures { result ≡ limited (trailers_size self.now id.0) }
+    {
+        match size_at(self.trailers.as_slice(), id) {
+            Some(size) => size,
+            None => trailers_along(self.table, id),
+        }
     }
 }

@@ -1,21 +1,22 @@
 //! Open binaries at the ends of containers.
 
-ghost use Rattle.std.specs.Prelude.{◌≡◌, ◌+◌, ◌≤◌, ◌^◌, ◌*◌, [], ℕ, length, unwrap_or, reverse, pos, nat_abs, IfErr, IfSome, OnOk};
+ghost use Rattle.std.specs.Prelude.{◌≡◌, ◌+◌, ◌≤◌, ◌^◌, ◌*◌, [], ℕ, length, unwrap_or, reverse, pos, nat_abs, IfErr, IfOk, IfSome, OnOk};
 ghost use Rattle.eds_bits.specs.Reader.{bits_left};
 ghost use Rattle.eds_types.specs.Failing.{length_path};
 ghost use Rattle.eds_types.specs.Reading.{octets_left, tail_octets, tail_room, read_tail as tail_read};
 ghost use Rattle.eds_types.specs.declared.row.Part.{Part as Piece};
 ghost use Rattle.eds_types.specs.Spelling.{Progress};
-ghost use Rattle.eds_types.specs.Sizes.{open_by, tail_of, size_within, kind_size, part_size};
+ghost use Rattle.eds_types.specs.Sizes.{open_by, tail_of, size_within, kind_size, part_size, trailers_size};
 ghost use Rattle.eds_unpack.specs.Courses.{IsUnderWay, progress_of};
 ghost use Rattle.eds_unpack.specs.Entries.{placed};
 ghost use Rattle.eds_unpack.specs.Readers.{Gives, with_path, StopsReading};
-ghost use Rattle.eds_unpack.specs.Tails.{limit, limited, limited_size, sizes_of, trailers_sizes};
+ghost use Rattle.eds_unpack.specs.Tails.{AreBehind, limit, limited, limited_size, sizes_of, trailers_sizes};
 
 use crate::octets::read_octets;
 use crate::progress::{Reached, bits_before, keep_field};
 use crate::seek::length_step;
-use eds_base::{Fail, Path, Reason, Step, TypeId};
+use crate::segments::Segments;
+use eds_base::{Fail, Memory, Path, Reason, Step, TypeId};
 use eds_bits::BitReader;
 use eds_types::{Kind, Part, TypeTable, row_of};
 use std::alloc::Global;
@@ -132,6 +133,34 @@ fn trailers_size(table: &TypeTable, chain: &[TypeId]) -> u128
     size
 }
 
+/// The size of the trailers of a container's chain in bits.
+pub(crate) fn trailers_along(table: &TypeTable, id: TypeId) -> u128
+    ensures { result ≡ limited (trailers_size table.now id.0) }
+{
+    let chain = table.chain_of(id);
+    trailers_size(table, chain.as_slice())
+}
+
+/// The size of the trailers behind a container's tail, if its entries end with one.
+fn trailers_behind(table: &TypeTable, id: TypeId) -> Option<u128>
+    ensures { IfSome result (λ size. size ≡ limited (trailers_size table.now id.0)) }
+{
+    let last = table.entries_of(id).last()?;
+    open_bits(table, last)?;
+    Some(trailers_along(table, id))
+}
+
+/// The size of the trailers behind the tail of each container of a table, at its number, if its entries end with one.
+pub(crate) fn trailers_of_all(alloc: Global, table: &TypeTable) -> Result<Vec<Option<u128>>, Memory>
+    ensures { IfOk result (λ each. AreBehind table.now each.items) }
+{
+    let mut each = Vec::with_capacity(alloc, table.len() as usize)?;
+    for number in 0..table.len() {
+        each.push(trailers_behind(table, TypeId(number)))?;
+    }
+    Ok(each)
+}
+
 /// How many octets a tail of at most so many bits has, where the length entry tells octets, and the other parts have some.
 fn tail_octets(most: u32, told: Option<i128>, others: u128) -> Option<u32>
     requires told { IfSome told (λ n. nat_abs n ≤ 2 ^ 97) }
@@ -162,17 +191,18 @@ fn tail_octets(most: u32, told: Option<i128>, others: u128) -> Option<u32>
 /// entry told octets; None where it told another number than any tail would make.
 pub(crate) fn tail_octets_left(
     table: &TypeTable,
+    segments: &Segments<'_>,
     most: u32,
     container: TypeId,
     told: Option<i128>,
     before: u64,
 ) -> Option<u32>
-    requires { IfSome told (λ n. nat_abs n ≤ 2 ^ 97) }
+    requires same { segments.now ≡ table.now }
+    requires told { IfSome told (λ n. nat_abs n ≤ 2 ^ 97) }
     ensures value { (s : Progress) (i : ℕ) (p : Piece) → s.octets ≡ told → length s.before ≡ before → result ≡ tail_room table.now most s (placed container.0 i p) }
     ensures few { IfSome result (λ j. 8 * j ≤ most) }
 {
-    let chain = table.chain_of(container);
-    let trailers = trailers_size(table, chain.as_slice());
+    let trailers = segments.trailers_along(container);
     tail_octets(most, told, (u128::from(before) + trailers).div_ceil(8))
 }
 
@@ -180,17 +210,19 @@ pub(crate) fn tail_octets_left(
 /// tells another number than any tail would make.
 fn tail_room(
     table: &TypeTable,
+    segments: &Segments<'_>,
     most: u32,
     container: TypeId,
     reached: &Reached<'_>,
     reader: &BitReader<'_>,
 ) -> Option<u32>
+    requires same { segments.now ≡ table.now }
     requires begun { IsUnderWay reached.now (bits_left reader.now) }
     ensures value { (i : ℕ) (p : Piece) → result ≡ tail_room table.now most (progress_of reached.now (bits_left reader.now)) (placed container.0 i p) }
     ensures few { IfSome result (λ j. 8 * j ≤ most) }
 {
     let before = bits_before(reached, reader);
-    tail_octets_left(table, most, container, reached.octets, before)
+    tail_octets_left(table, segments, most, container, reached.octets, before)
 }
 
 /// Reads a tail of at most so many bits, the part at a place of a container: it has the size that the length entry leaves
@@ -198,6 +230,7 @@ fn tail_room(
 pub(crate) fn read_tail(
     alloc: Global,
     table: &TypeTable,
+    segments: &Segments<'_>,
     most: u32,
     container: TypeId,
     place: u16,
@@ -205,6 +238,7 @@ pub(crate) fn read_tail(
     path: &mut Path,
     reader: &mut BitReader,
 ) -> Result<(), Fail<Reason>>
+    requires same { segments.now ≡ table.now }
     requires begun { IsUnderWay reached.old (bits_left reader.old) }
     requires root { path.old ≡ [] }
     ensures gives { (p : Piece) → Gives (λ u. (progress_of reached.new (bits_left reader.new), bits_left reader.new)) (with_path path.new result) (tail_read table.now (tail_room table.now most (progress_of reached.old (bits_left reader.old)) (placed container.0 place p)) (progress_of reached.old (bits_left reader.old)) (placed container.0 place p) (bits_left reader.old)) }
@@ -213,7 +247,7 @@ pub(crate) fn read_tail(
     ensures calm { OnOk result (path.new ≡ []) }
     ensures reason { IfErr result StopsReading }
 {
-    match tail_room(table, most, container, reached, reader) {
+    match tail_room(table, segments, most, container, reached, reader) {
         Some(octets) => match read_octets(alloc, 8 * octets, reader) {
             Ok(value) => Ok(keep_field(reached, container, place, value)?),
             Err(stop) => {

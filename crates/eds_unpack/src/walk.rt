@@ -305,7 +305,8 @@ fn walk_tail(
     ensures reason { IfErr result IsOfReading }
 {
     let before = bits_between(&walked.start, reader);
-    match tail_octets_left(walk.table, most, container, walked.octets, before) {
+    let told = walked.octets;
+    match tail_octets_left(walk.table, walk.segments, most, container, told, before) {
         Some(octets) => match skim_octets(8 * octets, reader) {
             Ok(()) => {
                 note_field(walk.notes, numbers, container, place, None);
