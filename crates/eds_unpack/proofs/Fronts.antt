@@ -72,6 +72,13 @@ module _ (law : ReadingIsExact) (t : Table) (id : ℕ) (is : IsReadable t id) (b
       let front : take n b ≡ h.0 = ap (λ m. take m b) k ∙ ap (take (length h.0)) h.1 ∙ take_front h.0 s.rest in
       (omega (arith, ap length h.1, length-append h.0 s.rest), subst (Spells t id v) (sym front) h.2)
 
+  -- the value is spelled by as many bits as its size
+  pub size_fits : (v : Plain) (n : ℕ) → sized b (read_type t id b) ≡ Ok (v, n) → n ≤ length b
+  size_fits v n e = (spelled v n (is_sized v n e)).0
+
+  pub front_spells : (v : Plain) (n : ℕ) → sized b (read_type t id b) ≡ Ok (v, n) → Spells t id v (take n b)
+  front_spells v n e = (spelled v n (is_sized v n e)).1
+
   abbrev pub IsAnswer : Result (Value × ℕ) (Fail Fault) → Type 0
   IsAnswer result = Gives (λ x. (plain x.0, x.1)) result (sized b (read_type t id b))
 

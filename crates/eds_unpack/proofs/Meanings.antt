@@ -1,8 +1,7 @@
 -- What operations make of bits is what the kinds of their types say.
-use Rattle.std.proofs.Common.{◌≡◌, ℕ, ◌+◌, ◌-◌, ◌/◌, ◌%◌, ◌^◌, ◌<◌, ◌≤◌, ℤ, pos, ◌-ℤ◌, ◌+ℤ◌, Bool, true, false, cond, eqb, not, List, [], ◌∷◌, ◌++◌, length, map, Option, Some, None, Ok, Err, refl, sym, ap, subst, ◌∙◌, arith, rules, inl, inr}
-use Rattle.std.specs.Prelude.{◌≤ℤ◌, Result, IfSome, slice_get, is_none}
+use Rattle.std.proofs.Common.{◌≡◌, ℕ, ◌+◌, ◌-◌, ◌/◌, ◌%◌, ◌^◌, ◌<◌, ◌≤◌, ℤ, pos, ◌-ℤ◌, ◌+ℤ◌, Bool, true, false, cond, eqb, not, List, [], ◌∷◌, ◌++◌, length, map, Option, Some, None, Ok, Err, refl, sym, ap, subst, ◌∙◌, arith, inl, inr}
+use Rattle.std.specs.Prelude.{◌≤ℤ◌, Result, IfSome, slice_get, is_none, is_some}
 use Rattle.std.specs.Bool.{OnTrue}
-use mathlib.Core.Bool.{beq}
 use Rattle.std.proofs.lemmas.Bool.{cases_lt, le-ltb, lt-ltb}
 use Rattle.std.proofs.lemmas.Int.{ints}
 use Rattle.std.proofs.lemmas.List.{map-append}
@@ -24,13 +23,10 @@ use Rattle.eds_bits.proofs.Groups.{little-swapped}
 use Rattle.eds_bits.proofs.Patterns.{unsigned_pattern, twos_positive, twos_negative, ones_positive, ones_negative}
 use Rattle.eds_codec.proofs.Booleans.{is_zero_number}
 use Rattle.eds_types.specs.Failing.{fault_here}
-use Rattle.eds_types.specs.declared.value.Value.{Value, the_lemmas}
-use Rattle.eds_types.specs.declared.value.Value.TheVariants.{rolls-Label}
+use Rattle.eds_types.specs.declared.value.Value.{Value}
 use Rattle.eds_types.specs.declared.value.Value.TheVariants as value
-use Rattle.eds_types.specs.declared.value.Value.TheOpen.{Value-F}
-use Rattle.eds_types.specs.declared.value.Value.TheFolds.{fold-roll-Value}
-use Rattle.eds_types.specs.Plain.{Plain, plain, plain_step, num, label, truth}
-use Rattle.eds_types.specs.Reading.{is_within, ranged, label_of, label_as, named, truth_of}
+use Rattle.eds_types.specs.Plain.{Plain, plain, num, truth}
+use Rattle.eds_types.specs.Reading.{is_within, ranged, truth_of}
 use Rattle.eds_types.proofs.ReadingTests.{within_in}
 use Rattle.eds_base.specs.declared.ids.TypeId.{TypeId}
 use Rattle.eds_types.specs.declared.row.Kind.{Kind}
@@ -133,11 +129,6 @@ number_agrees form spans r few little big numbers within =
           (within (made r form.bits x) low high),
     )
 
--- ---- labels
-
-pub named_is : (listing : List (List ℕ × ℤ)) (o : Option ℤ) (n : ℤ) (l : List ℕ) → o ≡ Some n → label_of listing listing n ≡ Some l → named listing o ≡ Ok (label l)
-named_is listing o n l e f = ap (named listing) e ∙ ap label_as f
-
 -- ---- truth values
 
 pub truth_agrees : (form : BoolForm) → Agrees (λ c. Ok (truth (truth_of form c))) form.bits (meaning.Truth form.zero_is_false)
@@ -173,24 +164,8 @@ truth_is_sure value n zero_is_false agrees = λ x h. (truth (truth_by zero_is_fa
 
 -- ---- values that are put last
 
-pub plain_label : (l : List ℕ) → plain (value.Label l) ≡ label l
-plain_label l = ap plain (sym (rolls-Label l)) ∙ fold-roll-Value Plain plain_step (Value-F.Label l)
-
-pub plain_truth : (b : Bool) → plain (value.Bool b) ≡ truth b
-plain_truth b = search (rules, the_lemmas)
-
 pub put_last : (found : Result Plain Fault) (old new : List Value) (x : Value) (v : Plain) → new ≡ old ++ x ∷ [] → plain x ≡ v → found ≡ Ok v → IsPut found old new
 put_last found old new x v e p f = record { value = v; is = f; last = ap (map plain) e ∙ map-append plain old (x ∷ []) ∙ ap (λ w. map plain old ++ w ∷ []) p }
-
--- the truth value that a test of the number gives
-pub truth_is : (zero_is_false : Bool) (x : ℕ) → beq (not (eqb x 0)) zero_is_false ≡ truth_by zero_is_false x
-truth_is zero_is_false x = cases (eqb x 0) zero_is_false
-  where
-    cases : (zero zif : Bool) → beq (not zero) zif ≡ cond zero (not zif) zif
-    cases true true = refl
-    cases true false = refl
-    cases false true = refl
-    cases false false = refl
 
 -- ---- operations
 
@@ -243,3 +218,7 @@ on_true false h e = absurd cc
 pub some_weaker : {A : Type 0} (P Q : A → Type 0) (o : Option A) → ((x : A) → P x → Q x) → IfSome o P → IfSome o Q
 some_weaker P Q None f h = tt
 some_weaker P Q (Some x) f h = f x h
+
+pub some_has : {A : Type 0} (P : A → Type 0) (o : Option A) (b : Bool) → IfSome o P → b ≡ is_some o → b ≡ true → (x : A) × P x
+some_has P None b h e t = absurd (cc (e, t))
+some_has P (Some x) b h e t = (x, h)

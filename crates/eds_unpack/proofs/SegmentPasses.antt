@@ -46,10 +46,15 @@ all_values : (t : Table) (b : Bits) (os : List Operation) → AllByRecursion (Ha
 all_values t b [] h = record { values = []; say = tt }
 all_values t b (o ∷ os) h = let more = all_values t b os h.1 in record { values = (h.0).0 ∷ more.values; say = ((h.0).1, more.say) }
 
+-- the container is read as the values of its operations, and has so many bits
+pub segment_sized : (t : Table) (rules : KeepsRules t) (id : ℕ) (s : Segment) (b : Bits) (vs : List Plain) → IsSegmentOf t id s → s.bits ≤ length b → AllZip (Says t b) s.operations.items vs → sized b (read_type t id b) ≡ Ok (fields id (plains_of vs), s.bits)
+segment_sized t rules id s b vs is enough say =
+    let low : IsLow t 32 id = record { rules = rules; low = rules.nesting id } in
+    let reads : read_type t id b ≡ Ok (fields id (plains_of vs), drop s.bits b) = container_row t 31 id b (concrete t id is.straight) ∙ segment_reads t id s b vs is enough say 31 low in
+    let size : length b - length (drop s.bits b) ≡ s.bits = omega (arith, length-drop s.bits b) in
+    ap (sized b) reads ∙ ap (λ n. Ok (fields id (plains_of vs), n)) size
+
 pub segment_passes : (t : Table) (rules : KeepsRules t) (id : ℕ) (s : Segment) (b : Bits) → IsSegmentOf t id s → s.bits ≤ length b → All (HasValue t b) s.operations.items → (v : Plain) × (sized b (read_type t id b) ≡ Ok (v, s.bits)) × (type_of id v ≡ id)
 segment_passes t rules id s b is enough have =
     let all = all_values t b s.operations.items (recursion_from_All (HasValue t b) s.operations.items have) in
-    let low : IsLow t 32 id = record { rules = rules; low = rules.nesting id } in
-    let reads : read_type t id b ≡ Ok (fields id (plains_of all.values), drop s.bits b) = container_row t 31 id b (concrete t id is.straight) ∙ segment_reads t id s b all.values is enough all.say 31 low in
-    let size : length b - length (drop s.bits b) ≡ s.bits = omega (arith, length-drop s.bits b) in
-    (fields id (plains_of all.values), ap (sized b) reads ∙ ap (λ n. Ok (fields id (plains_of all.values), n)) size, refl)
+    (fields id (plains_of all.values), segment_sized t rules id s b all.values is enough all.say, refl)

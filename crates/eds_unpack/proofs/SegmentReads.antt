@@ -93,15 +93,21 @@ zip_more R (w ∷ xs) (z ∷ ys) x y h r = (h.0, zip_more R xs ys x y h.1 r)
 pub none_put : (t : Table) (b : Bits) (old new : List Value) → new ≡ old → ArePut t b [] old new
 none_put t b old new e = record { values = []; said = tt; last = ap (map plain) e ∙ sym (append-nil (map plain old)) }
 
--- one value more
+-- one operation more says its value
+pub say_more : (t : Table) (b : Bits) (ops : List Operation) (i : ℕ) (o : Operation) (x : ℕ) (v : Plain) (vs : List Plain) → i < length ops → o ≡ get_or ops i o → All (λ (o : Operation). o.at + o.bits ≤ length b) ops → x ≡ unsigned_of (take o.bits (drop o.at b))
+    → value_in (slice_get t o.id.0) (low_bits o.bits x) ≡ Ok v → AllZip (Says t b) (take i ops) vs → AllZip (Says t b) (take (i + 1) ops) (vs ++ v ∷ [])
+say_more t b ops i o x v vs lt is within e found so =
+    let here : o.at + o.bits ≤ length b = subst (λ (o : Operation). o.at + o.bits ≤ length b) (sym is) (All-get_or (λ (o : Operation). o.at + o.bits ≤ length b) ops i o lt within) in
+    let grown : take (i + 1) ops ≡ take i ops ++ o ∷ [] = take_more ops i o lt ∙ ap (λ p. take i ops ++ p ∷ []) (sym is) in
+    subst (λ os. AllZip (Says t b) os (vs ++ v ∷ [])) (sym grown) (zip_more (Says t b) (take i ops) vs o v so (said t b o x v here e found))
+
+-- one value more is put
 pub values_more : (t : Table) (b : Bits) (ops : List Operation) (i : ℕ) (o : Operation) (x : ℕ) (start old new : List Value) → i < length ops → o ≡ get_or ops i o → All (λ (o : Operation). o.at + o.bits ≤ length b) ops → x ≡ unsigned_of (take o.bits (drop o.at b))
     → IsPut (value_in (slice_get t o.id.0) (low_bits o.bits x)) old new → ArePut t b (take i ops) start old → ArePut t b (take (i + 1) ops) start new
 values_more t b ops i o x start old new lt is within e put so =
-    let here : o.at + o.bits ≤ length b = subst (λ (o : Operation). o.at + o.bits ≤ length b) (sym is) (All-get_or (λ (o : Operation). o.at + o.bits ≤ length b) ops i o lt within) in
-    let grown : take (i + 1) ops ≡ take i ops ++ o ∷ [] = take_more ops i o lt ∙ ap (λ p. take i ops ++ p ∷ []) (sym is) in
     record {
       values = so.values ++ put.value ∷ [];
-      said = subst (λ os. AllZip (Says t b) os (so.values ++ put.value ∷ [])) (sym grown) (zip_more (Says t b) (take i ops) so.values o put.value so.said (said t b o x put.value here e put.is));
+      said = say_more t b ops i o x put.value so.values lt is within e put.is so.said;
       last = put.last ∙ ap (λ vs. vs ++ put.value ∷ []) so.last ∙ append_assoc (map plain start) so.values (put.value ∷ []);
     }
 

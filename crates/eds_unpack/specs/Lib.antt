@@ -16,6 +16,7 @@ pub mod Index
 pub mod Noted
 pub mod Walks
 pub mod Programs
+pub mod Scalars
 pub mod Segments
 pub mod Items
 pub mod Selectors

@@ -1,19 +1,40 @@
-//! Reading numbers, labels and truth values.
+//! Numbers, labels and truth values, and reading them.
 
-ghost use Rattle.std.specs.Prelude.{◌≡◌, [], Ok, IfErr};
+ghost use Rattle.std.specs.Prelude.{◌≡◌, [], Ok, IfErr, IfOk};
 ghost use Rattle.eds_bits.specs.IntForms.{number_of};
 ghost use Rattle.eds_bits.specs.Reader.{bits_left};
 ghost use Rattle.eds_types.specs.Plain.{plain, truth};
 ghost use Rattle.eds_types.specs.Reading.{judge, read_bits, ranged, named, truth_of};
 ghost use Rattle.eds_unpack.specs.Labels.{AreLabels};
 ghost use Rattle.eds_unpack.specs.Readers.{Gives, with_path, StopsReading};
+ghost use Rattle.eds_unpack.specs.Scalars.{plain_of};
 
 use crate::lookup::label_of;
 use crate::skim::{number, skim_integer, skim_truth};
-use eds_base::{Fail, Reason, Spans, Text};
+use eds_base::{Fail, Memory, Reason, Spans, Text};
 use eds_bits::{BitReader, BoolForm, IntForm};
 use eds_types::{Listing, Value};
 use std::alloc::Global;
+
+/// A number, a label as its type lists it, or a truth value.
+#[derive(Clone, Copy)]
+pub enum Scalar<'a> {
+    Num(i128),
+    Label(&'a str),
+    Bool(bool),
+}
+
+/// The value of a scalar.
+#[inline(always)]
+pub(crate) fn value_of(alloc: Global, scalar: Scalar<'_>) -> Result<Value, Memory>
+    ensures { IfOk result (λ v. plain v ≡ plain_of scalar.entry) }
+{
+    match scalar {
+        Scalar::Num(number) => Ok(Value::Num(number)),
+        Scalar::Label(label) => Ok(Value::Label(Text::of(alloc, label)?)),
+        Scalar::Bool(truth) => Ok(Value::Bool(truth)),
+    }
+}
 
 /// Reads a number of an integer type or sub-range. A digit above 9 comes before a number outside the domain.
 #[inline(always)]

@@ -1,25 +1,22 @@
 //! Reading the values of a container by its segment.
 
-ghost use Rattle.std.specs.Prelude.{◌≡◌, ◌+◌, ◌*◌, ◌%◌, ◌^◌, ◌<◌, ◌≤◌, ℕ, List, Result, Some, true, length, map, take, drop, slice_get, IfOk, IfSome, IfNone};
+ghost use Rattle.std.specs.Prelude.{◌≡◌, ◌+◌, ◌*◌, ◌%◌, ◌^◌, ◌<◌, ◌≤◌, Result, true, length, map, take, drop, slice_get, IfOk, IfSome, IfNone};
 ghost use Rattle.std.specs.Bool.{OnFalse, OnTrue};
 ghost use Rattle.std.specs.List.{All};
 ghost use Rattle.eds_base.specs.declared.fault.Fault.{Fault};
 ghost use Rattle.eds_bits.specs.Bits.{Bits, bits_of, low_bits, unsigned_of};
-ghost use Rattle.eds_bits.specs.IntForms.{number_of};
 ghost use Rattle.eds_bits.specs.Reader.{bits_left};
 ghost use Rattle.eds_types.specs.Plain.{Plain, plain, fields, plains_of};
-ghost use Rattle.eds_types.specs.Reading.{named, ranged};
-ghost use Rattle.eds_types.specs.Rules.{KindKeeps};
 ghost use Rattle.eds_unpack.specs.declared.segment.Meaning.TheVariants.{Number};
-ghost use Rattle.eds_unpack.specs.Labels.{AreLabels};
-ghost use Rattle.eds_unpack.specs.Segments.{Agrees, ArePut, IsOperation, IsPut, IsSegmentOf, ReadsAs, in_order, made, scalar_bits, scalar_of, value_in};
+ghost use Rattle.eds_unpack.specs.Segments.{Agrees, ArePut, IsOperation, IsPut, IsSegmentOf, ReadsAs, value_in};
 
-use crate::lookup::label_of;
-use crate::segment::{Meaning, Numbers, Operation, Segment};
+use crate::meaning::{number_in, scalar_at};
+use crate::scalar::value_of;
+use crate::segment::{Numbers, Operation, Segment};
 use crate::segments::Segments;
-use eds_base::{Memory, Spans, Text, TypeId};
-use eds_bits::{BitReader, IntForm, decode_int};
-use eds_types::{Kind, Listing, TypeTable, Value};
+use eds_base::{Memory, TypeId};
+use eds_bits::BitReader;
+use eds_types::{TypeTable, Value};
 use std::alloc::Global;
 
 /// The unsigned number of eight octets, the most significant first.
@@ -86,40 +83,6 @@ pub(crate) fn number_of_bits(operation: &Operation, octets: &[u8], reader: &BitR
     }
 }
 
-/// The number of so many bits whose number this is, where the octet that counts least may come first.
-#[inline(always)]
-fn in_order(little: bool, bits: u32, number: u64) -> u64
-    requires some { 1 ≤ bits }
-    requires few { bits ≤ 62 }
-    requires whole { little ≡ true → bits % 8 ≡ 0 }
-    requires bound { number < 2 ^ bits }
-    ensures value { result ≡ in_order little bits number }
-    ensures bound { result < 2 ^ bits }
-{
-    if little {
-        number.swap_bytes() >> (64 - bits)
-    } else {
-        number
-    }
-}
-
-/// What the number of so many bits stands for.
-#[inline(always)]
-pub(crate) fn made(numbers: Numbers, bits: u32, number: u64) -> i64
-    requires some { 1 ≤ bits }
-    requires few { bits ≤ 62 }
-    requires whole { numbers.little ≡ true → bits % 8 ≡ 0 }
-    requires bound { number < 2 ^ bits }
-    ensures { result ≡ made numbers bits number }
-{
-    let number = in_order(numbers.little, bits, number);
-    if number < numbers.half {
-        number as i64
-    } else {
-        number as i64 - numbers.less as i64
-    }
-}
-
 /// Puts what the number of so many bits stands for last, if it is of the domain.
 #[inline(always)]
 pub(crate) fn put_number(
@@ -136,76 +99,12 @@ pub(crate) fn put_number(
     ensures put { (value : Bits → Result Plain Fault) → Agrees value bits (Number numbers) → IfOk result (λ put. OnTrue put (IsPut (value (low_bits bits number)) values.old.items values.new.items)) }
     ensures same { IfOk result (λ put. OnFalse put (values.new.items ≡ values.old.items)) }
 {
-    let found = made(numbers, bits, number);
-    if found < numbers.low || numbers.high < found {
-        return Ok(false);
-    }
-    values.push(Value::Num(i128::from(found)))?;
-    Ok(true)
-}
-
-/// Puts the number of an integer type last, if these bits have one in its domain.
-fn put_integer(
-    form: IntForm,
-    spans: &Spans,
-    number: u64,
-    values: &mut Vec<Value>,
-) -> Result<bool, Memory>
-    requires { number < 2 ^ form.bits }
-    ensures put { IfOk result (λ put. OnTrue put (IsPut (ranged spans.now (number_of form (low_bits form.bits number))) values.old.items values.new.items)) }
-    ensures same { IfOk result (λ put. OnFalse put (values.new.items ≡ values.old.items)) }
-{
-    let Some(found) = decode_int(form, number) else {
-        return Ok(false);
-    };
-    if !spans.holds(found) {
-        return Ok(false);
-    }
-    values.push(Value::Num(found))?;
-    Ok(true)
-}
-
-/// Puts the label of an enumerated type last, in which each label and number is listed once, if these bits have one.
-fn put_label(
-    alloc: Global,
-    form: IntForm,
-    listing: &Listing,
-    number: u64,
-    values: &mut Vec<Value>,
-) -> Result<bool, Memory>
-    requires bound { number < 2 ^ form.bits }
-    requires once { AreLabels listing.now }
-    ensures put { IfOk result (λ put. OnTrue put (IsPut (named listing.now (number_of form (low_bits form.bits number))) values.old.items values.new.items)) }
-    ensures same { IfOk result (λ put. OnFalse put (values.new.items ≡ values.old.items)) }
-{
-    let Some(found) = decode_int(form, number) else {
-        return Ok(false);
-    };
-    match label_of(listing, found) {
-        Some(label) => {
-            values.push(Value::Label(Text::of(alloc, label.as_str())?))?;
+    match number_in(numbers, bits, number) {
+        Some(found) => {
+            values.push(Value::Num(i128::from(found)))?;
             Ok(true)
         }
         None => Ok(false),
-    }
-}
-
-/// Puts the value of a number or label last, as its kind tells, if these bits have one. Other kinds have none.
-fn put_told(
-    alloc: Global,
-    kind: &Kind,
-    number: u64,
-    values: &mut Vec<Value>,
-) -> Result<bool, Memory>
-    requires keeps { KindKeeps kind.now }
-    requires bound { (n : ℕ) → scalar_bits kind.now ≡ Some n → number < 2 ^ n }
-    ensures put { (n : ℕ) → scalar_bits kind.now ≡ Some n → IfOk result (λ put. OnTrue put (IsPut (scalar_of kind.now (low_bits n number)) values.old.items values.new.items)) }
-    ensures same { IfOk result (λ put. OnFalse put (values.new.items ≡ values.old.items)) }
-{
-    match kind {
-        Kind::Int(form, spans) => put_integer(*form, spans, number, values),
-        Kind::Enum(form, listing) => put_label(alloc, *form, listing, number, values),
-        _ => Ok(false),
     }
 }
 
@@ -223,16 +122,12 @@ pub(crate) fn put_value(
     ensures put { IfOk result (λ put. OnTrue put (IsPut (value_in (slice_get table.now operation.now.id.0) (low_bits operation.now.bits number)) values.old.items values.new.items)) }
     ensures same { IfOk result (λ put. OnFalse put (values.new.items ≡ values.old.items)) }
 {
-    match operation.meaning {
-        Meaning::Number(numbers) => put_number(numbers, operation.bits, number, values),
-        Meaning::Truth(zero_is_false) => {
-            values.push(Value::Bool((number != 0) == zero_is_false))?;
+    match scalar_at(table, operation, number) {
+        Some(scalar) => {
+            values.push(value_of(alloc, scalar)?)?;
             Ok(true)
         }
-        Meaning::Told => {
-            table.keeps_rules();
-            put_told(alloc, &table.row(operation.id).kind, number, values)
-        }
+        None => Ok(false),
     }
 }
 

@@ -1,7 +1,7 @@
 use Rattle.std.proofs.Common.{◌∙◌, sym, ap, arith}
 use Rattle.eds_unpack.specs.Segments.{in_order}
 use Rattle.eds_unpack.proofs.Meanings.{swapped_is}
-use Rattle.eds_unpack.proofs.values.in_order.Goals as goal
+use Rattle.eds_unpack.proofs.meaning.in_order.Goals as goal
 
 pub returns-then-little-clause-value : goal.returns-then-little-clause-value
 returns-then-little-clause-value c =

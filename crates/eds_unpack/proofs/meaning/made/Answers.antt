@@ -3,7 +3,7 @@ use Rattle.std.proofs.Math.Nat.{pow-le-pow_right}
 use Rattle.std.proofs.lemmas.Int.{ints}
 use Rattle.eds_unpack.specs.Segments.{signed}
 use Rattle.eds_unpack.proofs.Meanings.{signed_is, less_is}
-use Rattle.eds_unpack.proofs.values.made.Goals as goal
+use Rattle.eds_unpack.proofs.meaning.made.Goals as goal
 
 pub overflow_cast-result : goal.overflow_cast-result
 overflow_cast-result c =

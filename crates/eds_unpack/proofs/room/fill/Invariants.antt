@@ -1,0 +1,9 @@
+use Rattle.std.proofs.Common.{map, take}
+use Rattle.std.specs.List.{AllZip}
+use Rattle.eds_bits.specs.Reader.{bits_left}
+use Rattle.eds_unpack.specs.Scalars.{plain_of}
+use Rattle.eds_unpack.specs.Segments.{Says}
+use Rattle.eds_unpack.proofs.room.fill.Given as goal
+
+abbrev pub invariant-loop-operation : goal.invariant-loop-operation
+invariant-loop-operation l = AllZip (Says l.table (bits_left l.reader)) (take l.operation-index l.operations) (map plain_of l.room.items)

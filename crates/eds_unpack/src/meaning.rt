@@ -1,0 +1,131 @@
+//! What the numbers of operations stand for.
+
+ghost use Rattle.std.specs.Prelude.{◌≡◌, ◌%◌, ◌^◌, ◌<◌, ◌≤◌, ℕ, Result, Ok, Some, true, slice_get, IfSome};
+ghost use Rattle.eds_base.specs.declared.fault.Fault.{Fault};
+ghost use Rattle.eds_bits.specs.Bits.{Bits, low_bits};
+ghost use Rattle.eds_bits.specs.IntForms.{number_of};
+ghost use Rattle.eds_types.specs.Plain.{Plain, label, num};
+ghost use Rattle.eds_types.specs.Reading.{named, ranged};
+ghost use Rattle.eds_types.specs.Rules.{KindKeeps};
+ghost use Rattle.eds_unpack.specs.declared.segment.Meaning.TheVariants.{Number};
+ghost use Rattle.eds_unpack.specs.Labels.{AreLabels};
+ghost use Rattle.eds_unpack.specs.Scalars.{plain_of};
+ghost use Rattle.eds_unpack.specs.Segments.{Agrees, IsOperation, in_order, made, scalar_bits, scalar_of, value_in};
+
+use crate::lookup::label_of;
+use crate::scalar::Scalar;
+use crate::segment::{Meaning, Numbers, Operation};
+use eds_base::Spans;
+use eds_bits::{IntForm, decode_int};
+use eds_types::{Kind, Listing, TypeTable};
+
+/// The number of so many bits whose number this is, where the octet that counts least may come first.
+#[inline(always)]
+fn in_order(little: bool, bits: u32, number: u64) -> u64
+    requires some { 1 ≤ bits }
+    requires few { bits ≤ 62 }
+    requires whole { little ≡ true → bits % 8 ≡ 0 }
+    requires bound { number < 2 ^ bits }
+    ensures value { result ≡ in_order little bits number }
+    ensures bound { result < 2 ^ bits }
+{
+    if little {
+        number.swap_bytes() >> (64 - bits)
+    } else {
+        number
+    }
+}
+
+/// What the number of so many bits stands for.
+#[inline(always)]
+fn made(numbers: Numbers, bits: u32, number: u64) -> i64
+    requires some { 1 ≤ bits }
+    requires few { bits ≤ 62 }
+    requires whole { numbers.little ≡ true → bits % 8 ≡ 0 }
+    requires bound { number < 2 ^ bits }
+    ensures { result ≡ made numbers bits number }
+{
+    let number = in_order(numbers.little, bits, number);
+    if number < numbers.half {
+        number as i64
+    } else {
+        number as i64 - numbers.less as i64
+    }
+}
+
+/// What the number of so many bits stands for, if it is of the domain.
+#[inline(always)]
+pub(crate) fn number_in(numbers: Numbers, bits: u32, number: u64) -> Option<i64>
+    requires some { 1 ≤ bits }
+    requires few { bits ≤ 62 }
+    requires whole { numbers.little ≡ true → bits % 8 ≡ 0 }
+    requires bound { number < 2 ^ bits }
+    ensures { (value : Bits → Result Plain Fault) → Agrees value bits (Number numbers) → IfSome result (λ n. value (low_bits bits number) ≡ Ok (num n)) }
+{
+    let found = made(numbers, bits, number);
+    if found < numbers.low || numbers.high < found {
+        return None;
+    }
+    Some(found)
+}
+
+/// The number of an integer type, if these bits have one in its domain.
+fn integer_in(form: IntForm, spans: &Spans, number: u64) -> Option<i128>
+    requires { number < 2 ^ form.bits }
+    ensures { IfSome result (λ n. ranged spans.now (number_of form (low_bits form.bits number)) ≡ Ok (num n)) }
+{
+    let found = decode_int(form, number)?;
+    if spans.holds(found) {
+        Some(found)
+    } else {
+        None
+    }
+}
+
+/// The label of an enumerated type, in which each label and number is listed once, if these bits have one.
+fn label_in(form: IntForm, listing: &Listing, number: u64) -> Option<&str>
+    requires bound { number < 2 ^ form.bits }
+    requires once { AreLabels listing.now }
+    ensures { IfSome result (λ l. named listing.now (number_of form (low_bits form.bits number)) ≡ Ok (label l.now)) }
+{
+    let found = decode_int(form, number)?;
+    let label = label_of(listing, found)?;
+    Some(label.as_str())
+}
+
+/// The number or label of a type, as its kind tells, if these bits have one. Other kinds have none.
+fn told_scalar(kind: &Kind, number: u64) -> Option<Scalar<'_>>
+    requires keeps { KindKeeps kind.now }
+    requires bound { (n : ℕ) → scalar_bits kind.now ≡ Some n → number < 2 ^ n }
+    ensures { (n : ℕ) → scalar_bits kind.now ≡ Some n → IfSome result (λ s. scalar_of kind.now (low_bits n number) ≡ Ok (plain_of s)) }
+{
+    match kind {
+        Kind::Int(form, spans) => Some(Scalar::Num(integer_in(*form, spans, number)?)),
+        Kind::Enum(form, listing) => Some(Scalar::Label(label_in(*form, listing, number)?)),
+        _ => None,
+    }
+}
+
+/// What the number of an operation's bits stands for, if they have a value.
+#[inline(always)]
+pub(crate) fn scalar_at<'a>(
+    table: &'a TypeTable,
+    operation: &Operation,
+    number: u64,
+) -> Option<Scalar<'a>>
+    requires is { IsOperation table.now operation.now }
+    requires bound { number < 2 ^ operation.now.bits }
+    ensures { IfSome result (λ s. value_in (slice_get table.now operation.now.id.0) (low_bits operation.now.bits number) ≡ Ok (plain_of s)) }
+{
+    match operation.meaning {
+        Meaning::Number(numbers) => {
+            let found = number_in(numbers, operation.bits, number)?;
+            Some(Scalar::Num(i128::from(found)))
+        }
+        Meaning::Truth(zero_is_false) => Some(Scalar::Bool((number != 0) == zero_is_false)),
+        Meaning::Told => {
+            table.keeps_rules();
+            told_scalar(&table.row(operation.id).kind, number)
+        }
+    }
+}
