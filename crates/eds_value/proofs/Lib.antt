@@ -19,3 +19,4 @@ pub mod Sorted
 pub mod Strings
 pub mod Pieces
 pub mod Pushed
+pub mod LaidTexts

@@ -20,21 +20,21 @@ use std::mem;
 
 /// A value in an object, and what stands before it.
 #[derive(Drop)]
-pub(crate) struct Piece {
+pub struct Piece {
     /// The text between the value before and this one, with its name.
-    pub(crate) text: Text,
+    pub text: Text,
     /// The position of its entry among those of the container and of its bases.
-    pub(crate) position: usize,
+    pub position: usize,
 }
 
 /// The texts between the values of a container's object, whose names are in byte order.
 #[derive(Drop)]
-pub(crate) struct Layout {
+pub struct Layout {
     /// How many values it has: one for each entry.
-    pub(crate) count: usize,
-    pub(crate) pieces: Vec<Piece>,
+    pub count: usize,
+    pub pieces: Vec<Piece>,
     /// The text behind the last value.
-    pub(crate) end: Text,
+    pub end: Text,
 }
 
 // A name with the position of its value. The container's own name has none.

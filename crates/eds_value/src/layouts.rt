@@ -95,7 +95,7 @@ impl<'a> Layouts<'a> {
     }
 
     /// The layout of a container for so many values, if it has one.
-    pub(crate) fn find(&self, id: TypeId, count: usize) -> Option<&Layout>
+    pub fn find(&self, id: TypeId, count: usize) -> Option<&Layout>
         ensures layout { IfSome result (λ l. IsLayoutOf self.now id.0 l.now) }
         ensures count { IfSome result (λ l. l.now.count ≡ count) }
     {

@@ -19,16 +19,20 @@ use eds_base::Memory;
 use eds_types::Value;
 use std::alloc::{AllocError, Global};
 
-// Puts a whole number last.
-fn push_number(n: i128, report: &mut String) -> Result<(), AllocError>
+/// Puts a whole number last: in 64 bits, where it has no more, which is faster.
+pub fn push_number(n: i128, report: &mut String) -> Result<(), AllocError>
     ensures { OnOk result (string_bytes report.new ≡ string_bytes report.old ++ compact_text (number (of_integer n))) }
 {
     let mut digits = itoa::Buffer::new();
-    report.push_str(digits.format(n))
+    let text = match i64::try_from(n) {
+        Ok(short) => digits.format(short),
+        Err(_) => digits.format(n),
+    };
+    report.push_str(text)
 }
 
-// Puts a truth value last.
-fn push_truth(truth: bool, report: &mut String) -> Result<(), AllocError>
+/// Puts a truth value last.
+pub fn push_truth(truth: bool, report: &mut String) -> Result<(), AllocError>
     ensures { OnOk result (string_bytes report.new ≡ string_bytes report.old ++ compact_text (boolean truth)) }
 {
     if truth {

@@ -1,6 +1,6 @@
 //! Strings of JSON, put last onto a text.
 
-ghost use Rattle.std.specs.Prelude.{◌≡◌, ◌++◌, IfOk, OnOk, string_bytes};
+ghost use Rattle.std.specs.Prelude.{◌≡◌, ◌++◌, OnOk, string_bytes};
 ghost use Rattle.std.specs.Bool.{OnTrue};
 ghost use Rattle.json.specs.Print.{escape, quoted};
 ghost use Rattle.json.specs.Run.{is_stop as is_stop_of};
@@ -42,7 +42,7 @@ fn push_escaped(alloc: Global, text: &str, report: &mut String) -> Result<(), Me
 }
 
 /// Puts a text last as a string.
-pub(crate) fn push_quoted(alloc: Global, text: &str, report: &mut String) -> Result<(), Memory>
+pub fn push_quoted(alloc: Global, text: &str, report: &mut String) -> Result<(), Memory>
     ensures { OnOk result (string_bytes report.new ≡ string_bytes report.old ++ quoted text.now) }
 {
     if is_plain(text.as_bytes()) {
