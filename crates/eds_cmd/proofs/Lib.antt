@@ -1,6 +1,7 @@
 pub mod Demonstrating
 pub mod Unpacking
 pub mod Splitting
+pub mod PacketLines
 pub mod Targets
 pub mod SheetFiles
 pub mod AlikeRuns

@@ -41,6 +41,12 @@ pub record HoldsPacket (type : TypeIn) (value : Plain) (octets : List ℕ) (size
   pub some : 1 ≤ size
   pub within : size ≤ length octets
 
+-- so many octets at the front are a packet, and a line of JSON for its value is put behind a text
+pub record PutsLine (type : TypeIn) (octets : List ℕ) (size : ℕ) (old new : List ℕ) : Type 0 where
+  pub value : Plain
+  pub holds : HoldsPacket type value octets size
+  pub line : new ≡ old ++ (json_text type.table value ++ codes "\n")
+
 -- ---- the report
 
 -- a line of JSON for the value of each packet

@@ -8,6 +8,8 @@ mod hex_text;
 mod law;
 mod limits;
 mod pack;
+mod packet;
+mod packet_line;
 mod perform;
 mod report;
 mod run;

@@ -1,6 +1,6 @@
-use Rattle.std.proofs.Common.{◌≡◌, ◌≤◌, length, sym, ap, subst, take, arith}
+use Rattle.std.proofs.Common.{◌≤◌, length, sym, ap, subst, take, arith}
 use Rattle.std.proofs.lemmas.List.{length-take}
-use Rattle.eds_bits.specs.Bits.{Bits, bits_of, octets_for}
+use Rattle.eds_bits.specs.Bits.{Bits, bits_of}
 use Rattle.eds_bits.proofs.OctetLaws.{length-bits_of}
 use Rattle.eds_types.specs.Failing.{FailsAt}
 use Rattle.eds_types.specs.Plain.{plain}
@@ -9,7 +9,7 @@ use Rattle.eds_unpack.specs.Pieces.{IsLastFault}
 use Rattle.eds_cmd.specs.Split.{framing_of}
 use Rattle.eds_cmd.specs.Target.{type_in}
 use Rattle.eds_cmd.proofs.Splitting.{failure_is, framing_for, packet_is}
-use Rattle.eds_cmd.proofs.split.packet_at.Goals as goal
+use Rattle.eds_cmd.proofs.packet.packet_at.Goals as goal
 
 pub new-requires : goal.new-requires
 new-requires c = let few = ap length c.window.ensures in omega (arith, few, length-take 65536 c.args.octets.now)
@@ -24,10 +24,9 @@ pub returns-in-Ok-clause-packet : goal.returns-in-Ok-clause-packet
 returns-in-Ok-clause-packet c =
     let type = type_in c.args.target.now in
     let judged = c.window.result.now in
-    let size : c.div_ceil.result ≡ octets_for c.in-Ok.size = omega arith in
     let few : c.in-Ok.size ≤ length (bits_of judged) = omega (arith, c.in-Ok.ensures.size, ap length c.new.ensures) in
     let spelled = subst (λ (b : Bits). Spells type.table type.id (plain c.in-Ok.value) (take c.in-Ok.size b)) c.new.ensures c.in-Ok.ensures.value in
-    packet_is type (framing_for c.empty_types.ensures type c.keeps_rules.ensures c.requires.known) (plain c.in-Ok.value) c.args.octets.now judged c.in-Ok.size c.div_ceil.result c.window.ensures size few spelled
+    packet_is type (framing_for c.empty_types.ensures type c.keeps_rules.ensures c.requires.known) (plain c.in-Ok.value) c.args.octets.now judged c.in-Ok.size c.octets_for.result c.window.ensures c.octets_for.ensures few spelled
 
 pub returns-in-Err-Named-clause-fault : goal.returns-in-Err-Named-clause-fault
 returns-in-Err-Named-clause-fault c =

@@ -3,7 +3,7 @@ use Rattle.eds_overlap.specs.Laws.{IsThere}
 use Rattle.eds_types.specs.Plain.{plain}
 use Rattle.eds_types.specs.Rows.{Table}
 use Rattle.eds_value.specs.Laws.{IsOfType}
-use Rattle.eds_cmd.proofs.split.push_line.Goals as goal
+use Rattle.eds_cmd.proofs.packet_line.push_line.Goals as goal
 
 pub push_json-requires-clause-known : goal.push_json-requires-clause-known
 push_json-requires-clause-known c = subst (λ (t : Table). c.args.target.now.id.0 < length t) (sym c.requires.layouts) c.requires.known.there

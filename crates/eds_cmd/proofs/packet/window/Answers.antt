@@ -1,6 +1,6 @@
 use Rattle.std.proofs.Common.{sym, arith}
 use Rattle.std.proofs.lemmas.List.{length-take-le, take_all}
-use Rattle.eds_cmd.proofs.split.window.Goals as goal
+use Rattle.eds_cmd.proofs.packet.window.Goals as goal
 
 pub slice_bounds-result-end : goal.slice_bounds-result-end
 slice_bounds-result-end c = sym (length-take-le 65536 c.args.octets.now (omega (arith, c.if-octets-gt-PACKET_OCTETS.true)))

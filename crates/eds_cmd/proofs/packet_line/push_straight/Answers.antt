@@ -1,0 +1,24 @@
+use Rattle.std.proofs.Common.{◌≡◌, ◌++◌, List, codes, length, map, rules, string_bytes, subst, arith}
+use Rattle.std.specs.Prelude.{IfSome}
+use Rattle.eds_types.specs.Plain.{fields, plains_of}
+use Rattle.eds_types.specs.Rows.{Table}
+use Rattle.eds_unpack.specs.declared.scalar.Scalar.{Scalar}
+use Rattle.eds_unpack.specs.Scalars.{plain_of}
+use Rattle.eds_value.specs.JsonOfValue.{json_of_value}
+use Rattle.eds_value.specs.Layouts.{IsLayoutOf, laid_text}
+use Rattle.eds_cmd.specs.Split.{HoldsPacket}
+use Rattle.eds_cmd.specs.Target.{type_in}
+use Rattle.eds_cmd.proofs.PacketLines.{straight_put}
+use Rattle.eds_cmd.proofs.packet_line.push_straight.Goals as goal
+
+pub returns-clause-line : goal.returns-clause-line
+returns-clause-line c =
+    let type = type_in c.args.target.now in
+    let ss = c.scalars_at.new.room.items in
+    let l = c.in-Some-find.layout.now in
+    let holds = subst (λ o. IfSome o (λ size. HoldsPacket type (fields type.id (plains_of (map plain_of ss))) c.args.octets.now size)) c.in-Some.is c.in_ok-size.ensures in
+    let is = subst (λ (t : Table). IsLayoutOf t type.id l) c.requires.layouts c.in-Some-find.ensures.layout in
+    let long : length ss ≡ l.count = omega (arith, c.in-Some-find.ensures.count, c.len.ensures) in
+    let laid = subst (λ (xs : List Scalar). string_bytes c.push_object.new.report ≡ string_bytes c.args.report.now ++ laid_text (map (json_of_value type.table) (map plain_of xs)) l) c.as_slice.ensures.value (c.in_ok-push_object.ensures type.table) in
+    let ended : string_bytes c.push_str.new.self ≡ string_bytes c.push_object.new.report ++ codes "\n" = search rules in
+    straight_put type l ss c.args.octets.now c.in-Some.size (string_bytes c.args.report.now) (string_bytes c.push_object.new.report) (string_bytes c.push_str.new.self) is long holds laid ended

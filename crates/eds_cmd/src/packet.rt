@@ -1,0 +1,96 @@
+//! The packet at the front of octets.
+
+ghost use Rattle.std.specs.Prelude.{◌≡◌, IfErr, IfOk, IfSome, map, take};
+ghost use Rattle.eds_bits.specs.Bits.{octets_for as octets_filled};
+ghost use Rattle.eds_cmd.specs.Split.{FailsFor, HoldsPacket, packet_failure};
+ghost use Rattle.eds_cmd.specs.Target.{IsKnown, type_in};
+ghost use Rattle.eds_types.specs.Plain.{fields, plain, plains_of};
+ghost use Rattle.eds_unpack.specs.Scalars.{plain_of};
+
+use crate::limits::PACKET_OCTETS;
+use crate::target::Target;
+use eds_base::{Fail, Fault, Memory, Path, Reason};
+use eds_bits::BitView;
+use eds_overlap::law::empty_types;
+use eds_types::Value;
+use eds_unpack::{Scalar, Segments, scalars_by, unpack_by};
+use std::alloc::Global;
+
+// As many octets as a packet may have, or all where there are fewer.
+fn window(octets: &[u8]) -> &[u8]
+    ensures { result.now ≡ take PACKET_OCTETS octets.now }
+{
+    if octets.len() > PACKET_OCTETS {
+        &octets[..PACKET_OCTETS]
+    } else {
+        octets
+    }
+}
+
+// The fault of a packet, where reading the octets at its front fails so: too few bits in as many octets as a packet may have are
+// too long a packet.
+fn packet_fails(fault: Fault, octets: usize) -> Fault
+    ensures { result ≡ packet_failure fault octets }
+{
+    match fault.reason {
+        Reason::Short if octets >= PACKET_OCTETS => Fault {
+            reason: Reason::TooLong,
+            path: Path::root(),
+        },
+        _ => fault,
+    }
+}
+
+// How many octets so many bits fill, the last one with up to 7 further bits.
+fn octets_for(bits: u32) -> usize
+    ensures { result ≡ octets_filled bits }
+{
+    bits.div_ceil(8) as usize
+}
+
+/// The value of the packet at the front of octets, and how many octets it has.
+pub fn packet_at(
+    alloc: Global,
+    target: &Target<'_>,
+    segments: &Segments<'_>,
+    octets: &[u8],
+) -> Result<(Value, usize), Fail<Fault>>
+    requires segments { segments.now ≡ target.now.table.now }
+    requires known { IsKnown (type_in target.now) }
+    ensures packet { IfOk result (λ x. HoldsPacket (type_in target.now) (plain x.0) octets.now x.1) }
+    ensures fault { IfErr result (FailsFor (type_in target.now) octets.now) }
+{
+    target.table.keeps_rules();
+    empty_types();
+    match unpack_by(
+        alloc,
+        target.table,
+        segments,
+        target.id,
+        BitView::new(window(octets)),
+    ) {
+        Ok((value, size)) => Ok((value, octets_for(size))),
+        Err(Fail::Named(fault)) => Err(Fail::Named(packet_fails(fault, octets.len()))),
+        Err(Fail::Memory) => Err(Fail::Memory),
+    }
+}
+
+/// The scalars of the packet at the front of octets, put into a room, and how many octets the packet has. None, where `scalars_by`
+/// doesn't tell them.
+pub fn scalars_at<'a>(
+    target: &Target<'_>,
+    segments: &Segments<'a>,
+    octets: &[u8],
+    room: &mut Vec<Scalar<'a>>,
+) -> Result<Option<usize>, Memory>
+    requires segments { segments.now ≡ target.now.table.now }
+    requires known { IsKnown (type_in target.now) }
+    ensures { IfOk result (λ o. IfSome o (λ size. HoldsPacket (type_in target.now) (fields target.now.id.0 (plains_of (map plain_of room.new.items))) octets.now size)) }
+{
+    target.table.keeps_rules();
+    empty_types();
+    match scalars_by(segments, target.id, BitView::new(window(octets)), room)? {
+        Some(size) => Ok(Some(octets_for(size))),
+        None => Ok(None),
+    }
+}
