@@ -1,5 +1,5 @@
 -- A container is passed over by its segment as the reading function reads it.
-use Rattle.std.proofs.Common.{◌≡◌, ℕ, suc, ◌-◌, ◌≤◌, true, List, [], ◌∷◌, length, drop, Option, Some, None, Ok, refl, ap, ◌∙◌, arith, length-drop}
+use Rattle.std.proofs.Common.{◌≡◌, ℕ, suc, ◌+◌, ◌-◌, ◌≤◌, true, List, [], ◌∷◌, length, drop, Option, Some, None, Ok, refl, ap, ◌∙◌, arith, length-drop}
 use Rattle.std.specs.Prelude.{slice_get}
 use Rattle.std.specs.List.{All, AllByRecursion, AllZip}
 use Rattle.std.proofs.lemmas.List.Elements.{recursion_from_All}
@@ -16,7 +16,8 @@ use Rattle.eds_unpack.specs.declared.segment.Operation.{Operation}
 use Rattle.eds_unpack.specs.declared.segment.Segment.{Segment}
 use Rattle.eds_unpack.specs.Entries.{IsLow}
 use Rattle.eds_unpack.specs.Readers.{sized}
-use Rattle.eds_unpack.specs.Segments.{HasValue, IsSegmentOf, Says}
+use Rattle.eds_unpack.specs.Segments.{HasValue, IsSegmentOf, ReadsAs, Says}
+use Rattle.eds_unpack.specs.Straight.{is_straight}
 use Rattle.eds_unpack.specs.Walks.{type_of}
 use Rattle.eds_unpack.proofs.SegmentReads.{segment_reads}
 use Rattle.eds_unpack.proofs.StraightReads.{concrete}
@@ -58,3 +59,11 @@ pub segment_passes : (t : Table) (rules : KeepsRules t) (id : ℕ) (s : Segment)
 segment_passes t rules id s b is enough have =
     let all = all_values t b s.operations.items (recursion_from_All (HasValue t b) s.operations.items have) in
     (fields id (plains_of all.values), segment_sized t rules id s b all.values is enough all.say, refl)
+
+-- a container that is read as a value so wherever it is nested is read so by itself, and has the bits before the rest
+pub straight_sized : (t : Table) (rules : KeepsRules t) (id : ℕ) (b rest : Bits) (v : Plain) (n : ℕ) → is_straight t id ≡ true → ReadsAs t id b v rest → length b ≡ n + length rest → sized b (read_type t id b) ≡ Ok (v, n)
+straight_sized t rules id b rest v n straight reads e =
+    let low : IsLow t 32 id = record { rules = rules; low = rules.nesting id } in
+    let read : read_type t id b ≡ Ok (v, rest) = container_row t 31 id b (concrete t id straight) ∙ reads 31 low in
+    let size : length b - length rest ≡ n = omega (arith, e) in
+    ap (sized b) read ∙ ap (λ m. Ok (v, m)) size

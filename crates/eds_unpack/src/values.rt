@@ -12,7 +12,7 @@ ghost use Rattle.eds_unpack.specs.Segments.{Agrees, ArePut, IsOperation, IsPut, 
 
 use crate::meaning::{number_in, scalar_at};
 use crate::scalar::value_of;
-use crate::segment::{Numbers, Operation, Segment};
+use crate::segment::{Meaning, Numbers, Operation, Segment};
 use crate::segments::Segments;
 use eds_base::{Memory, TypeId};
 use eds_bits::BitReader;
@@ -122,6 +122,10 @@ pub(crate) fn put_value(
     ensures put { IfOk result (λ put. OnTrue put (IsPut (value_in (slice_get table.now operation.now.id.0) (low_bits operation.now.bits number)) values.old.items values.new.items)) }
     ensures same { IfOk result (λ put. OnFalse put (values.new.items ≡ values.old.items)) }
 {
+    // a number is put with no scalar between, which would cost half as much again
+    if let Meaning::Number(numbers) = operation.meaning {
+        return put_number(numbers, operation.bits, number, values);
+    }
     match scalar_at(table, operation, number) {
         Some(scalar) => {
             values.push(value_of(alloc, scalar)?)?;
@@ -158,7 +162,7 @@ pub(crate) fn put_values(
 }
 
 /// Reads the values of a container by its segment. None, where it doesn't tell them: then the reader stays where it is.
-fn read_segment(
+pub(crate) fn read_segment(
     alloc: Global,
     table: &TypeTable,
     segment: &Segment,
@@ -167,6 +171,7 @@ fn read_segment(
 ) -> Result<Option<Vec<Value>>, Memory>
     requires { IsSegmentOf table.now container.0 segment.now }
     ensures read { IfOk result (λ o. IfSome o (λ vs. ReadsAs table.now container.0 (bits_left reader.old) (fields container.0 (plains_of (map plain vs.items))) (bits_left reader.new))) }
+    ensures size { IfOk result (λ o. IfSome o (λ vs. length (bits_left reader.old) ≡ segment.now.bits + length (bits_left reader.new))) }
     ensures same { IfOk result (λ o. IfNone o (bits_left reader.new ≡ bits_left reader.old)) }
 {
     if reader.left() < u64::from(segment.bits) {

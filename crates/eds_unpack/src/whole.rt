@@ -1,7 +1,7 @@
 //! The value at the front of some bits.
 
 ghost use Rattle.eds_base.specs.declared.fault.Fault.{Fault};
-ghost use Rattle.std.specs.Prelude.{◌≡◌, ◌++◌, ◌<◌, ◌≤◌, length, take, IfOk};
+ghost use Rattle.std.specs.Prelude.{◌≡◌, ◌++◌, ◌<◌, ◌≤◌, Ok, length, take, IfOk, IfSome};
 ghost use Rattle.eds_bits.specs.Bits.{Bits};
 ghost use Rattle.eds_bits.specs.Reader.{view_bits};
 ghost use Rattle.eds_overlap.specs.Laws.{read_type};
@@ -15,7 +15,8 @@ ghost use Rattle.eds_unpack.specs.Readers.{Gives, sized};
 use crate::fault::stop_at;
 use crate::read::{Level, read_value};
 use crate::segments::Segments;
-use eds_base::{Fail, Fault, Path, TypeId};
+use crate::values::read_segment;
+use eds_base::{Fail, Fault, Memory, Path, TypeId};
 use eds_bits::{BitReader, BitView};
 use eds_overlap::law::reading_is_exact;
 use eds_types::{TypeTable, Value};
@@ -23,6 +24,29 @@ use std::alloc::Global;
 
 /// How deep types are nested at most.
 pub(crate) const NESTING: u32 = 32;
+
+/// The value of a container that the bits of a view begin with, and how many bits it takes, by the container's segment, with no
+/// room for the path of a fault. None, where it has none, or the segment doesn't tell its values.
+fn straight_front(
+    alloc: Global,
+    table: &TypeTable,
+    segments: &Segments<'_>,
+    id: TypeId,
+    view: BitView,
+) -> Result<Option<(Value, u32)>, Memory>
+    requires { segments.now ≡ table.now }
+    ensures { IfOk result (λ o. IfSome o (λ x. sized (view_bits view.entry) (read_type table.now id.0 (view_bits view.entry)) ≡ Ok (plain x.0, x.1))) }
+{
+    table.keeps_rules();
+    let Some(segment) = segments.find(id) else {
+        return Ok(None);
+    };
+    let mut reader = BitReader::new(view);
+    match read_segment(alloc, table, segment, id, &mut reader)? {
+        Some(values) => Ok(Some((Value::Fields(id, values), segment.bits))),
+        None => Ok(None),
+    }
+}
 
 /// The value that the bits of a view begin with, and how many bits it takes.
 fn read_front(
@@ -41,6 +65,9 @@ fn read_front(
 {
     table.keeps_rules();
     reading_is_exact();
+    if let Some(found) = straight_front(alloc, table, segments, id, view)? {
+        return Ok(found);
+    }
     let mut reader = BitReader::new(view);
     let all = reader.left();
     let mut path = Path::root();
