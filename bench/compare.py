@@ -121,7 +121,10 @@ def of_recordings(seed, stage):
     if not accepted(sheet, stage):
         return
     for word in [it.name for it in run_model.judged(list(sheet.values()), None, stage).types if it.kind == "Container"]:
-        judge = run_model.judged(list(sheet.values()), word, stage)
+        try:
+            judge = run_model.judged(list(sheet.values()), word, stage)
+        except run_model.m.Refused:
+            continue
         yield ["split", word, "input", *sheet], {**sheet, "input": gen.recording(dice, judge, judge.word, PACKETS)}
 
 
