@@ -12,9 +12,10 @@ use Rattle.eds_types.specs.Reading.{Read, ◌>>=◌, inside, read_items, read_wi
 use Rattle.eds_types.specs.Rows.{Table}
 use Rattle.eds_unpack.specs.Entries.{IsInner}
 use Rattle.eds_unpack.specs.Items.{AreItems, ItemsReadAs}
-use Rattle.eds_unpack.specs.Segments.{bits_in, value_in, IsPut}
+use Rattle.eds_unpack.specs.declared.segment.Operation.{Operation}
+use Rattle.eds_unpack.specs.Segments.{bits_in, value_in, IsPut, IsScalar, ScalarReadsAs}
 use Rattle.eds_unpack.proofs.Numbers.{pattern}
-use Rattle.eds_unpack.proofs.SegmentReads.{type_reads}
+use Rattle.eds_unpack.proofs.SegmentReads.{said, type_reads}
 
 -- the number of an octet
 pub octet_number : (os : List ℕ) (at n i o : ℕ) → n ≡ 8 → at ≡ 8 * i → i < length os → o ≡ get_or os i 0 → o < 256 → o ≡ unsigned_of (take n (drop at (bits_of os)))
@@ -42,10 +43,6 @@ items_more value n at count x b old new place size enough e put so =
     ap (λ k. value (take n (drop k b))) here ∙ ap value (sym (pattern n (drop at b) few)) ∙ ap (λ y. value (low_bits n y)) (sym e) ∙ put.is in
     subst (AreItems value n b) (sym put.last) (item_last value n b (map plain old) put.value so found)
 
-pub put_length : (found : Result Plain Fault) (old new : List Value) → IsPut found old new → length new ≡ length old + 1
-put_length found old new put =
-    sym (length-map new plain) ∙ ap length put.last ∙ length-append (map plain old) (put.value ∷ []) ∙ ap (λ k. k + 1) (length-map old plain)
-
 -- ---- all items
 
 item_before : (read : Bits → Read Plain) (n j : ℕ) (b d e : Bits) (v : Plain) (vs : List Plain) → read b ≡ Ok (v, d) → read_items read n (j + 1) d ≡ Ok (vs, e) → read_items read (suc n) j b ≡ Ok (v ∷ vs, e)
@@ -68,3 +65,18 @@ items_read t id m count b d vs size enough l so e = λ n inner.
     let count_is : length (map plain vs) ≡ count = length-map vs plain ∙ l in
     ap (λ k. read_items (read_within n t id) k 0 b) (sym count_is) ∙ items_are_read t n id m inner size 0 b (map plain vs) (subst (λ k. k * m ≤ length b) (sym count_is) enough) so
     ∙ ap (λ k. Ok (map plain vs, drop (k * m) b)) count_is ∙ ap (λ c. Ok (map plain vs, c)) (sym e)
+
+-- ---- one value
+
+-- the bits of an operation at the first bit lie in eight octets
+pub few_bits : (o : Operation) → o.at ≡ 0 → o.bits ≤ 64
+few_bits o first = let start = o.start in let end = o.end in omega arith
+
+-- the type of an operation at the first bit is read as the value of its bits
+pub scalar_reads : (t : Table) (id : ℕ) (o : Operation) (x : ℕ) (b d : Bits) (v w : Plain) → IsScalar t id o → o.bits ≤ length b → x ≡ unsigned_of (take o.bits (drop o.at b)) → value_in (slice_get t o.id.0) (low_bits o.bits x) ≡ Ok w → v ≡ w → d ≡ drop o.bits b → ScalarReadsAs t id b v d
+scalar_reads t id o x b d v w is enough e found same rest = λ n inner.
+    let begun : o.at + o.bits ≤ length b = omega (arith, is.first) in
+    let here : value_in (slice_get t o.id.0) (take o.bits b) ≡ Ok w = ap (λ k. value_in (slice_get t o.id.0) (take o.bits (drop k b))) (sym is.first) ∙ said t b o x w begun e found in
+    let typed : o.id.0 ≡ id = is.typed in
+    ap (λ i. read_within n t i b) (sym typed) ∙ type_reads t n o.id.0 o.bits b w (subst (IsInner t n) (sym typed) inner) (is.is).size enough here
+    ∙ ap₂ (λ u c. Ok (u, c)) (sym same) (sym rest)

@@ -13,20 +13,20 @@ use Rattle.eds_base.specs.declared.spans.Span.{Span}
 use Rattle.eds_bits.specs.declared.forms.BoolForm.{BoolForm}
 use Rattle.eds_bits.specs.declared.forms.ByteOrder.{ByteOrder}
 use Rattle.eds_bits.specs.declared.forms.ByteOrder.TheVariants.{Big, Little}
-use Rattle.eds_bits.specs.declared.forms.Encoding.TheVariants.{Unsigned, TwosComplement, OnesComplement}
+use Rattle.eds_bits.specs.declared.forms.Encoding.TheVariants.{Unsigned, TwosComplement, OnesComplement, SignMagnitude}
 use Rattle.eds_bits.specs.declared.forms.IntForm.{IntForm}
 use Rattle.eds_bits.specs.Bits.{Bits, low_bits, unsigned_of}
 use Rattle.eds_bits.specs.Encodings.{number_by, order_bits, ordered}
 use Rattle.eds_bits.specs.IntForms.{number_of}
 use Rattle.eds_bits.proofs.BitLaws.{length-low, low-unsigned, unsigned-lt, unsigned_small}
 use Rattle.eds_bits.proofs.Groups.{little-swapped}
-use Rattle.eds_bits.proofs.Patterns.{unsigned_pattern, twos_positive, twos_negative, ones_positive, ones_negative}
+use Rattle.eds_bits.proofs.Patterns.{unsigned_pattern, twos_positive, twos_negative, ones_positive, ones_negative, magnitude_positive, magnitude_negative}
 use Rattle.eds_codec.proofs.Booleans.{is_zero_number}
 use Rattle.eds_types.specs.Failing.{fault_here}
 use Rattle.eds_types.specs.declared.value.Value.{Value}
 use Rattle.eds_types.specs.declared.value.Value.TheVariants as value
-use Rattle.eds_types.specs.Plain.{Plain, plain, num, truth}
-use Rattle.eds_types.specs.Reading.{is_within, ranged, truth_of}
+use Rattle.eds_types.specs.Plain.{Plain, plain, num, label, truth}
+use Rattle.eds_types.specs.Reading.{is_within, ranged, label_of, label_as, named, truth_of}
 use Rattle.eds_types.proofs.ReadingTests.{within_in}
 use Rattle.eds_base.specs.declared.ids.TypeId.{TypeId}
 use Rattle.eds_types.specs.declared.row.Kind.{Kind}
@@ -37,43 +37,53 @@ use Rattle.eds_types.specs.declared.row.TypeRow.{TypeRow}
 use Rattle.eds_types.specs.Fields.{type_by}
 use Rattle.eds_types.specs.Rows.{Table}
 use Rattle.eds_types.specs.Sizes.{open_by, open_in}
+use Rattle.eds_unpack.specs.declared.segment.Coding.{Coding}
 use Rattle.eds_unpack.specs.declared.segment.Meaning.{Meaning}
 use Rattle.eds_unpack.specs.declared.segment.Meaning.TheVariants as meaning
 use Rattle.eds_unpack.specs.declared.segment.Numbers.{Numbers}
 use Rattle.eds_unpack.specs.declared.segment.Operation.{Operation}
-use Rattle.eds_unpack.specs.Segments.{scalar_bits, scalar_of, bits_in, value_in, in_order, signed, made, truth_by, Agrees, IsOperation, IsOperationOf, IsPut, IsSure}
+use Rattle.eds_unpack.specs.Segments.{scalar_bits, scalar_of, integer_of, bits_in, value_in, in_order, from_half, signed, made, truth_by, Agrees, AgreesIn, AreNumbers, IsCoding, IsInDomain, IsOperation, IsOperationOf, IsPut, IsScalar, IsSure}
 use Rattle.eds_unpack.specs.Straight.{is_straight_entry}
 
 -- ---- numbers
 
-signed_below : (half less x : ℕ) → x < half → signed half less x ≡ pos x
-signed_below half less x h = ap (λ b. cond b (pos x) (pos x -ℤ pos less)) (lt-ltb x half h)
+signed_below : (down : Bool) (half less x : ℕ) → x < half → signed down half less x ≡ pos x
+signed_below down half less x h = ap (λ b. cond b (pos x) (from_half down less x)) (lt-ltb x half h)
 
-signed_above : (half less x : ℕ) → half ≤ x → signed half less x ≡ pos x -ℤ pos less
-signed_above half less x h = ap (λ b. cond b (pos x) (pos x -ℤ pos less)) (le-ltb x half h)
+signed_above : (down : Bool) (half less x : ℕ) → half ≤ x → signed down half less x ≡ from_half down less x
+signed_above down half less x h = ap (λ b. cond b (pos x) (from_half down less x)) (le-ltb x half h)
 
 -- what a result says that computes it by cases
-pub signed_is : (half less x : ℕ) (z : ℤ) → x < half → z ≡ pos x → z ≡ signed half less x
-signed_is half less x z h e = e ∙ sym (signed_below half less x h)
+pub signed_is : (down : Bool) (half less x : ℕ) (z : ℤ) → x < half → z ≡ pos x → z ≡ signed down half less x
+signed_is down half less x z h e = e ∙ sym (signed_below down half less x h)
 
-pub less_is : (half less x : ℕ) (z : ℤ) → half ≤ x → z ≡ pos x -ℤ pos less → z ≡ signed half less x
-less_is half less x z h e = e ∙ sym (signed_above half less x h)
+pub down_is : (down : Bool) (half less x : ℕ) (z : ℤ) → half ≤ x → down ≡ true → z ≡ pos less -ℤ pos x → z ≡ signed down half less x
+down_is down half less x z h d e = e ∙ sym (signed_above down half less x h ∙ ap (λ b. from_half b less x) d)
 
-pub unsigned_numbers : (n half less : ℕ) → half ≡ 2 ^ n → (x : ℕ) → x < 2 ^ n → number_by Unsigned (low_bits n x) ≡ Some (signed half less x)
+pub less_is : (down : Bool) (half less x : ℕ) (z : ℤ) → half ≤ x → down ≡ false → z ≡ pos x -ℤ pos less → z ≡ signed down half less x
+less_is down half less x z h d e = e ∙ sym (signed_above down half less x h ∙ ap (λ b. from_half b less x) d)
+
+pub unsigned_numbers : (n half less : ℕ) → half ≡ 2 ^ n → (x : ℕ) → x < 2 ^ n → number_by Unsigned (low_bits n x) ≡ Some (signed false half less x)
 unsigned_numbers n half less e x h =
     let below : x < half = omega arith in
-    unsigned_pattern n x (signed half less x) h (sym (signed_below half less x below))
+    unsigned_pattern n x (signed false half less x) h (sym (signed_below false half less x below))
 
-pub twos_numbers : (n half less : ℕ) → 1 ≤ n → half ≡ 2 ^ (n - 1) → less ≡ 2 ^ n → (x : ℕ) → x < 2 ^ n → number_by TwosComplement (low_bits n x) ≡ Some (signed half less x)
+pub twos_numbers : (n half less : ℕ) → 1 ≤ n → half ≡ 2 ^ (n - 1) → less ≡ 2 ^ n → (x : ℕ) → x < 2 ^ n → number_by TwosComplement (low_bits n x) ≡ Some (signed false half less x)
 twos_numbers n half less some e f x h = elim (cases_lt x half) [
-  | inl below ↦ let small : x < 2 ^ (n - 1) = omega arith in twos_positive n x (signed half less x) some small (sym (signed_below half less x below))
-  | inr above ↦ let large : 2 ^ (n - 1) ≤ x = omega arith in twos_negative n x (signed half less x) some large h (ap (λ m. pos x -ℤ pos m) (sym f) ∙ sym (signed_above half less x above))
+  | inl below ↦ let small : x < 2 ^ (n - 1) = omega arith in twos_positive n x (signed false half less x) some small (sym (signed_below false half less x below))
+  | inr above ↦ let large : 2 ^ (n - 1) ≤ x = omega arith in twos_negative n x (signed false half less x) some large h (ap (λ m. pos x -ℤ pos m) (sym f) ∙ sym (signed_above false half less x above))
 ]
 
-pub ones_numbers : (n half less : ℕ) → 1 ≤ n → half ≡ 2 ^ (n - 1) → less ≡ 2 ^ n - 1 → (x : ℕ) → x < 2 ^ n → number_by OnesComplement (low_bits n x) ≡ Some (signed half less x)
+pub ones_numbers : (n half less : ℕ) → 1 ≤ n → half ≡ 2 ^ (n - 1) → less ≡ 2 ^ n - 1 → (x : ℕ) → x < 2 ^ n → number_by OnesComplement (low_bits n x) ≡ Some (signed false half less x)
 ones_numbers n half less some e f x h = elim (cases_lt x half) [
-  | inl below ↦ let small : x < 2 ^ (n - 1) = omega arith in ones_positive n x (signed half less x) some small (sym (signed_below half less x below))
-  | inr above ↦ let large : 2 ^ (n - 1) ≤ x = omega arith in ones_negative n x (signed half less x) some large h (ap (λ m. pos x -ℤ pos m) (sym f) ∙ sym (signed_above half less x above))
+  | inl below ↦ let small : x < 2 ^ (n - 1) = omega arith in ones_positive n x (signed false half less x) some small (sym (signed_below false half less x below))
+  | inr above ↦ let large : 2 ^ (n - 1) ≤ x = omega arith in ones_negative n x (signed false half less x) some large h (ap (λ m. pos x -ℤ pos m) (sym f) ∙ sym (signed_above false half less x above))
+]
+
+pub magnitudes : (n half less : ℕ) → 1 ≤ n → half ≡ 2 ^ (n - 1) → less ≡ 2 ^ (n - 1) → (x : ℕ) → x < 2 ^ n → number_by SignMagnitude (low_bits n x) ≡ Some (signed true half less x)
+magnitudes n half less some e f x h = elim (cases_lt x half) [
+  | inl below ↦ let small : x < 2 ^ (n - 1) = omega arith in magnitude_positive n x (signed true half less x) some small (sym (signed_below true half less x below))
+  | inr above ↦ let large : 2 ^ (n - 1) ≤ x = omega arith in magnitude_negative n x (signed true half less x) some large h (ap (λ m. pos m -ℤ pos x) (sym f) ∙ sym (signed_above true half less x above))
 ]
 
 -- ---- the order of octets
@@ -114,52 +124,89 @@ one_interval spans s low high e p q n h k = ap (λ ss. is_within ss n) e ∙ wit
 pub ranged_is : (spans : List Span) (o : Option ℤ) (n : ℤ) → o ≡ Some n → is_within spans n ≡ true → ranged spans o ≡ Ok (num n)
 ranged_is spans o n e h = ap (ranged spans) e ∙ ap (λ b. cond b (Ok (num n)) (Err (fault_here OutOfRange))) h
 
-pub number_agrees : (form : IntForm) (spans : List Span) (r : Numbers) → form.bits ≤ 62 → (r.little ≡ true → form.order ≡ Little) → (r.little ≡ false → form.order ≡ Big)
-    → ((x : ℕ) → x < 2 ^ form.bits → number_by form.encoding (low_bits form.bits x) ≡ Some (signed r.half r.less x)) → ((n : ℤ) → r.low ≤ℤ n → n ≤ℤ r.high → is_within spans n ≡ true)
-    → Agrees (λ c. ranged spans (number_of form c)) form.bits (meaning.Number r)
-number_agrees form spans r few little big numbers within =
-    let n = form.bits in
+pub codes : (form : IntForm) (r : Coding) → form.bits ≤ 62 → (r.little ≡ true → form.order ≡ Little) → (r.little ≡ false → form.order ≡ Big)
+    → ((x : ℕ) → x < 2 ^ form.bits → number_by form.encoding (low_bits form.bits x) ≡ Some (signed r.down r.half r.less x)) → IsCoding (number_of form) form.bits r
+codes form r few little big numbers =
     let small : form.bits ≤ 64 = omega arith in
-    let whole = λ (e : r.little ≡ true). ap (λ order. form.bits % order_bits order) (sym (little e)) ∙ form.valid.whole_octets in (
-      few,
-      whole,
-      λ x h low high.
-          ranged_is spans (number_of form (low_bits form.bits x)) (made r form.bits x)
-          (ap (number_by form.encoding) (in_order_bits r.little form.order form.bits x little big whole small) ∙ numbers (in_order r.little form.bits x) (in_order_small r.little form.bits x whole small h))
-          (within (made r form.bits x) low high),
-    )
+    let whole = λ (e : r.little ≡ true). ap (λ order. form.bits % order_bits order) (sym (little e)) ∙ form.valid.whole_octets in
+    record {
+      few = few;
+      whole = whole;
+      numbers = λ x h. ap (number_by form.encoding) (in_order_bits r.little form.order form.bits x little big whole small) ∙ numbers (in_order r.little form.bits x) (in_order_small r.little form.bits x whole small h);
+    }
+
+pub number_agrees : (form : IntForm) (spans : List Span) (r : Numbers) → IsCoding (number_of form) form.bits r.coding → ((n : ℤ) → r.low ≤ℤ n → n ≤ℤ r.high → is_within spans n ≡ true) → AreNumbers (λ c. ranged spans (number_of form c)) form.bits r
+number_agrees form spans r is within = record {
+  few = is.few;
+  whole = is.whole;
+  numbers = λ x h domain. ranged_is spans (number_of form (low_bits form.bits x)) (made r.coding form.bits x) (is.numbers x h) (within (made r.coding form.bits x) domain.low domain.high);
+}
+
+-- the numbers of an operation, whose row is there
+pub in_row : (row : Option TypeRow) (n : ℕ) (r : Numbers) → AgreesIn row n (meaning.Number r) → AreNumbers (value_in row) n r
+in_row None n r h = absurd h
+in_row (Some row) n r h = h
+
+pub truth_in_row : (row : Option TypeRow) (n : ℕ) (zero_is_false : Bool) → AgreesIn row n (meaning.Truth zero_is_false) → (x : ℕ) → x < 2 ^ n → value_in row (low_bits n x) ≡ Ok (truth (truth_by zero_is_false x))
+truth_in_row None n zero_is_false h = absurd h
+truth_in_row (Some row) n zero_is_false h = h
+
+-- ---- labels
+
+-- the label that is listed with a number
+pub label_is : (k : Kind) (form : IntForm) (listing : List (List ℕ × ℤ)) (r : Coding) (n x : ℕ) (l : List ℕ) → k ≡ kind.Enum form listing → IsCoding (integer_of k) n r → x < 2 ^ n → Some l ≡ label_of listing listing (made r n x) → scalar_of k (low_bits n x) ≡ Ok (label l)
+label_is k form listing r n x l e is h found =
+    ap (λ q. scalar_of q (low_bits n x)) e
+    ∙ ap (named listing) (ap (λ q. integer_of q (low_bits n x)) (sym e) ∙ is.numbers x h)
+    ∙ ap label_as (sym found)
 
 -- ---- truth values
 
-pub truth_agrees : (form : BoolForm) → Agrees (λ c. Ok (truth (truth_of form c))) form.bits (meaning.Truth form.zero_is_false)
+pub truth_agrees : (form : BoolForm) → Agrees (kind.Bool form) form.bits (meaning.Truth form.zero_is_false)
 truth_agrees form = λ x h. ap (λ z. Ok (truth (cond z (not form.zero_is_false) form.zero_is_false))) (is_zero_number (low_bits form.bits x) ∙ ap (λ n. eqb n 0) (unsigned_small form.bits x h))
 
 -- ---- what has a value whatever the bits
 
-signed_from : (half less x : ℕ) (low : ℤ) → low ≤ℤ pos 0 → low ≤ℤ (pos half -ℤ pos less) → low ≤ℤ signed half less x
-signed_from half less x low h k = elim (cases_lt x half) [
-  | inl below ↦ subst (λ m. low ≤ℤ m) (sym (signed_below half less x below)) (let m : low ≤ℤ pos x = omega (arith, ints) in m)
-  | inr above ↦ subst (λ m. low ≤ℤ m) (sym (signed_above half less x above)) (let m : low ≤ℤ (pos x -ℤ pos less) = omega (arith, ints) in m)
+-- the bounds of a domain that has all numbers of n bits
+pub record HasAll (r : Numbers) (n : ℕ) : Type 0 where
+  pub from_zero : r.low ≤ℤ pos 0
+  pub to_half : pos r.coding.half ≤ℤ (r.high +ℤ pos 1)
+  pub from_least : r.coding.down ≡ false → r.low ≤ℤ (pos r.coding.half -ℤ pos r.coding.less)
+  pub to_greatest : r.coding.down ≡ false → (pos (2 ^ n) -ℤ pos r.coding.less) ≤ℤ (r.high +ℤ pos 1)
+  pub down_to_least : r.coding.down ≡ true → (r.low +ℤ pos (2 ^ n)) ≤ℤ (pos r.coding.less +ℤ pos 1)
+  pub down_from_greatest : r.coding.down ≡ true → (pos r.coding.less -ℤ pos r.coding.half) ≤ℤ r.high
+
+up_has : (half less n x : ℕ) (low high : ℤ) → low ≤ℤ (pos half -ℤ pos less) → (pos (2 ^ n) -ℤ pos less) ≤ℤ (high +ℤ pos 1) → half ≤ x → x < 2 ^ n → (low ≤ℤ (pos x -ℤ pos less)) × ((pos x -ℤ pos less) ≤ℤ high)
+up_has half less n x low high h k above small = (omega (arith, ints), omega (arith, ints))
+
+down_has : (half less n x : ℕ) (low high : ℤ) → (low +ℤ pos (2 ^ n)) ≤ℤ (pos less +ℤ pos 1) → (pos less -ℤ pos half) ≤ℤ high → half ≤ x → x < 2 ^ n → (low ≤ℤ (pos less -ℤ pos x)) × ((pos less -ℤ pos x) ≤ℤ high)
+down_has half less n x low high h k above small = (omega (arith, ints), omega (arith, ints))
+
+above_has : (down : Bool) (half less n x : ℕ) (low high : ℤ) → (down ≡ false → low ≤ℤ (pos half -ℤ pos less)) → (down ≡ false → (pos (2 ^ n) -ℤ pos less) ≤ℤ (high +ℤ pos 1)) → (down ≡ true → (low +ℤ pos (2 ^ n)) ≤ℤ (pos less +ℤ pos 1)) → (down ≡ true → (pos less -ℤ pos half) ≤ℤ high)
+    → half ≤ x → x < 2 ^ n → (low ≤ℤ from_half down less x) × (from_half down less x ≤ℤ high)
+above_has true half less n x low high a b c d above small = down_has half less n x low high (c refl) (d refl) above small
+above_has false half less n x low high a b c d above small = up_has half less n x low high (a refl) (b refl) above small
+
+below_has : (half x : ℕ) (low high : ℤ) → low ≤ℤ pos 0 → pos half ≤ℤ (high +ℤ pos 1) → x < half → (low ≤ℤ pos x) × (pos x ≤ℤ high)
+below_has half x low high h k small = (omega (arith, ints), omega (arith, ints))
+
+signed_domain : (r : Numbers) (n x : ℕ) → HasAll r n → x < 2 ^ n → IsInDomain r (signed r.coding.down r.coding.half r.coding.less x)
+signed_domain r n x all small = elim (cases_lt x r.coding.half) [
+  | inl h ↦
+      let has = below_has r.coding.half x r.low r.high all.from_zero all.to_half h in
+      subst (IsInDomain r) (sym (signed_below r.coding.down r.coding.half r.coding.less x h)) (record { low = has.0; high = has.1 })
+  | inr h ↦
+      let has = above_has r.coding.down r.coding.half r.coding.less n x r.low r.high all.from_least all.to_greatest all.down_to_least all.down_from_greatest h small in
+      subst (IsInDomain r) (sym (signed_above r.coding.down r.coding.half r.coding.less x h)) (record { low = has.0; high = has.1 })
 ]
 
-signed_to : (half less n x : ℕ) (high : ℤ) → x < 2 ^ n → pos half ≤ℤ (high +ℤ pos 1) → (pos (2 ^ n) -ℤ pos less) ≤ℤ (high +ℤ pos 1) → signed half less x ≤ℤ high
-signed_to half less n x high h k l = elim (cases_lt x half) [
-  | inl below ↦ subst (λ m. m ≤ℤ high) (sym (signed_below half less x below)) (let m : pos x ≤ℤ high = omega (arith, ints) in m)
-  | inr above ↦ subst (λ m. m ≤ℤ high) (sym (signed_above half less x above)) (let m : (pos x -ℤ pos less) ≤ℤ high = omega (arith, ints) in m)
-]
-
-pub number_is_sure : (value : Bits → Result Plain Fault) (n : ℕ) (r : Numbers) → Agrees value n (meaning.Number r) → r.low ≤ℤ pos 0 → r.low ≤ℤ (pos r.half -ℤ pos r.less) → pos r.half ≤ℤ (r.high +ℤ pos 1) → (pos (2 ^ n) -ℤ pos r.less) ≤ℤ (r.high +ℤ pos 1) → IsSure value n
-number_is_sure value n r agrees zero low high last =
-    let few = agrees.0 in
+pub number_is_sure : (value : Bits → Result Plain Fault) (n : ℕ) (r : Numbers) → AreNumbers value n r → HasAll r n → IsSure value n
+number_is_sure value n r are all =
+    let few = are.few in
     let small : n ≤ 64 = omega arith in
-    λ x h. (
-      num (made r n x),
-      agrees.2 x h
-          (signed_from r.half r.less (in_order r.little n x) r.low zero low)
-          (signed_to r.half r.less n (in_order r.little n x) r.high (in_order_small r.little n x agrees.1 small h) high last),
-    )
+    λ x h. (num (made r.coding n x), are.numbers x h (signed_domain r n (in_order r.coding.little n x) all (in_order_small r.coding.little n x are.whole small h)))
 
-pub truth_is_sure : (value : Bits → Result Plain Fault) (n : ℕ) (zero_is_false : Bool) → Agrees value n (meaning.Truth zero_is_false) → IsSure value n
+pub truth_is_sure : (value : Bits → Result Plain Fault) (n : ℕ) (zero_is_false : Bool) → ((x : ℕ) → x < 2 ^ n → value (low_bits n x) ≡ Ok (truth (truth_by zero_is_false x))) → IsSure value n
 truth_is_sure value n zero_is_false agrees = λ x h. (truth (truth_by zero_is_false x), agrees x h)
 
 -- ---- values that are put last
@@ -183,16 +230,17 @@ scalar_entry : (t : Table) (p : Part) (name : List ℕ) (id : TypeId) (row : Typ
 scalar_entry t p name id row n is e s = ap (is_straight_entry t) is ∙ ap (λ r. is_none (open_in r)) e ∙ ap is_none (no_tail row.kind n s)
 
 -- the operation that was made is one of the type
-pub operation_is : (t : Table) (id : TypeId) (row : TypeRow) (n : ℕ) (m : Meaning) (o : Option Operation) → slice_get t id.0 ≡ Some row → scalar_bits row.kind ≡ Some n → Agrees (scalar_of row.kind) n m
-    → IfSome o (λ x. x.id ≡ id) → IfSome o (λ x. x.bits ≡ n) → IfSome o (λ x. x.meaning ≡ m) → ((value : Bits → Result Plain Fault) → Agrees value n m → IfSome o (λ x. x.sure ≡ true → IsSure value n)) → IfSome o (IsOperation t)
+pub operation_is : (t : Table) (id : TypeId) (row : TypeRow) (n : ℕ) (m : Meaning) (o : Option Operation) → slice_get t id.0 ≡ Some row → scalar_bits row.kind ≡ Some n → Agrees row.kind n m
+    → IfSome o (λ x. x.id ≡ id) → IfSome o (λ x. x.bits ≡ n) → IfSome o (λ x. x.meaning ≡ m) → ((k : Kind) → Agrees k n m → IfSome o (λ x. x.sure ≡ true → IsSure (scalar_of k) n)) → IfSome o (IsOperation t)
 operation_is t id row n m None e s g a b c f = tt
 operation_is t id row n m (Some x) e s g a b c f =
-    let here : Agrees (value_in (slice_get t id.0)) n m = subst (λ (r : Option TypeRow). Agrees (value_in r) n m) (sym e) g in
+    let here : AgreesIn (slice_get t id.0) n m = subst (λ (r : Option TypeRow). AgreesIn r n m) (sym e) g in
+    let sure = λ (k : x.sure ≡ true). subst (λ (r : Option TypeRow). IsSure (value_in r) n) (sym e) (f row.kind g k) in
     let same : id.0 ≡ x.id.0 = ap (λ (i : TypeId). i.0) (sym a) in
     record {
       size = sym (ap (λ i. bits_in (slice_get t i)) same) ∙ ap bits_in e ∙ s ∙ ap Some (sym b);
-      agrees = subst (λ i. Agrees (value_in (slice_get t i)) x.bits x.meaning) same (subst (λ k. Agrees (value_in (slice_get t id.0)) k x.meaning) (sym b) (subst (Agrees (value_in (slice_get t id.0)) n) (sym c) here));
-      sure = λ k. subst (λ i. IsSure (value_in (slice_get t i)) x.bits) same (subst (IsSure (value_in (slice_get t id.0))) (sym b) (f (value_in (slice_get t id.0)) here k));
+      agrees = subst (λ i. AgreesIn (slice_get t i) x.bits x.meaning) same (subst (λ k. AgreesIn (slice_get t id.0) k x.meaning) (sym b) (subst (AgreesIn (slice_get t id.0) n) (sym c) here));
+      sure = λ k. subst (λ i. IsSure (value_in (slice_get t i)) x.bits) same (subst (IsSure (value_in (slice_get t id.0))) (sym b) (sure k));
     }
 
 -- an entry whose type has such bits has a value, and is no open binary
@@ -210,6 +258,11 @@ entry_operation t p name id (Some x) is a op =
       typed = ap (λ q. type_by (Some q)) is ∙ ap Some same;
       is = op;
     }
+
+-- the operation of a type at the first bit
+pub scalar_is : (t : Table) (id : TypeId) (o : Option Operation) → IfSome o (λ x. x.id ≡ id) → IfSome o (λ x. x.at ≡ 0) → IfSome o (IsOperation t) → IfSome o (IsScalar t id.0)
+scalar_is t id None a b is = tt
+scalar_is t id (Some x) a b is = record { typed = ap (λ (i : TypeId). i.0) a; first = b; is = is }
 
 pub on_true : {P : Type 0} (b : Bool) → OnTrue b P → b ≡ true → P
 on_true true h e = h

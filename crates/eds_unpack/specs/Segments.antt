@@ -18,12 +18,13 @@ use Rattle.eds_types.specs.Plain.{Plain, plain, num, truth}
 use Rattle.eds_types.specs.Reading.{ranged, named, truth_of, front, read_within, read_parts, read_to_end, ended}
 use Rattle.eds_types.specs.Rows.{Table, entries_of, placed_from}
 use Rattle.eds_types.specs.Spelling.{Progress}
+use Rattle.eds_unpack.specs.declared.segment.Coding.{Coding}
 use Rattle.eds_unpack.specs.declared.segment.Meaning.{Meaning}
 use Rattle.eds_unpack.specs.declared.segment.Meaning.TheVariants as meaning
 use Rattle.eds_unpack.specs.declared.segment.Numbers.{Numbers}
 use Rattle.eds_unpack.specs.declared.segment.Operation.{Operation}
 use Rattle.eds_unpack.specs.declared.segment.Segment.{Segment}
-use Rattle.eds_unpack.specs.Entries.{IsLow}
+use Rattle.eds_unpack.specs.Entries.{IsInner, IsLow}
 use Rattle.eds_unpack.specs.Straight.{is_straight, is_straight_entry}
 
 -- ---- scalars
@@ -48,6 +49,16 @@ scalar_of (kind.Bin n free) c = Err (fault_here Short)
 scalar_of (kind.Arr item n) c = Err (fault_here Short)
 scalar_of (kind.Con container) c = Err (fault_here Short)
 
+-- the number of an integer's or a label's bits; other kinds have none
+abbrev pub integer_of : Kind → Bits → Option ℤ
+integer_of (kind.Int form spans) c = number_of form c
+integer_of (kind.Enum form listing) c = number_of form c
+integer_of (kind.Bool form) c = None
+integer_of (kind.Str form) c = None
+integer_of (kind.Bin n free) c = None
+integer_of (kind.Arr item n) c = None
+integer_of (kind.Con container) c = None
+
 -- the same of a row, if it is there
 abbrev pub bits_in : Option TypeRow → Option ℕ
 bits_in None = None
@@ -64,23 +75,50 @@ value_in (Some row) c = scalar_of row.kind c
 abbrev pub in_order : Bool → ℕ → ℕ → ℕ
 in_order little n x = if little then unsigned_of (ordered Little (low_bits n x)) else x
 
--- what a number stands for, where those from half on count less
-abbrev pub signed : ℕ → ℕ → ℕ → ℤ
-signed half less x = if nat_lt x half then pos x else pos x -ℤ pos less
+-- what a number from half on stands for: what it is above less, or, where these count down, below it
+abbrev pub from_half : Bool → ℕ → ℕ → ℤ
+from_half down less x = if down then pos less -ℤ pos x else pos x -ℤ pos less
+
+-- what a number stands for
+abbrev pub signed : Bool → ℕ → ℕ → ℕ → ℤ
+signed down half less x = if nat_lt x half then pos x else from_half down less x
 
 -- what the number x of n bits stands for
-abbrev pub made : Numbers → ℕ → ℕ → ℤ
-made r n x = signed r.half r.less (in_order r.little n x)
+abbrev pub made : Coding → ℕ → ℕ → ℤ
+made r n x = signed r.down r.half r.less (in_order r.little n x)
+
+-- the numbers of n bits are those that a coding makes
+pub record IsCoding (number : Bits → Option ℤ) (n : ℕ) (r : Coding) : Type 0 where
+  pub few : n ≤ 62
+  pub whole : r.little ≡ true → n % 8 ≡ 0
+  pub numbers : (x : ℕ) → x < 2 ^ n → number (low_bits n x) ≡ Some (made r n x)
+
+-- a number is of the domain
+pub record IsInDomain (r : Numbers) (n : ℤ) : Type 0 where
+  pub low : r.low ≤ℤ n
+  pub high : n ≤ℤ r.high
+
+-- the values of n bits are the numbers that a coding makes, where these are of the domain
+pub record AreNumbers (value : Bits → Result Plain Fault) (n : ℕ) (r : Numbers) : Type 0 where
+  pub few : n ≤ 62
+  pub whole : r.coding.little ≡ true → n % 8 ≡ 0
+  pub numbers : (x : ℕ) → x < 2 ^ n → IsInDomain r (made r.coding n x) → value (low_bits n x) ≡ Ok (num (made r.coding n x))
 
 -- the truth value that the number x stands for
 abbrev pub truth_by : Bool → ℕ → Bool
 truth_by zero_is_false x = if x == 0 then not zero_is_false else zero_is_false
 
--- what an operation makes of n bits is their value
-abbrev pub Agrees : (Bits → Result Plain Fault) → ℕ → Meaning → Type 0
-Agrees value n (meaning.Number r) = (n ≤ 62) × (r.little ≡ true → n % 8 ≡ 0) × ((x : ℕ) → x < 2 ^ n → r.low ≤ℤ made r n x → made r n x ≤ℤ r.high → value (low_bits n x) ≡ Ok (num (made r n x)))
-Agrees value n (meaning.Truth zero_is_false) = (x : ℕ) → x < 2 ^ n → value (low_bits n x) ≡ Ok (truth (truth_by zero_is_false x))
-Agrees value n meaning.Told = Unit {0}
+-- what an operation makes of n bits is what they stand for
+abbrev pub Agrees : Kind → ℕ → Meaning → Type 0
+Agrees k n (meaning.Number r) = AreNumbers (scalar_of k) n r
+Agrees k n (meaning.Label r) = IsCoding (integer_of k) n r
+Agrees k n (meaning.Truth zero_is_false) = (x : ℕ) → x < 2 ^ n → scalar_of k (low_bits n x) ≡ Ok (truth (truth_by zero_is_false x))
+Agrees k n meaning.Told = Unit {0}
+
+-- the same of a row, which is there
+abbrev pub AgreesIn : Option TypeRow → ℕ → Meaning → Type 0
+AgreesIn None n m = ⊥
+AgreesIn (Some row) n m = Agrees row.kind n m
 
 -- all patterns of n bits have a value
 abbrev pub IsSure : (Bits → Result Plain Fault) → ℕ → Type 0
@@ -89,8 +127,22 @@ IsSure value n = (x : ℕ) → x < 2 ^ n → (v : Plain) × (value (low_bits n x
 -- an operation has the bits of its type, makes the type's value of them, and says of none without reason that it has a value
 pub record IsOperation (t : Table) (o : Operation) : Type 0 where
   pub size : bits_in (slice_get t o.id.0) ≡ Some o.bits
-  pub agrees : Agrees (value_in (slice_get t o.id.0)) o.bits o.meaning
+  pub agrees : AgreesIn (slice_get t o.id.0) o.bits o.meaning
   pub sure : o.sure ≡ true → IsSure (value_in (slice_get t o.id.0)) o.bits
+
+-- it is that of a type, at the first bit
+pub record IsScalar (t : Table) (id : ℕ) (o : Operation) : Type 0 where
+  pub typed : o.id.0 ≡ id
+  pub first : o.at ≡ 0
+  pub is : IsOperation t o
+
+-- each is that of the type whose number is its place
+abbrev pub AreScalars : Table → List (Option Operation) → Type 0
+AreScalars t each = (id : ℕ) (o : Operation) → slice_get each id ≡ Some (Some o) → IsScalar t id o
+
+-- the type is read as this value, before the rest, wherever it is nested
+abbrev pub ScalarReadsAs : Table → ℕ → Bits → Plain → Bits → Type 0
+ScalarReadsAs t id b v rest = (n : ℕ) → IsInner t n id → read_within n t id b ≡ Ok (v, rest)
 
 -- it is that of an entry with a value
 pub record IsOperationOf (t : Table) (p : Part) (o : Operation) : Type 0 where

@@ -7,14 +7,13 @@ ghost use Rattle.eds_bits.specs.IntForms.{number_of};
 ghost use Rattle.eds_types.specs.Plain.{Plain, label, num};
 ghost use Rattle.eds_types.specs.Reading.{named, ranged};
 ghost use Rattle.eds_types.specs.Rules.{KindKeeps};
-ghost use Rattle.eds_unpack.specs.declared.segment.Meaning.TheVariants.{Number};
 ghost use Rattle.eds_unpack.specs.Labels.{AreLabels};
 ghost use Rattle.eds_unpack.specs.Scalars.{plain_of};
-ghost use Rattle.eds_unpack.specs.Segments.{Agrees, IsOperation, in_order, made, scalar_bits, scalar_of, value_in};
+ghost use Rattle.eds_unpack.specs.Segments.{AreNumbers, IsCoding, IsOperation, in_order, integer_of, made, scalar_bits, scalar_of, value_in};
 
 use crate::lookup::label_of;
 use crate::scalar::Scalar;
-use crate::segment::{Meaning, Numbers, Operation};
+use crate::segment::{Coding, Meaning, Numbers, Operation};
 use eds_base::Spans;
 use eds_bits::{IntForm, decode_int};
 use eds_types::{Kind, Listing, TypeTable};
@@ -38,18 +37,20 @@ fn in_order(little: bool, bits: u32, number: u64) -> u64
 
 /// What the number of so many bits stands for.
 #[inline(always)]
-fn made(numbers: Numbers, bits: u32, number: u64) -> i64
+fn made(coding: Coding, bits: u32, number: u64) -> i64
     requires some { 1 ≤ bits }
     requires few { bits ≤ 62 }
-    requires whole { numbers.little ≡ true → bits % 8 ≡ 0 }
+    requires whole { coding.little ≡ true → bits % 8 ≡ 0 }
     requires bound { number < 2 ^ bits }
-    ensures { result ≡ made numbers bits number }
+    ensures { result ≡ made coding bits number }
 {
-    let number = in_order(numbers.little, bits, number);
-    if number < numbers.half {
+    let number = in_order(coding.little, bits, number);
+    if number < coding.half {
         number as i64
+    } else if coding.down {
+        coding.less as i64 - number as i64
     } else {
-        number as i64 - numbers.less as i64
+        number as i64 - coding.less as i64
     }
 }
 
@@ -58,11 +59,11 @@ fn made(numbers: Numbers, bits: u32, number: u64) -> i64
 pub(crate) fn number_in(numbers: Numbers, bits: u32, number: u64) -> Option<i64>
     requires some { 1 ≤ bits }
     requires few { bits ≤ 62 }
-    requires whole { numbers.little ≡ true → bits % 8 ≡ 0 }
+    requires whole { numbers.coding.little ≡ true → bits % 8 ≡ 0 }
     requires bound { number < 2 ^ bits }
-    ensures { (value : Bits → Result Plain Fault) → Agrees value bits (Number numbers) → IfSome result (λ n. value (low_bits bits number) ≡ Ok (num n)) }
+    ensures { (value : Bits → Result Plain Fault) → AreNumbers value bits numbers → IfSome result (λ n. value (low_bits bits number) ≡ Ok (num n)) }
 {
-    let found = made(numbers, bits, number);
+    let found = made(numbers.coding, bits, number);
     if found < numbers.low || numbers.high < found {
         return None;
     }
@@ -106,6 +107,22 @@ fn told_scalar(kind: &Kind, number: u64) -> Option<Scalar<'_>>
     }
 }
 
+/// The label of a type, as its kind lists it, if one is listed with what the number of so many bits stands for.
+#[inline(always)]
+fn label_by(kind: &Kind, coding: Coding, bits: u32, number: u64) -> Option<Scalar<'_>>
+    requires keeps { KindKeeps kind.now }
+    requires coding { IsCoding (integer_of kind.now) bits coding }
+    requires some { 1 ≤ bits }
+    requires bound { number < 2 ^ bits }
+    ensures { IfSome result (λ s. scalar_of kind.now (low_bits bits number) ≡ Ok (plain_of s)) }
+{
+    let Kind::Enum(_, listing) = kind else {
+        return None;
+    };
+    let label = label_of(listing, i128::from(made(coding, bits, number)))?;
+    Some(Scalar::Label(label.as_str()))
+}
+
 /// What the number of an operation's bits stands for, if they have a value.
 #[inline(always)]
 pub(crate) fn scalar_at<'a>(
@@ -123,6 +140,15 @@ pub(crate) fn scalar_at<'a>(
             Some(Scalar::Num(i128::from(found)))
         }
         Meaning::Truth(zero_is_false) => Some(Scalar::Bool((number != 0) == zero_is_false)),
+        Meaning::Label(coding) => {
+            table.keeps_rules();
+            label_by(
+                &table.row(operation.id).kind,
+                coding,
+                operation.bits,
+                number,
+            )
+        }
         Meaning::Told => {
             table.keeps_rules();
             told_scalar(&table.row(operation.id).kind, number)

@@ -1,36 +1,37 @@
 //! Making the segments of the containers of a table.
 
-ghost use Rattle.std.specs.Prelude.{◌≡◌, ◌+◌, ◌*◌, ◌^◌, ◌<◌, ◌≤◌, ◌≤ℤ◌, ℕ, ℤ, pos, ◌+ℤ◌, ◌-ℤ◌, Result, Some, Bool, true, false, length, take, IfOk, IfSome};
-ghost use Rattle.eds_base.specs.declared.fault.Fault.{Fault};
-ghost use Rattle.eds_bits.specs.Bits.{Bits, low_bits};
+ghost use Rattle.std.specs.Prelude.{◌≡◌, ◌+◌, ◌*◌, ◌^◌, ◌<◌, ◌≤◌, ◌≤ℤ◌, ℕ, ℤ, pos, ◌+ℤ◌, ◌-ℤ◌, List, Some, Bool, true, false, length, take, IfOk, IfSome};
+ghost use Rattle.eds_bits.specs.Bits.{low_bits};
 ghost use Rattle.eds_bits.specs.Encodings.{number_by};
 ghost use Rattle.eds_bits.specs.IntForms.{number_of};
 ghost use Rattle.eds_bits.specs.declared.forms.ByteOrder.TheVariants.{Big, Little};
-ghost use Rattle.eds_types.specs.Plain.{Plain};
-ghost use Rattle.eds_types.specs.Reading.{is_within, ranged};
-ghost use Rattle.eds_unpack.specs.Segments.{Agrees, AreOperationsOf, IsHeadOf, IsOperation, IsOperationOf, IsSure, scalar_bits, scalar_of, signed};
+ghost use Rattle.eds_types.specs.declared.row.Kind.{Kind as Shape};
+ghost use Rattle.eds_types.specs.declared.row.Kind.TheVariants.{Int, Enum};
+ghost use Rattle.eds_types.specs.Reading.{is_within};
+ghost use Rattle.eds_unpack.specs.Segments.{Agrees, AreOperationsOf, AreScalars, IsCoding, IsHeadOf, IsOperation, IsOperationOf, IsSure, scalar_bits, scalar_of, signed};
 
-use crate::segment::{Meaning, Numbers, Operation, Segment};
+use crate::segment::{Coding, Meaning, Numbers, Operation, Segment};
 use crate::straight::is_straight;
 use eds_base::{Memory, Spans, TypeId};
 use eds_bits::{ByteOrder, Encoding, IntForm};
 use eds_types::{Kind, Part, TypeTable};
 use std::alloc::Global;
 
-/// From which number on one of so many bits stands for a lower one, and how much lower: from none on, where no number is
-/// negative. None, where the encoding wants more than that.
-fn signs_of(encoding: Encoding, bits: u32) -> Option<(u64, u64)>
+/// From which number on one of so many bits stands for what it is above another, or, where these count down, below it: from
+/// none on, where no number is negative. None, where the encoding has decimal digits.
+fn signs_of(encoding: Encoding, bits: u32) -> Option<(bool, u64, u64)>
     requires some { 1 ≤ bits }
     requires few { bits ≤ 62 }
-    ensures numbers { IfSome result (λ s. (x : ℕ) → x < 2 ^ bits → number_by encoding (low_bits bits x) ≡ Some (signed s.0 s.1 x)) }
-    ensures few { IfSome result (λ s. s.1 ≤ 2 ^ 62) }
+    ensures numbers { IfSome result (λ s. (x : ℕ) → x < 2 ^ bits → number_by encoding (low_bits bits x) ≡ Some (signed s.0 s.1 s.2 x)) }
+    ensures few { IfSome result (λ s. s.2 ≤ 2 ^ 62) }
 {
     let patterns = 1u64 << bits;
     let half = 1u64 << (bits - 1);
     match encoding {
-        Encoding::Unsigned => Some((patterns, patterns)),
-        Encoding::TwosComplement => Some((half, patterns)),
-        Encoding::OnesComplement => Some((half, patterns - 1)),
+        Encoding::Unsigned => Some((false, patterns, patterns)),
+        Encoding::TwosComplement => Some((false, half, patterns)),
+        Encoding::OnesComplement => Some((false, half, patterns - 1)),
+        Encoding::SignMagnitude => Some((true, half, half)),
         _ => None,
     }
 }
@@ -44,6 +45,23 @@ fn is_little(order: ByteOrder) -> bool
         ByteOrder::Little => true,
         ByteOrder::Big => false,
     }
+}
+
+/// What the numbers of an integer type's or a label's bits stand for. None, where there may be more than 62 bits, or decimal
+/// digits.
+fn coding_of(form: IntForm) -> Option<Coding>
+    ensures { IfSome result (IsCoding (number_of form) form.bits) }
+{
+    if form.bits > 62 {
+        return None;
+    }
+    let (down, half, less) = signs_of(form.encoding, form.bits)?;
+    Some(Coding {
+        little: is_little(form.order),
+        down,
+        half,
+        less,
+    })
 }
 
 /// The least and the greatest number of a domain that is one interval.
@@ -66,22 +84,30 @@ fn ends_of(spans: &Spans) -> Option<(i64, i64)>
 fn are_in_domain(bits: u32, numbers: Numbers) -> bool
     requires { bits ≤ 64 }
     ensures from_zero { result ≡ true → numbers.low ≤ℤ pos 0 }
-    ensures from_least { result ≡ true → numbers.low ≤ℤ (pos numbers.half -ℤ pos numbers.less) }
-    ensures to_half { result ≡ true → pos numbers.half ≤ℤ (numbers.high +ℤ pos 1) }
-    ensures to_greatest { result ≡ true → (pos (2 ^ bits) -ℤ pos numbers.less) ≤ℤ (numbers.high +ℤ pos 1) }
+    ensures to_half { result ≡ true → pos numbers.coding.half ≤ℤ (numbers.high +ℤ pos 1) }
+    ensures from_least { result ≡ true → numbers.coding.down ≡ false → numbers.low ≤ℤ (pos numbers.coding.half -ℤ pos numbers.coding.less) }
+    ensures to_greatest { result ≡ true → numbers.coding.down ≡ false → (pos (2 ^ bits) -ℤ pos numbers.coding.less) ≤ℤ (numbers.high +ℤ pos 1) }
+    ensures down_to_least { result ≡ true → numbers.coding.down ≡ true → (numbers.low +ℤ pos (2 ^ bits)) ≤ℤ (pos numbers.coding.less +ℤ pos 1) }
+    ensures down_from_greatest { result ≡ true → numbers.coding.down ≡ true → (pos numbers.coding.less -ℤ pos numbers.coding.half) ≤ℤ numbers.high }
 {
     let patterns = 1i128 << bits;
-    let half = i128::from(numbers.half);
-    let less = i128::from(numbers.less);
+    let half = i128::from(numbers.coding.half);
+    let less = i128::from(numbers.coding.less);
     let low = i128::from(numbers.low);
     let beyond = i128::from(numbers.high) + 1;
-    if low > 0 {
+    if low > 0 || half > beyond {
         return false;
+    }
+    if numbers.coding.down {
+        if less - half >= beyond {
+            return false;
+        }
+        if low + patterns > less + 1 {
+            return false;
+        }
+        return true;
     }
     if low > half - less {
-        return false;
-    }
-    if half > beyond {
         return false;
     }
     if patterns - less > beyond {
@@ -93,47 +119,48 @@ fn are_in_domain(bits: u32, numbers: Numbers) -> bool
 /// Whether all patterns of so many bits have a value.
 fn is_sure(bits: u32, meaning: Meaning) -> bool
     requires { bits ≤ 64 }
-    ensures { (value : Bits → Result Plain Fault) → Agrees value bits meaning → result ≡ true → IsSure value bits }
+    ensures { (kind : Shape) → Agrees kind bits meaning → result ≡ true → IsSure (scalar_of kind) bits }
 {
     match meaning {
         Meaning::Number(numbers) => are_in_domain(bits, numbers),
         Meaning::Truth(_) => true,
-        Meaning::Told => false,
+        Meaning::Label(_) | Meaning::Told => false,
     }
 }
 
 /// How the bits of an integer type make its value.
 fn number_meaning(form: IntForm, spans: &Spans) -> Meaning
-    ensures { Agrees (λ c. ranged spans.now (number_of form c)) form.bits result }
+    ensures { Agrees (Int form spans.now) form.bits result }
 {
-    if form.bits > 62 {
-        return Meaning::Told;
-    }
-    let Some((half, less)) = signs_of(form.encoding, form.bits) else {
+    let Some(coding) = coding_of(form) else {
         return Meaning::Told;
     };
     let Some((low, high)) = ends_of(spans) else {
         return Meaning::Told;
     };
-    Meaning::Number(Numbers {
-        little: is_little(form.order),
-        half,
-        less,
-        low,
-        high,
-    })
+    Meaning::Number(Numbers { coding, low, high })
+}
+
+/// How the bits of an enumerated type make its value.
+fn label_meaning(form: IntForm) -> Meaning
+    ensures { (listing : List (List ℕ × ℤ)) → Agrees (Enum form listing) form.bits result }
+{
+    match coding_of(form) {
+        Some(coding) => Meaning::Label(coding),
+        None => Meaning::Told,
+    }
 }
 
 /// How many bits a scalar has, and how they make its value.
 fn meaning_of(kind: &Kind) -> Option<(u32, Meaning)>
     ensures size { IfSome result (λ x. scalar_bits kind.now ≡ Some x.0) }
-    ensures agrees { IfSome result (λ x. Agrees (scalar_of kind.now) x.0 x.1) }
+    ensures agrees { IfSome result (λ x. Agrees kind.now x.0 x.1) }
     ensures some { IfSome result (λ x. 1 ≤ x.0) }
     ensures few { IfSome result (λ x. x.0 ≤ 64) }
 {
     match kind {
         Kind::Int(form, spans) => Some((form.bits, number_meaning(*form, spans))),
-        Kind::Enum(form, _) => Some((form.bits, Meaning::Told)),
+        Kind::Enum(form, _) => Some((form.bits, label_meaning(*form))),
         Kind::Bool(form) => Some((form.bits, Meaning::Truth(form.zero_is_false))),
         _ => None,
     }
@@ -148,7 +175,7 @@ fn operation_at(id: TypeId, at: u32, bits: u32, meaning: Meaning) -> Option<Oper
     ensures place { IfSome result (λ o. o.at ≡ at) }
     ensures size { IfSome result (λ o. o.bits ≡ bits) }
     ensures meaning { IfSome result (λ o. o.meaning ≡ meaning) }
-    ensures sure { (value : Bits → Result Plain Fault) → Agrees value bits meaning → IfSome result (λ o. o.sure ≡ true → IsSure value bits) }
+    ensures sure { (kind : Shape) → Agrees kind bits meaning → IfSome result (λ o. o.sure ≡ true → IsSure (scalar_of kind) bits) }
 {
     let end = at + bits;
     let first = end.div_ceil(8).max(8) - 8;
@@ -180,6 +207,20 @@ pub(crate) fn operation_of_type(table: &TypeTable, at: u32, id: TypeId) -> Optio
     }
     let (bits, meaning) = meaning_of(&table.row(id).kind)?;
     operation_at(id, at, bits, meaning)
+}
+
+/// The operations of the types of a table, each at the number of its type; those that are no scalars have none.
+pub(crate) fn scalars_of_all(
+    alloc: Global,
+    table: &TypeTable,
+) -> Result<Vec<Option<Operation>>, Memory>
+    ensures { IfOk result (λ each. AreScalars table.now each.items) }
+{
+    let mut each = Vec::with_capacity(alloc, table.len() as usize)?;
+    for number in 0..table.len() {
+        each.push(operation_of_type(table, 0, TypeId(number)))?;
+    }
+    Ok(each)
 }
 
 /// The operation of an entry at a place, if its type is a scalar and eight octets hold it.

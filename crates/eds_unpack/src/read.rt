@@ -126,7 +126,14 @@ fn read_items(
     ensures calm { OnOk result (path.new ≡ []) }
     ensures reason { IfErr result StopsReading }
 {
-    if let Some(values) = read_scalars(level.alloc, level.table, id, count, reader)? {
+    if let Some(values) = read_scalars(
+        level.alloc,
+        level.table,
+        level.segments,
+        id,
+        count,
+        reader,
+    )? {
         return Ok(values);
     }
     let mut values = Vec::new(level.alloc);

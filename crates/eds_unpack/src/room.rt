@@ -33,10 +33,11 @@ fn fill<'a>(
 {
     let octets = octets_left(reader);
     room.clear();
+    room.reserve(operations.len())?;
     for operation in operations {
         let number = number_of_bits(operation, octets, reader);
         match scalar_at(table, operation, number) {
-            Some(scalar) => room.push(scalar)?,
+            Some(scalar) => room.push_reserved(scalar),
             None => return Ok(false),
         }
     }

@@ -1,4 +1,4 @@
-//! Reading items of a scalar type, one right behind the other.
+//! Reading a value of a scalar type, and items of one, one right behind the other.
 
 ghost use Rattle.std.specs.Prelude.{◌≡◌, ◌+◌, ◌*◌, ◌%◌, ◌^◌, ◌<◌, ◌≤◌, true, Result, length, map, take, drop, slice_get, IfOk, IfSome, IfNone, OnSome};
 ghost use Rattle.eds_base.specs.declared.fault.Fault.{Fault};
@@ -6,12 +6,14 @@ ghost use Rattle.eds_bits.specs.Bits.{Bits, bits_of, unsigned_of};
 ghost use Rattle.eds_bits.specs.Reader.{bits_left};
 ghost use Rattle.eds_types.specs.Plain.{Plain, plain};
 ghost use Rattle.eds_unpack.specs.Items.{AreItems, ItemsReadAs};
-ghost use Rattle.eds_unpack.specs.Segments.{Agrees, IsOperation, value_in};
-ghost use Rattle.eds_unpack.specs.declared.segment.Meaning.TheVariants.{Number};
+ghost use Rattle.eds_unpack.specs.Segments.{AreNumbers, IsOperation, IsScalar, ScalarReadsAs, value_in};
 
+use crate::meaning::scalar_at;
 use crate::operations::operation_of_type;
+use crate::scalar::value_of;
 use crate::segment::{Meaning, Numbers, Operation};
-use crate::values::{number_ahead, octets_left, put_number, put_value, word_of};
+use crate::segments::Segments;
+use crate::values::{number_ahead, number_of_bits, octets_left, put_number, put_value, word_of};
 use eds_base::{Memory, TypeId};
 use eds_bits::BitReader;
 use eds_types::{TypeTable, Value};
@@ -83,17 +85,17 @@ fn numbers_of(
     reader: &BitReader<'_>,
 ) -> Result<Option<Vec<Value>>, Memory>
     requires few { operation.now.bits ≤ 62 }
-    requires whole { numbers.little ≡ true → operation.now.bits % 8 ≡ 0 }
+    requires whole { numbers.coding.little ≡ true → operation.now.bits % 8 ≡ 0 }
     requires enough { count * operation.now.bits ≤ length (bits_left reader.now) }
     ensures count { IfOk result (λ o. IfSome o (λ vs. length vs.items ≡ count)) }
-    ensures values { (value : Bits → Result Plain Fault) → Agrees value operation.now.bits (Number numbers) → IfOk result (λ o. IfSome o (λ vs. AreItems value operation.now.bits (bits_left reader.now) (map plain vs.items))) }
+    ensures values { (value : Bits → Result Plain Fault) → AreNumbers value operation.now.bits numbers → IfOk result (λ o. IfSome o (λ vs. AreItems value operation.now.bits (bits_left reader.now) (map plain vs.items))) }
 {
     let octets = octets_left(reader);
     let mut values = Vec::with_capacity(alloc, count as usize)?;
     let mut at = 0;
     for _ in 0..count {
         let number = number_at(operation, at, octets, reader);
-        if !put_number(numbers, operation.bits, number, &mut values)? {
+        if !put_number(numbers, operation.bits, number, &mut values) {
             return Ok(None);
         }
         at += u64::from(operation.bits);
@@ -149,21 +151,20 @@ fn items_of(
     }
 }
 
-/// Reads so many items of a scalar type. None, where the type is no scalar, too few bits are left, or some have no value: then
-/// the reader stays where it is. Memory is taken once the bits are known to be there, for as many values as there are items.
-pub(crate) fn read_scalars(
+/// Reads so many items of an operation's type. None, where too few bits are left, or some have no value: then the reader stays
+/// where it is. Memory is taken once the bits are known to be there, for as many values as there are items.
+fn read_items_by(
     alloc: Global,
     table: &TypeTable,
-    id: TypeId,
+    operation: &Operation,
     count: u128,
     reader: &mut BitReader,
 ) -> Result<Option<Vec<Value>>, Memory>
-    ensures read { IfOk result (λ o. IfSome o (λ vs. ItemsReadAs table.now id.0 count (bits_left reader.old) (map plain vs.items) (bits_left reader.new))) }
+    requires is { IsOperation table.now operation.now }
+    requires few { operation.now.bits ≤ 64 }
+    ensures read { IfOk result (λ o. IfSome o (λ vs. ItemsReadAs table.now operation.now.id.0 count (bits_left reader.old) (map plain vs.items) (bits_left reader.new))) }
     ensures same { IfOk result (λ o. IfNone o (bits_left reader.new ≡ bits_left reader.old)) }
 {
-    let Some(operation) = operation_of_type(table, 0, id) else {
-        return Ok(None);
-    };
     let Ok(count) = u32::try_from(count) else {
         return Ok(None);
     };
@@ -171,9 +172,60 @@ pub(crate) fn read_scalars(
     if reader.left() < bits {
         return Ok(None);
     }
-    let Some(values) = items_of(alloc, table, &operation, count, reader)? else {
+    let Some(values) = items_of(alloc, table, operation, count, reader)? else {
         return Ok(None);
     };
     reader.skip(bits);
     Ok(Some(values))
+}
+
+/// Reads so many items of a scalar type. None, where the type is no scalar, too few bits are left, or some have no value: then
+/// the reader stays where it is. Where the segments have no operation of the type, one is made.
+pub(crate) fn read_scalars(
+    alloc: Global,
+    table: &TypeTable,
+    segments: &Segments<'_>,
+    id: TypeId,
+    count: u128,
+    reader: &mut BitReader,
+) -> Result<Option<Vec<Value>>, Memory>
+    requires { segments.now ≡ table.now }
+    ensures read { IfOk result (λ o. IfSome o (λ vs. ItemsReadAs table.now id.0 count (bits_left reader.old) (map plain vs.items) (bits_left reader.new))) }
+    ensures same { IfOk result (λ o. IfNone o (bits_left reader.new ≡ bits_left reader.old)) }
+{
+    if let Some(operation) = segments.operation(id) {
+        return read_items_by(alloc, table, operation, count, reader);
+    }
+    match operation_of_type(table, 0, id) {
+        Some(operation) => read_items_by(alloc, table, &operation, count, reader),
+        None => Ok(None),
+    }
+}
+
+/// Reads one value of a scalar type. None, where the segments have no operation of the type, too few bits are left, or they have
+/// no value: then the reader stays where it is.
+pub(crate) fn read_scalar(
+    alloc: Global,
+    table: &TypeTable,
+    segments: &Segments<'_>,
+    id: TypeId,
+    reader: &mut BitReader,
+) -> Result<Option<Value>, Memory>
+    requires { segments.now ≡ table.now }
+    ensures read { IfOk result (λ o. IfSome o (λ v. ScalarReadsAs table.now id.0 (bits_left reader.old) (plain v) (bits_left reader.new))) }
+    ensures same { IfOk result (λ o. IfNone o (bits_left reader.new ≡ bits_left reader.old)) }
+{
+    let Some(operation) = segments.operation(id) else {
+        return Ok(None);
+    };
+    if reader.left() < u64::from(operation.bits) {
+        return Ok(None);
+    }
+    let number = number_of_bits(operation, octets_left(reader), reader);
+    let Some(scalar) = scalar_at(table, operation, number) else {
+        return Ok(None);
+    };
+    let value = value_of(alloc, scalar)?;
+    reader.skip(u64::from(operation.bits));
+    Ok(Some(value))
 }

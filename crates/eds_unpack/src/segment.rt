@@ -4,17 +4,23 @@ ghost use Rattle.std.specs.Prelude.{◌≡◌, ◌+◌, ◌-◌, ◌*◌, ◌^�
 
 use eds_base::TypeId;
 
-/// What numbers of at most 62 bits stand for: where the octet that counts least comes first, octets change places; a number
-/// from `half` on stands for one that is `less` less, as those do whose first bit is a sign; and the numbers from `low` to
-/// `high` are of the domain.
+/// What numbers of at most 62 bits stand for. Where the octet that counts least comes first, octets change places. A number
+/// from `half` on, whose first bit is a sign, stands for what it is above `less`, or, where these count down, below it.
 #[derive(Clone, Copy)]
-pub(crate) struct Numbers {
+pub(crate) struct Coding {
     pub little: bool,
+    pub down: bool,
     pub half: u64,
     pub less: u64,
+    pub ghost few: { less ≤ 2 ^ 62 },
+}
+
+/// What such numbers stand for, where those from `low` to `high` are of the domain.
+#[derive(Clone, Copy)]
+pub(crate) struct Numbers {
+    pub coding: Coding,
     pub low: i64,
     pub high: i64,
-    pub ghost few: { less ≤ 2 ^ 62 },
 }
 
 /// How the bits of an entry make its value.
@@ -22,6 +28,8 @@ pub(crate) struct Numbers {
 pub(crate) enum Meaning {
     /// They are a number.
     Number(Numbers),
+    /// They are the number of a label, which the row of the type lists.
+    Label(Coding),
     /// They are a truth value: whether all bits zero are false.
     Truth(bool),
     /// The row of the type tells.

@@ -2,12 +2,12 @@
 
 ghost use Rattle.std.specs.Prelude.{◌≡◌, Some, slice_get, IfOk, IfSome};
 ghost use Rattle.eds_types.specs.Sizes.{trailers_size};
-ghost use Rattle.eds_unpack.specs.Segments.{IsHeadOf, IsSegmentOf};
+ghost use Rattle.eds_unpack.specs.Segments.{IsHeadOf, IsScalar, IsSegmentOf};
 ghost use Rattle.eds_unpack.specs.Selectors.{IsSelectorOf};
 ghost use Rattle.eds_unpack.specs.Tails.{limited};
 
-use crate::operations::segment_of;
-use crate::segment::Segment;
+use crate::operations::{scalars_of_all, segment_of};
+use crate::segment::{Operation, Segment};
 use crate::selector::{Selector, selectors_of};
 use crate::tail::{trailers_along, trailers_of_all};
 use eds_base::{Memory, TypeId};
@@ -22,6 +22,17 @@ fn segment_at(each: &[Option<Segment>], id: TypeId) -> Option<&Segment>
 {
     match each.get(id.0 as usize) {
         Some(Some(segment)) => Some(segment),
+        _ => None,
+    }
+}
+
+/// The operation at the number of a type, if there is one.
+#[inline(always)]
+fn operation_at(operations: &[Option<Operation>], id: TypeId) -> Option<&Operation>
+    ensures { IfSome result (λ o. slice_get operations.now id.0 ≡ Some (Some o.now)) }
+{
+    match operations.get(id.0 as usize) {
+        Some(Some(operation)) => Some(operation),
         _ => None,
     }
 }
@@ -46,12 +57,15 @@ fn size_at(sizes: &[Option<u128>], id: TypeId) -> Option<u128>
 }
 
 /// The scalars that the containers of a table begin with as lists of operations, made ready to read many values of any of its
-/// types (`unpack_by`). With them are the selectors of containers with large families. It refers to its table.
+/// types (`unpack_by`). With them are the operations of scalar types and the selectors of containers with large families. It
+/// refers to its table.
 #[derive(Drop)]
 pub struct Segments<'a> {
     table: &'a TypeTable,
     // each at the number of its container; not every one has one
     each: Vec<Option<Segment>>,
+    // each at the number of its type; only scalars have one
+    operations: Vec<Option<Operation>>,
     // each at the number of its container; not every one has one
     selectors: Vec<Option<Selector>>,
     // in bits, each at the number of its container; only those that end with an open binary have one
@@ -62,7 +76,7 @@ impl<'a> Model for Segments<'a> {
     ghost use Rattle.std.specs.Prelude.{List};
     ghost use Rattle.eds_types.specs.declared.row.TypeRow.{TypeRow};
     ghost use Rattle.eds_types.specs.contracts.value.Value as value;
-    ghost use Rattle.eds_unpack.specs.Segments.{AreSegments};
+    ghost use Rattle.eds_unpack.specs.Segments.{AreScalars, AreSegments};
     ghost use Rattle.eds_unpack.specs.Selectors.{AreSelectors};
     ghost use Rattle.eds_unpack.specs.Tails.{AreBehind};
     ghost use Rattle.std.specs.Coded.{codes};
@@ -73,7 +87,7 @@ impl<'a> Model for Segments<'a> {
 
     ghost view = { λ s. s.table.now };
 
-    ghost invariant = { λ s. AreSegments s.table.now s.each.items × AreSelectors s.table.now s.selectors.items × AreBehind s.table.now s.trailers.items };
+    ghost invariant = { λ s. AreSegments s.table.now s.each.items × AreSelectors s.table.now s.selectors.items × AreBehind s.table.now s.trailers.items × AreScalars s.table.now s.operations.items };
 }
 
 impl<'a> Segments<'a> {
@@ -84,6 +98,7 @@ impl<'a> Segments<'a> {
         Segments {
             table,
             each: Vec::new(alloc),
+            operations: Vec::new(alloc),
             selectors: Vec::new(alloc),
             trailers: Vec::new(alloc),
         }
@@ -98,11 +113,13 @@ impl<'a> Segments<'a> {
             let segment = segment_of(alloc, table, TypeId(number))?;
             each.push(segment)?;
         }
+        let operations = scalars_of_all(alloc, table)?;
         let selectors = selectors_of(alloc, table)?;
         let trailers = trailers_of_all(alloc, table)?;
         Ok(Segments {
             table,
             each,
+            operations,
             selectors,
             trailers,
         })
@@ -132,6 +149,14 @@ impl<'a> Segments<'a> {
             Some(segment) if segment.whole => Some(segment),
             _ => None,
         }
+    }
+
+    /// The operation of a type at the first bit, if it has one: a scalar's, where these are not none at all.
+    #[inline(always)]
+    pub(crate) fn operation(&self, id: TypeId) -> Option<&Operation>
+        ensures { IfSome result (λ o. IsScalar self.now id.0 o.now) }
+    {
+        operation_at(self.operations.as_slice(), id)
     }
 
     /// The selector of a container, if it has one.

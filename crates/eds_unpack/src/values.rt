@@ -1,14 +1,13 @@
 //! Reading the values of a container by its segment.
 
-ghost use Rattle.std.specs.Prelude.{◌≡◌, ◌+◌, ◌*◌, ◌%◌, ◌^◌, ◌<◌, ◌≤◌, Result, true, length, map, take, drop, slice_get, IfOk, IfSome, IfNone};
+ghost use Rattle.std.specs.Prelude.{◌≡◌, ◌+◌, ◌*◌, ◌%◌, ◌^◌, ◌<◌, ◌≤◌, Result, true, length, map, take, drop, slice_get, vec_len, vec_capacity, IfOk, IfSome, IfNone};
 ghost use Rattle.std.specs.Bool.{OnFalse, OnTrue};
 ghost use Rattle.std.specs.List.{All};
 ghost use Rattle.eds_base.specs.declared.fault.Fault.{Fault};
 ghost use Rattle.eds_bits.specs.Bits.{Bits, bits_of, low_bits, unsigned_of};
 ghost use Rattle.eds_bits.specs.Reader.{bits_left};
 ghost use Rattle.eds_types.specs.Plain.{Plain, plain, fields, plains_of};
-ghost use Rattle.eds_unpack.specs.declared.segment.Meaning.TheVariants.{Number};
-ghost use Rattle.eds_unpack.specs.Segments.{Agrees, ArePut, IsOperation, IsPut, IsSegmentOf, ReadsAs, value_in};
+ghost use Rattle.eds_unpack.specs.Segments.{AreNumbers, ArePut, IsOperation, IsPut, IsSegmentOf, ReadsAs, value_in};
 
 use crate::meaning::{number_in, scalar_at};
 use crate::scalar::value_of;
@@ -83,32 +82,29 @@ pub(crate) fn number_of_bits(operation: &Operation, octets: &[u8], reader: &BitR
     }
 }
 
-/// Puts what the number of so many bits stands for last, if it is of the domain.
+/// Puts what the number of so many bits stands for last, where there is room for it, if it is of the domain.
 #[inline(always)]
-pub(crate) fn put_number(
-    numbers: Numbers,
-    bits: u32,
-    number: u64,
-    values: &mut Vec<Value>,
-) -> Result<bool, Memory>
+pub(crate) fn put_number(numbers: Numbers, bits: u32, number: u64, values: &mut Vec<Value>) -> bool
     requires some { 1 ≤ bits }
     requires few { bits ≤ 62 }
-    requires whole { numbers.little ≡ true → bits % 8 ≡ 0 }
+    requires whole { numbers.coding.little ≡ true → bits % 8 ≡ 0 }
     requires bound { number < 2 ^ bits }
-    ensures more { IfOk result (λ put. OnTrue put (length values.new.items ≡ length values.old.items + 1)) }
-    ensures put { (value : Bits → Result Plain Fault) → Agrees value bits (Number numbers) → IfOk result (λ put. OnTrue put (IsPut (value (low_bits bits number)) values.old.items values.new.items)) }
-    ensures same { IfOk result (λ put. OnFalse put (values.new.items ≡ values.old.items)) }
+    requires spare { vec_len values.old < vec_capacity values.old }
+    ensures put { (value : Bits → Result Plain Fault) → AreNumbers value bits numbers → OnTrue result (IsPut (value (low_bits bits number)) values.old.items values.new.items) }
+    ensures more { OnTrue result (vec_len values.new ≡ vec_len values.old + 1) }
+    ensures same { OnFalse result (values.new.items ≡ values.old.items) }
+    ensures room { vec_capacity values.new ≡ vec_capacity values.old }
 {
     match number_in(numbers, bits, number) {
         Some(found) => {
-            values.push(Value::Num(i128::from(found)))?;
-            Ok(true)
+            values.push_reserved(Value::Num(i128::from(found)));
+            true
         }
-        None => Ok(false),
+        None => false,
     }
 }
 
-/// Puts the value of an operation last, if its bits have one.
+/// Puts the value of an operation last, where there is room for it, if its bits have one.
 #[inline(always)]
 pub(crate) fn put_value(
     alloc: Global,
@@ -119,16 +115,19 @@ pub(crate) fn put_value(
 ) -> Result<bool, Memory>
     requires is { IsOperation table.now operation.now }
     requires bound { number < 2 ^ operation.now.bits }
+    requires spare { vec_len values.old < vec_capacity values.old }
     ensures put { IfOk result (λ put. OnTrue put (IsPut (value_in (slice_get table.now operation.now.id.0) (low_bits operation.now.bits number)) values.old.items values.new.items)) }
+    ensures more { IfOk result (λ put. OnTrue put (vec_len values.new ≡ vec_len values.old + 1)) }
     ensures same { IfOk result (λ put. OnFalse put (values.new.items ≡ values.old.items)) }
+    ensures room { vec_capacity values.new ≡ vec_capacity values.old }
 {
     // a number is put with no scalar between, which would cost half as much again
     if let Meaning::Number(numbers) = operation.meaning {
-        return put_number(numbers, operation.bits, number, values);
+        return Ok(put_number(numbers, operation.bits, number, values));
     }
     match scalar_at(table, operation, number) {
         Some(scalar) => {
-            values.push(value_of(alloc, scalar)?)?;
+            values.push_reserved(value_of(alloc, scalar)?);
             Ok(true)
         }
         None => Ok(false),

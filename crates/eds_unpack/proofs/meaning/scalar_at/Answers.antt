@@ -1,12 +1,13 @@
 use Rattle.std.proofs.Common.{Ok, slice_get, ◌∙◌, ap, subst, arith}
 use Rattle.std.proofs.lemmas.Int.{ints}
 use Rattle.eds_types.specs.Plain.{num}
-use Rattle.eds_unpack.specs.Segments.{Agrees, value_in}
+use Rattle.eds_unpack.specs.Segments.{AgreesIn, value_in}
+use Rattle.eds_unpack.proofs.Meanings.{in_row}
 use Rattle.eds_unpack.proofs.meaning.scalar_at.Goals as goal
 
 pub returns-in_ok-found-in-Number : goal.returns-in_ok-found-in-Number
 returns-in_ok-found-in-Number c =
-    let value = value_in (slice_get c.args.table.now c.args.operation.now.id.0) in
-    let agrees = subst (Agrees value c.args.operation.now.bits) c.in-Number.is c.requires.is.agrees in
+    let row = slice_get c.args.table.now c.args.operation.now.id.0 in
+    let are = in_row row c.args.operation.now.bits c.in-Number.numbers (subst (AgreesIn row c.args.operation.now.bits) c.in-Number.is c.requires.is.agrees) in
     let same = c.from.ensures in
-    c.in_ok-found-in-Number.ensures value agrees ∙ ap (λ n. Ok (num n)) (omega (arith, ints))
+    c.in_ok-found-in-Number.ensures (value_in row) are ∙ ap (λ n. Ok (num n)) (omega (arith, ints))

@@ -12,6 +12,5 @@ returns c =
     let high = c.in-Some-ends_of.high in
     let low_fits : SFits w64 c.in-Some-ends_of.low = search rules in
     let high_fits : SFits w64 c.in-Some-ends_of.high = search rules in
-    number_agrees c.args.form c.args.spans.now (record { little = c.is_little.result; half = c.in-Some.half; less = c.in-Some.less; low = to_z w64 (of_z w64 c.in-Some-ends_of.low); high = to_z w64 (of_z w64 c.in-Some-ends_of.high); few = c.in-Some.ensures.few })
-    c.if-form-gt62.false c.is_little.ensures.little c.is_little.ensures.big c.in-Some.ensures.numbers
+    number_agrees c.args.form c.args.spans.now (record { coding = c.in-Some.coding; low = to_z w64 (of_z w64 c.in-Some-ends_of.low); high = to_z w64 (of_z w64 c.in-Some-ends_of.high) }) c.in-Some.ensures
     (λ n h k. c.in-Some-ends_of.ensures n (subst (λ m. m ≤ℤ n) (to_z-of_z w64 low low_fits) h) (subst (λ m. n ≤ℤ m) (to_z-of_z w64 high high_fits) k))

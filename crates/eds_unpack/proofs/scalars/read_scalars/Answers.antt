@@ -1,23 +1,24 @@
-use Rattle.std.proofs.Common.{◌≡◌, ◌*◌, ◌≤◌, length, map, slice_get, drop, ap, ap₂, subst, ◌∙◌, arith}
-use Rattle.std.specs.Prelude.{IfSome}
+use Rattle.std.proofs.Common.{◌≤◌, map, ap, subst, arith}
+use Rattle.std.specs.Prelude.{IfOk, IfSome}
 use Rattle.eds_base.specs.declared.ids.TypeId.{TypeId}
 use Rattle.eds_bits.specs.Reader.{bits_left}
 use Rattle.eds_types.specs.Plain.{plain}
-use Rattle.eds_unpack.specs.Items.{AreItems, ItemsReadAs}
-use Rattle.eds_unpack.specs.Segments.{value_in}
-use Rattle.eds_unpack.proofs.ItemReads.{items_read}
+use Rattle.eds_types.specs.Rows.{Table}
+use Rattle.eds_unpack.specs.Items.{ItemsReadAs}
+use Rattle.eds_unpack.specs.Segments.{IsOperation}
+use Rattle.eds_unpack.proofs.ItemReads.{few_bits}
 use Rattle.eds_unpack.proofs.scalars.read_scalars.Goals as goal
 
-pub returns-clause-read : goal.returns-clause-read
-returns-clause-read c =
-    let t = c.args.table.now in
-    let o = c.in-Some.operation in
-    let b = bits_left c.args.reader.now in
-    let count : c.in-Ok.count ≡ c.args.count = omega arith in
-    let all : c.from.result * c.from-2.result ≡ c.args.count * o.bits = ap₂ (λ x y. x * y) (c.from.ensures ∙ count) c.from-2.ensures in
-    let enough : c.args.count * o.bits ≤ length b = omega arith in
-    let size = subst (λ x. IfSome x (λ vs. length vs.items ≡ c.in-Ok.count)) c.in-Some-2.is c.in_ok-values.ensures.count in
-    let values = subst (λ x. IfSome x (λ vs. AreItems (value_in (slice_get t o.id.0)) o.bits b (map plain vs.items))) c.in-Some-2.is c.in_ok-values.ensures.values in
-    let rest : bits_left c.skip.new.self ≡ drop (c.args.count * o.bits) b = c.skip.ensures ∙ ap (λ n. drop n b) all in
-    subst (λ (i : TypeId). ItemsReadAs t i.0 c.args.count b (map plain c.in-Some-2.values.items) (bits_left c.skip.new.self)) c.in-Some.ensures.typed
-    (items_read t o.id.0 o.bits c.args.count b (bits_left c.skip.new.self) c.in-Some-2.values.items c.in-Some.ensures.is.size enough (size ∙ count) values rest)
+pub read_items_by-requires-clause-is : goal.read_items_by-requires-clause-is
+read_items_by-requires-clause-is c = subst (λ (t : Table). IsOperation t c.in-Some.operation.now) c.requires c.in-Some.ensures.is
+
+pub read_items_by-requires-clause-few : goal.read_items_by-requires-clause-few
+read_items_by-requires-clause-few c = few_bits c.in-Some.operation.now c.in-Some.ensures.first
+
+pub returns-in-Some-clause-read : goal.returns-in-Some-clause-read
+returns-in-Some-clause-read c =
+    subst (λ i. IfOk c.read_items_by.result (λ o. IfSome o (λ vs. ItemsReadAs c.args.table.now i c.args.count (bits_left c.args.reader.now) (map plain vs.items) (bits_left c.read_items_by.new.reader)))) c.in-Some.ensures.typed c.read_items_by.ensures.read
+
+pub returns-in-Some-operation_of_type-clause-read : goal.returns-in-Some-operation_of_type-clause-read
+returns-in-Some-operation_of_type-clause-read c =
+    subst (λ (i : TypeId). IfOk c.read_items_by-in-Some-operation_of_type.result (λ o. IfSome o (λ vs. ItemsReadAs c.args.table.now i.0 c.args.count (bits_left c.args.reader.now) (map plain vs.items) (bits_left c.read_items_by-in-Some-operation_of_type.new.reader)))) c.in-Some-operation_of_type.ensures.typed c.read_items_by-in-Some-operation_of_type.ensures.read

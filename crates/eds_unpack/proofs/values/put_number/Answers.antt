@@ -5,7 +5,7 @@ use Rattle.eds_types.proofs.PlainValues.{plain_num}
 use Rattle.eds_unpack.proofs.Meanings.{put_last}
 use Rattle.eds_unpack.proofs.values.put_number.Goals as goal
 
-pub returns-in_ok-push-in-Some-clause-put : goal.returns-in_ok-push-in-Some-clause-put
-returns-in_ok-push-in-Some-clause-put c =
+pub returns-in-Some-clause-put : goal.returns-in-Some-clause-put
+returns-in-Some-clause-put c =
     let same = c.from.ensures in
-    λ value agrees. put_last _ _ _ _ (num c.in-Some.found) c.in_ok-push-in-Some.ensures.items (plain_num _ ∙ ap num (omega (arith, ints))) (c.in-Some.ensures value agrees)
+    λ value are. put_last _ _ _ _ (num c.in-Some.found) c.push_reserved.ensures.items (plain_num _ ∙ ap num (omega (arith, ints))) (c.in-Some.ensures value are)
