@@ -1,7 +1,7 @@
 -- Items of a scalar type are read one right behind the other as the reading function reads them.
 use Rattle.std.proofs.Common.{◌≡◌, ℕ, suc, ◌+◌, ◌*◌, ◌<◌, ◌≤◌, List, [], ◌∷◌, ◌++◌, length, map, get_or, take, drop, Some, Result, Ok, sym, ap, ap₂, subst, ◌∙◌, arith, length-drop}
 use Rattle.std.specs.Prelude.{slice_get}
-use Rattle.std.proofs.lemmas.List.{drop-drop, drop_more, length-append, length-map}
+use Rattle.std.proofs.lemmas.List.{drop-drop, drop_more, length-map}
 use Rattle.eds_base.specs.declared.fault.Fault.{Fault}
 use Rattle.eds_base.specs.declared.fault.Step.TheVariants as step
 use Rattle.eds_bits.specs.Bits.{Bits, bits_of, low_bits, unsigned_of}

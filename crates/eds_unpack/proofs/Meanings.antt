@@ -24,9 +24,8 @@ use Rattle.eds_bits.proofs.Patterns.{unsigned_pattern, twos_positive, twos_negat
 use Rattle.eds_codec.proofs.Booleans.{is_zero_number}
 use Rattle.eds_types.specs.Failing.{fault_here}
 use Rattle.eds_types.specs.declared.value.Value.{Value}
-use Rattle.eds_types.specs.declared.value.Value.TheVariants as value
-use Rattle.eds_types.specs.Plain.{Plain, plain, num, label, truth}
-use Rattle.eds_types.specs.Reading.{is_within, ranged, label_of, label_as, named, truth_of}
+use Rattle.eds_types.specs.Plain.{Plain, plain, num, truth}
+use Rattle.eds_types.specs.Reading.{is_within, ranged}
 use Rattle.eds_types.proofs.ReadingTests.{within_in}
 use Rattle.eds_base.specs.declared.ids.TypeId.{TypeId}
 use Rattle.eds_types.specs.declared.row.Kind.{Kind}
@@ -42,7 +41,7 @@ use Rattle.eds_unpack.specs.declared.segment.Meaning.{Meaning}
 use Rattle.eds_unpack.specs.declared.segment.Meaning.TheVariants as meaning
 use Rattle.eds_unpack.specs.declared.segment.Numbers.{Numbers}
 use Rattle.eds_unpack.specs.declared.segment.Operation.{Operation}
-use Rattle.eds_unpack.specs.Segments.{scalar_bits, scalar_of, integer_of, bits_in, value_in, in_order, from_half, signed, made, truth_by, Agrees, AgreesIn, AreNumbers, IsCoding, IsInDomain, IsOperation, IsOperationOf, IsPut, IsScalar, IsSure}
+use Rattle.eds_unpack.specs.Segments.{scalar_bits, scalar_of, bits_in, value_in, in_order, from_half, signed, made, truth_by, Agrees, AgreesIn, AreNumbers, IsCoding, IsInDomain, IsOperation, IsOperationOf, IsPut, IsScalar, IsSure}
 use Rattle.eds_unpack.specs.Straight.{is_straight_entry}
 
 -- ---- numbers
@@ -56,12 +55,6 @@ signed_above down half less x h = ap (λ b. cond b (pos x) (from_half down less 
 -- what a result says that computes it by cases
 pub signed_is : (down : Bool) (half less x : ℕ) (z : ℤ) → x < half → z ≡ pos x → z ≡ signed down half less x
 signed_is down half less x z h e = e ∙ sym (signed_below down half less x h)
-
-pub down_is : (down : Bool) (half less x : ℕ) (z : ℤ) → half ≤ x → down ≡ true → z ≡ pos less -ℤ pos x → z ≡ signed down half less x
-down_is down half less x z h d e = e ∙ sym (signed_above down half less x h ∙ ap (λ b. from_half b less x) d)
-
-pub less_is : (down : Bool) (half less x : ℕ) (z : ℤ) → half ≤ x → down ≡ false → z ≡ pos x -ℤ pos less → z ≡ signed down half less x
-less_is down half less x z h d e = e ∙ sym (signed_above down half less x h ∙ ap (λ b. from_half b less x) d)
 
 pub unsigned_numbers : (n half less : ℕ) → half ≡ 2 ^ n → (x : ℕ) → x < 2 ^ n → number_by Unsigned (low_bits n x) ≡ Some (signed false half less x)
 unsigned_numbers n half less e x h =
@@ -146,19 +139,6 @@ number_agrees form spans r is within = record {
 pub in_row : (row : Option TypeRow) (n : ℕ) (r : Numbers) → AgreesIn row n (meaning.Number r) → AreNumbers (value_in row) n r
 in_row None n r h = absurd h
 in_row (Some row) n r h = h
-
-pub truth_in_row : (row : Option TypeRow) (n : ℕ) (zero_is_false : Bool) → AgreesIn row n (meaning.Truth zero_is_false) → (x : ℕ) → x < 2 ^ n → value_in row (low_bits n x) ≡ Ok (truth (truth_by zero_is_false x))
-truth_in_row None n zero_is_false h = absurd h
-truth_in_row (Some row) n zero_is_false h = h
-
--- ---- labels
-
--- the label that is listed with a number
-pub label_is : (k : Kind) (form : IntForm) (listing : List (List ℕ × ℤ)) (r : Coding) (n x : ℕ) (l : List ℕ) → k ≡ kind.Enum form listing → IsCoding (integer_of k) n r → x < 2 ^ n → Some l ≡ label_of listing listing (made r n x) → scalar_of k (low_bits n x) ≡ Ok (label l)
-label_is k form listing r n x l e is h found =
-    ap (λ q. scalar_of q (low_bits n x)) e
-    ∙ ap (named listing) (ap (λ q. integer_of q (low_bits n x)) (sym e) ∙ is.numbers x h)
-    ∙ ap label_as (sym found)
 
 -- ---- truth values
 

@@ -1,6 +1,4 @@
-use Rattle.std.proofs.Common.{◌∙◌, sym}
 use Rattle.eds_unpack.proofs.Labels.{kind_listed}
-use Rattle.eds_unpack.proofs.Meanings.{label_is}
 use Rattle.eds_unpack.proofs.meaning.label_by.Goals as goal
 
 pub label_of-requires : goal.label_of-requires

@@ -2,7 +2,7 @@ use Rattle.std.proofs.Common.{◌∙◌, ◌^◌, ◌≤◌, ap, arith}
 use Rattle.std.proofs.Math.Nat.{pow-le-pow_right}
 use Rattle.std.proofs.lemmas.Int.{ints}
 use Rattle.eds_unpack.specs.Segments.{signed}
-use Rattle.eds_unpack.proofs.Meanings.{signed_is, down_is, less_is}
+use Rattle.eds_unpack.proofs.Meanings.{signed_is}
 use Rattle.eds_unpack.proofs.meaning.made.Goals as goal
 
 pub returns-then-number-coding : goal.returns-then-number-coding

@@ -1,4 +1,4 @@
-use Rattle.std.proofs.Common.{◌≡◌, ◌*◌, ◌≤◌, length, map}
+use Rattle.std.proofs.Common.{◌≡◌, ◌*◌, ◌≤◌, map}
 use Rattle.std.specs.Prelude.{Result, vec_len, vec_capacity}
 use Rattle.eds_base.specs.declared.fault.Fault.{Fault}
 use Rattle.eds_bits.specs.Bits.{Bits}

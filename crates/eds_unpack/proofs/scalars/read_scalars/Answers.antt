@@ -1,4 +1,4 @@
-use Rattle.std.proofs.Common.{◌≤◌, map, ap, subst, arith}
+use Rattle.std.proofs.Common.{map, subst}
 use Rattle.std.specs.Prelude.{IfOk, IfSome}
 use Rattle.eds_base.specs.declared.ids.TypeId.{TypeId}
 use Rattle.eds_bits.specs.Reader.{bits_left}
