@@ -1,39 +1,26 @@
 //! The constraints of containers.
 
-ghost use Rattle.std.specs.Prelude.{◌≡◌, ◌≤◌, ◌+◌, ℕ, ◌++◌, [], length, option_map, slice_get, OnOk, IfErr};
-ghost use Rattle.std.specs.Option.{option_copied};
+ghost use Rattle.std.specs.Prelude.{◌≡◌, ◌≤◌, ◌+◌, ℕ, ◌++◌, [], length, OnOk, IfErr};
 ghost use Rattle.std.specs.List.{AllByRecursion};
 ghost use Rattle.eds_types.specs.Failing.{path_steps};
-ghost use Rattle.eds_types.specs.Plain.{plain};
-ghost use Rattle.eds_types.specs.Seeking.{first_on};
 ghost use Rattle.eds_types.specs.Reading.{holds, check_all};
 ghost use Rattle.eds_types.specs.Choices.{IsNear};
 ghost use Rattle.eds_unpack.specs.Courses.{fields_of};
 ghost use Rattle.eds_unpack.specs.Readers.{Gives, with_path, StopsReading};
 
-use crate::fields::{ReadFields, field_at};
+use crate::fields::ReadFields;
+use crate::number::number_on;
 use eds_base::{Fail, Path, Reason, Step, TypeId};
-use eds_types::{Constraint, TypeTable, Value, holds_from};
-
-/// The value that a path begins with.
-fn first_value<'a>(fields: &'a ReadFields, path: &[(TypeId, u16)]) -> Option<&'a Value>
-    ensures { option_map plain (option_copied result) ≡ first_on (fields_of fields.now) path.now }
-{
-    match path {
-        [] => None,
-        [first, ..] => field_at(fields, first.0, first.1),
-    }
-}
+use eds_types::{Constraint, TypeTable};
 
 /// Whether a constraint holds.
 pub(crate) fn holds(table: &TypeTable, fields: &ReadFields, constraint: &Constraint) -> bool
     ensures { result ≡ holds table.now (fields_of fields.now) constraint.now }
 {
-    holds_from(
-        table,
-        first_value(fields, constraint.path.as_slice()),
-        constraint,
-    )
+    match number_on(table, fields, constraint.path.as_slice()) {
+        Some(number) => constraint.set.holds(number),
+        None => false,
+    }
 }
 
 /// Puts the steps along a path into it.

@@ -41,10 +41,11 @@ mod values;
 mod walk;
 mod whole;
 
+pub use fault::FaultRoom;
 pub use program::Program;
 pub use room::scalars_by;
 pub use scalar::Scalar;
 pub use scratch::Scratch;
 pub use segments::Segments;
 pub use splitter::{Fed, Splitter, Taken};
-pub use whole::{unpack, unpack_by};
+pub use whole::{unpack, unpack_by, unpack_in};

@@ -6,7 +6,7 @@ ghost use Rattle.eds_unpack.specs.Courses.{fields_of};
 
 use crate::fields::{ReadFields, field_at};
 use eds_base::TypeId;
-use eds_types::{TypeTable, number_from};
+use eds_types::{TypeTable, Value, number_from};
 
 /// The number that fields have on a path, None exactly where they have none.
 pub(crate) fn number_on(
@@ -16,8 +16,13 @@ pub(crate) fn number_on(
 ) -> Option<i128>
     ensures { result ≡ number_of_fields table.now (fields_of fields.now) path.now }
 {
-    let [first, ..] = path else {
+    let [first, rest @ ..] = path else {
         return None;
     };
-    number_from(table, field_at(fields, first.0, first.1), path)
+    let value = field_at(fields, first.0, first.1);
+    match (value, rest) {
+        // the row of the entry's type, which only labels need, is not looked for
+        (Some(Value::Num(number)), []) => Some(*number),
+        _ => number_from(table, value, path),
+    }
 }

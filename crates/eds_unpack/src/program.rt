@@ -18,7 +18,7 @@ use crate::notes::Notes;
 use crate::recognise::recognise_front;
 use crate::scratch::Scratch;
 use crate::segments::Segments;
-use crate::whole::unpack_by;
+use crate::whole::{unpack_by, unpack_in};
 use eds_base::{Fail, Fault, Memory, TypeId};
 use eds_bits::BitView;
 use eds_overlap::law::reading_is_exact;
@@ -110,7 +110,14 @@ impl<'a> Program<'a> {
         ensures only_fault { (g : Fault) → FailsAt self.now.table self.now.id (view_bits view.entry) g → IsFault g result }
         ensures reason { IfFault (λ (g : Fault). IsOfReading g.reason) result }
     {
-        self.value_of(alloc, view)
+        unpack_in(
+            alloc,
+            self.table,
+            &self.segments,
+            self.id,
+            view,
+            &mut scratch.fault,
+        )
     }
 
     /// Which container the bits of a view begin with, and how many bits it takes: the most derived one of the value that they

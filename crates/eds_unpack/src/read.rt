@@ -22,7 +22,7 @@ use crate::head::{behind, put_head, read_head};
 use crate::octets::{read_octets, read_string, skip_padding};
 use crate::progress::{FEW, Reached, begin, has_told_size, keep_field};
 use crate::scalar::{read_integer, read_label, read_truth};
-use crate::scalars::read_scalars;
+use crate::scalars::{read_scalar, read_scalars};
 use crate::segments::Segments;
 use crate::straight::{is_straight, type_of};
 use crate::sum::sum_before;
@@ -71,6 +71,9 @@ pub(crate) fn read_value(
         segments: level.segments,
         depth: level.depth - 1,
     };
+    if let Some(value) = read_scalar(level.alloc, level.table, level.segments, id, reader)? {
+        return Ok(value);
+    }
     read_row(&inner, id, level.table.row(id), path, reader)
 }
 

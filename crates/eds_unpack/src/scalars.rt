@@ -9,7 +9,6 @@ ghost use Rattle.eds_unpack.specs.Items.{AreItems, ItemsReadAs};
 ghost use Rattle.eds_unpack.specs.Segments.{AreNumbers, IsOperation, IsScalar, ScalarReadsAs, value_in};
 
 use crate::meaning::scalar_at;
-use crate::operations::operation_of_type;
 use crate::scalar::value_of;
 use crate::segment::{Meaning, Numbers, Operation};
 use crate::segments::Segments;
@@ -180,7 +179,7 @@ fn read_items_by(
 }
 
 /// Reads so many items of a scalar type. None, where the type is no scalar, too few bits are left, or some have no value: then
-/// the reader stays where it is. Where the segments have no operation of the type, one is made.
+/// the reader stays where it is.
 pub(crate) fn read_scalars(
     alloc: Global,
     table: &TypeTable,
@@ -193,17 +192,14 @@ pub(crate) fn read_scalars(
     ensures read { IfOk result (λ o. IfSome o (λ vs. ItemsReadAs table.now id.0 count (bits_left reader.old) (map plain vs.items) (bits_left reader.new))) }
     ensures same { IfOk result (λ o. IfNone o (bits_left reader.new ≡ bits_left reader.old)) }
 {
-    if let Some(operation) = segments.operation(id) {
-        return read_items_by(alloc, table, operation, count, reader);
-    }
-    match operation_of_type(table, 0, id) {
-        Some(operation) => read_items_by(alloc, table, &operation, count, reader),
+    match segments.operation(id) {
+        Some(operation) => read_items_by(alloc, table, operation, count, reader),
         None => Ok(None),
     }
 }
 
-/// Reads one value of a scalar type. None, where the segments have no operation of the type, too few bits are left, or they have
-/// no value: then the reader stays where it is.
+/// Reads one value of a scalar type. None, where the type is no scalar, too few bits are left, or they have no value: then the
+/// reader stays where it is.
 pub(crate) fn read_scalar(
     alloc: Global,
     table: &TypeTable,

@@ -1,18 +1,20 @@
-//! Room for the numbers that a program notes as it reads.
+//! Room for what a program keeps as it reads.
 
 ghost use Rattle.std.specs.Prelude.{◌≡◌, IfOk};
 ghost use Rattle.eds_unpack.specs.Asked.{slots_of};
 
+use crate::fault::FaultRoom;
 use crate::program::Program;
 use eds_base::Memory;
 use std::alloc::Global;
 use std::marker::Model;
 
-/// Slots for the numbers that constraints and lists ask for, one for each. It is made once and used for any number of calls,
-/// one after the other: what it held before matters to none.
+/// Slots for the numbers that constraints and lists ask for, one for each, and a room for the path of a fault. It is made once
+/// and used for any number of calls, one after the other: what it held before matters to none.
 #[derive(Drop)]
 pub struct Scratch {
     pub(crate) numbers: Vec<Option<i128>>,
+    pub(crate) fault: FaultRoom,
 }
 
 impl Model for Scratch {
@@ -32,7 +34,8 @@ impl Scratch {
     {
         let slots = program.slots() as usize;
         let numbers = vec![in alloc; None; slots]?;
-        Ok(Scratch { numbers })
+        let fault = FaultRoom::new();
+        Ok(Scratch { numbers, fault })
     }
 
     /// How many slots it has.

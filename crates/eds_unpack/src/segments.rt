@@ -91,19 +91,6 @@ impl<'a> Model for Segments<'a> {
 }
 
 impl<'a> Segments<'a> {
-    /// None at all.
-    pub(crate) fn none(alloc: Global, table: &'a TypeTable) -> Segments<'a>
-        ensures { result ≡ table.now }
-    {
-        Segments {
-            table,
-            each: Vec::new(alloc),
-            operations: Vec::new(alloc),
-            selectors: Vec::new(alloc),
-            trailers: Vec::new(alloc),
-        }
-    }
-
     /// Those of all containers of a table that have one, in time and memory by the size of the table.
     pub fn of(alloc: Global, table: &'a TypeTable) -> Result<Segments<'a>, Memory>
         ensures { IfOk result (λ s. s ≡ table.now) }
@@ -151,7 +138,7 @@ impl<'a> Segments<'a> {
         }
     }
 
-    /// The operation of a type at the first bit, if it has one: a scalar's, where these are not none at all.
+    /// The operation of a type at the first bit, if it has one: that of a scalar.
     #[inline(always)]
     pub(crate) fn operation(&self, id: TypeId) -> Option<&Operation>
         ensures { IfSome result (λ o. IsScalar self.now id.0 o.now) }

@@ -1,7 +1,7 @@
 //! The value at the front of some bits.
 
 ghost use Rattle.eds_base.specs.declared.fault.Fault.{Fault};
-ghost use Rattle.std.specs.Prelude.{◌≡◌, ◌++◌, ◌<◌, ◌≤◌, Ok, length, take, IfOk, IfSome};
+ghost use Rattle.std.specs.Prelude.{◌≡◌, ◌++◌, ◌<◌, ◌≤◌, [], Ok, length, take, IfErr, IfOk, IfSome, OnOk};
 ghost use Rattle.eds_bits.specs.Bits.{Bits};
 ghost use Rattle.eds_bits.specs.Reader.{view_bits};
 ghost use Rattle.eds_overlap.specs.Laws.{read_type};
@@ -10,13 +10,13 @@ ghost use Rattle.eds_types.specs.Overlap.{IsClear};
 ghost use Rattle.eds_types.specs.Plain.{Plain, plain};
 ghost use Rattle.eds_types.specs.Spelling.{Spells};
 ghost use Rattle.eds_unpack.specs.Answers.{IsOfReading, IsValue, IsFault, IfFault};
-ghost use Rattle.eds_unpack.specs.Readers.{Gives, sized};
+ghost use Rattle.eds_unpack.specs.Readers.{Gives, StopsReading, sized, with_path};
 
-use crate::fault::stop_at;
+use crate::fault::{FaultRoom, stop_in};
 use crate::read::{Level, read_value};
 use crate::segments::Segments;
 use crate::values::read_segment;
-use eds_base::{Fail, Fault, Memory, Path, TypeId};
+use eds_base::{Fail, Fault, Memory, Path, Reason, TypeId};
 use eds_bits::{BitReader, BitView};
 use eds_overlap::law::reading_is_exact;
 use eds_types::{TypeTable, Value};
@@ -48,20 +48,24 @@ fn straight_front(
     }
 }
 
-/// The value that the bits of a view begin with, and how many bits it takes.
+/// The value that the bits of a view begin with, and how many bits it takes, or the reason for which reading fails, with the
+/// path to where it does.
 fn read_front(
     alloc: Global,
     table: &TypeTable,
     segments: &Segments<'_>,
     id: TypeId,
     view: BitView,
-) -> Result<(Value, u32), Fail<Fault>>
+    path: &mut Path,
+) -> Result<(Value, u32), Fail<Reason>>
     requires segments { segments.now ≡ table.now }
     requires known { id.0 < length table.now }
     requires clear { IsClear table.now id.0 }
     requires most { length (view_bits view) ≤ 524288 }
-    ensures gives { Gives (λ x. (plain x.0, x.1)) result (sized (view_bits view.entry) (read_type table.now id.0 (view_bits view.entry))) }
-    ensures reason { IfFault (λ (g : Fault). IsOfReading g.reason) result }
+    requires root { path.old ≡ [] }
+    ensures gives { Gives (λ x. (plain x.0, x.1)) (with_path path.new result) (sized (view_bits view.entry) (read_type table.now id.0 (view_bits view.entry))) }
+    ensures calm { OnOk result (path.new ≡ []) }
+    ensures reason { IfErr result StopsReading }
 {
     table.keeps_rules();
     reading_is_exact();
@@ -70,20 +74,45 @@ fn read_front(
     }
     let mut reader = BitReader::new(view);
     let all = reader.left();
-    let mut path = Path::root();
     let level = Level {
         alloc,
         table,
         segments,
         depth: NESTING,
     };
-    match read_value(&level, id, &mut path, &mut reader) {
-        Ok(value) => {
-            let left = reader.left();
-            let bits = (all - left) as u32;
-            Ok((value, bits))
-        }
-        Err(stop) => Err(stop_at(path, stop)),
+    let value = read_value(&level, id, path, &mut reader)?;
+    let left = reader.left();
+    let bits = (all - left) as u32;
+    Ok((value, bits))
+}
+
+/// The value of a type that the bits of a view begin with, and how many bits it takes, exactly as `unpack` gives them, read by
+/// the segments of its table, with a room for the path of a fault. Segments and room are made once, and pay where many values
+/// are read.
+pub fn unpack_in(
+    alloc: Global,
+    table: &TypeTable,
+    segments: &Segments<'_>,
+    id: TypeId,
+    view: BitView,
+    room: &mut FaultRoom,
+) -> Result<(Value, u32), Fail<Fault>>
+    requires segments { segments.now ≡ table.now }
+    requires known { id.0 < length table.now }
+    requires clear { IsClear table.now id.0 }
+    requires most { length (view_bits view) ≤ 524288 }
+    ensures size { IfOk result (λ x. x.1 ≤ length (view_bits view.entry)) }
+    ensures value { IfOk result (λ x. Spells table.now id.0 (plain x.0) (take x.1 (view_bits view.entry))) }
+    ensures only_value { (v : Plain) (c rest : Bits) → view_bits view.entry ≡ c ++ rest → Spells table.now id.0 v c → IsValue v (length c) result }
+    ensures fault { IfFault (FailsAt table.now id.0 (view_bits view.entry)) result }
+    ensures only_fault { (g : Fault) → FailsAt table.now id.0 (view_bits view.entry) g → IsFault g result }
+    ensures reason { IfFault (λ (g : Fault). IsOfReading g.reason) result }
+{
+    table.keeps_rules();
+    reading_is_exact();
+    match read_front(alloc, table, segments, id, view, &mut room.path) {
+        Ok(found) => Ok(found),
+        Err(stop) => Err(stop_in(&mut room.path, stop)),
     }
 }
 
@@ -107,9 +136,8 @@ pub fn unpack_by(
     ensures only_fault { (g : Fault) → FailsAt table.now id.0 (view_bits view.entry) g → IsFault g result }
     ensures reason { IfFault (λ (g : Fault). IsOfReading g.reason) result }
 {
-    table.keeps_rules();
-    reading_is_exact();
-    read_front(alloc, table, segments, id, view)
+    let mut room = FaultRoom::new();
+    unpack_in(alloc, table, segments, id, view, &mut room)
 }
 
 /// The value of a type that the bits of a view begin with, and how many bits it takes: it is exactly the one that they
@@ -131,6 +159,6 @@ pub fn unpack(
     ensures only_fault { (g : Fault) → FailsAt table.now id.0 (view_bits view.entry) g → IsFault g result }
     ensures reason { IfFault (λ (g : Fault). IsOfReading g.reason) result }
 {
-    let segments = Segments::none(alloc, table);
+    let segments = Segments::of(alloc, table)?;
     unpack_by(alloc, table, &segments, id, view)
 }

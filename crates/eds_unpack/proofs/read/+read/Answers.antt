@@ -9,7 +9,7 @@ use Rattle.eds_types.specs.Failing.{fault_at}
 use Rattle.eds_bits.specs.Reader.{bits_left}
 use Rattle.eds_types.specs.Fields.{type_by, field_at}
 use Rattle.eds_types.specs.Plain.{plain, fields, plains_of}
-use Rattle.eds_types.specs.Reading.{read_within, check_all}
+use Rattle.eds_types.specs.Reading.{read_kind, read_within, check_all}
 use Rattle.eds_types.specs.Rows.{chain, entries_of, numbers_of}
 use Rattle.eds_types.specs.Choices.{IsNear}
 use Rattle.eds_types.proofs.Candidates.{numbers_are}
@@ -40,8 +40,9 @@ read_value-read_row-requires t c =
 pub read_value-returns-clause-gives : goal.read_value-returns-clause-gives
 read_value-returns-clause-gives t c =
     let low = c.requires.inner.low.low in
+    let same : bits_left c.read_scalar.new.reader ≡ bits_left c.args.reader.now = search rules in
     subst (λ r. Gives (λ v. (plain v, bits_left c.read_row.new.reader)) (with_path c.read_row.new.path c.read_row.result) r) (sym (next_level c.args.level.now.depth c.args.level.now.table.now c.args.id.0 c.row.result.now (bits_left c.args.reader.now) (λ z. omega arith) c.row.ensures))
-    c.read_row.ensures.gives
+    (subst (λ b. Gives (λ v. (plain v, bits_left c.read_row.new.reader)) (with_path c.read_row.new.path c.read_row.result) (read_kind c.args.level.now.table.now (read_within (c.args.level.now.depth - 1) c.args.level.now.table.now) c.args.id.0 c.row.result.now.kind b)) same c.read_row.ensures.gives)
 
 pub read_row-read_label-requires : goal.read_row-read_label-requires
 read_row-read_label-requires t c = kind_listed c.args.row.now.kind c.in-Enum.form c.in-Enum.listing c.in-Enum.is (c.keeps_rules.ensures.kinds c.args.id.0 c.args.row.now c.requires.known)

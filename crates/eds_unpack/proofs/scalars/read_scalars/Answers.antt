@@ -1,6 +1,5 @@
 use Rattle.std.proofs.Common.{map, subst}
 use Rattle.std.specs.Prelude.{IfOk, IfSome}
-use Rattle.eds_base.specs.declared.ids.TypeId.{TypeId}
 use Rattle.eds_bits.specs.Reader.{bits_left}
 use Rattle.eds_types.specs.Plain.{plain}
 use Rattle.eds_types.specs.Rows.{Table}
@@ -18,7 +17,3 @@ read_items_by-requires-clause-few c = few_bits c.in-Some.operation.now c.in-Some
 pub returns-in-Some-clause-read : goal.returns-in-Some-clause-read
 returns-in-Some-clause-read c =
     subst (λ i. IfOk c.read_items_by.result (λ o. IfSome o (λ vs. ItemsReadAs c.args.table.now i c.args.count (bits_left c.args.reader.now) (map plain vs.items) (bits_left c.read_items_by.new.reader)))) c.in-Some.ensures.typed c.read_items_by.ensures.read
-
-pub returns-in-Some-operation_of_type-clause-read : goal.returns-in-Some-operation_of_type-clause-read
-returns-in-Some-operation_of_type-clause-read c =
-    subst (λ (i : TypeId). IfOk c.read_items_by-in-Some-operation_of_type.result (λ o. IfSome o (λ vs. ItemsReadAs c.args.table.now i.0 c.args.count (bits_left c.args.reader.now) (map plain vs.items) (bits_left c.read_items_by-in-Some-operation_of_type.new.reader)))) c.in-Some-operation_of_type.ensures.typed c.read_items_by-in-Some-operation_of_type.ensures.read
