@@ -9,6 +9,7 @@ use crate::unpacked::{Stop, unpack_packet};
 use eds_base::{Fail, Fault, Memory, Octets, TypeId};
 use eds_overlap::law::canonical_spelling;
 use eds_types::TypeTable;
+use eds_unpack::Segments;
 use eds_value::to_json;
 use std::alloc::Global;
 
@@ -23,16 +24,18 @@ pub(crate) struct PacketJson {
 fn packet_json(
     alloc: Global,
     table: &TypeTable,
+    segments: &Segments<'_>,
     id: TypeId,
     octets: &[u8],
 ) -> Result<Octets, Fail<Fault>>
+    requires segments { segments.now ≡ table.now }
     requires known { id.0 < length table.now }
     requires clear { IsClear table.now id.0 }
     requires packet { length octets.now ≡ PACKET_OCTETS }
 {
     table.keeps_rules();
     canonical_spelling();
-    let packet = unpack_packet(alloc, table, id, octets)?;
+    let packet = unpack_packet(alloc, table, segments, id, octets)?;
     Ok(to_json(alloc, table, id, &packet)?)
 }
 
@@ -53,12 +56,13 @@ fn json_of_packets(
     requires known { id.0 < length table.now }
     requires clear { IsClear table.now id.0 }
 {
+    let segments = Segments::of(alloc, table)?;
     let mut sequence = Sequence::new();
     let mut octets: u64 = 0;
     let mut last = Octets::new(alloc);
     for _ in 0..count {
         let packet = sequence.next_packet();
-        last = packet_json(alloc, table, id, &packet)?;
+        last = packet_json(alloc, table, &segments, id, &packet)?;
         octets = octets.wrapping_add(last.len() as u64);
     }
     Ok(PacketJson {

@@ -12,7 +12,7 @@ use crate::sum::Sum;
 use eds_base::{Fail, Fault, TypeId};
 use eds_bits::BitView;
 use eds_types::{TypeTable, Value};
-use eds_unpack::unpack;
+use eds_unpack::{Segments, unpack_by};
 use std::alloc::Global;
 use std::fmt;
 
@@ -52,15 +52,17 @@ impl fmt::Display for Stop {
 pub(crate) fn unpack_packet(
     alloc: Global,
     table: &TypeTable,
+    segments: &Segments<'_>,
     id: TypeId,
     octets: &[u8],
 ) -> Result<Value, Fail<Fault>>
+    requires segments { segments.now ≡ table.now }
     requires known { id.0 < length table.now }
     requires clear { IsClear table.now id.0 }
     requires packet { length octets.now ≡ PACKET_OCTETS }
     ensures { IfOk result (λ v. (bits : Bits) × Spells table.now id.0 (plain v) bits) }
 {
-    let (packet, _) = unpack(alloc, table, id, BitView::new(octets))?;
+    let (packet, _) = unpack_by(alloc, table, segments, id, BitView::new(octets))?;
     Ok(packet)
 }
 
@@ -74,11 +76,12 @@ fn sum_of_packets(
     requires known { id.0 < length table.now }
     requires clear { IsClear table.now id.0 }
 {
+    let segments = Segments::of(alloc, table)?;
     let mut sequence = Sequence::new();
     let mut sum = Sum::new();
     for _ in 0..count {
         let octets = sequence.next_packet();
-        let packet = unpack_packet(alloc, table, id, &octets)?;
+        let packet = unpack_packet(alloc, table, &segments, id, &octets)?;
         sum.add_packet(&packet);
     }
     Ok(sum.total)

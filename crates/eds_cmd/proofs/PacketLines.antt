@@ -1,5 +1,5 @@
 -- The line of a packet that is put by its layout, from its scalars.
-use Rattle.std.proofs.Common.{◌≡◌, ℕ, suc, zero, ◌<◌, List, [], ◌∷◌, ◌++◌, codes, length, map, get_or, refl, ap, ◌∙◌, arith, append_assoc}
+use Rattle.std.proofs.Common.{◌≡◌, ℕ, suc, zero, ◌<◌, List, [], ◌∷◌, ◌++◌, codes, length, map, get_or, refl, ap, ◌∙◌, arith}
 use Rattle.std.proofs.lemmas.List.{length-map}
 use Rattle.eds_types.specs.Plain.{fields, plains_of}
 use Rattle.eds_unpack.specs.declared.scalar.Scalar.{Scalar}
@@ -17,14 +17,15 @@ plain_at [] i none lt = absurd (omega arith)
 plain_at (s ∷ ss) zero none lt = refl
 plain_at (s ∷ ss) (suc i) none lt = plain_at ss i none (omega arith)
 
--- the line of a packet is put by its container's layout
-pub straight_put : (type : TypeIn) (l : Layout) (ss : List Scalar) (octets : List ℕ) (size : ℕ) (old text new : List ℕ) → IsLayoutOf type.table type.id l → length ss ≡ l.count
-    → HoldsPacket type (fields type.id (plains_of (map plain_of ss))) octets size → text ≡ old ++ laid_text (map (json_of_value type.table) (map plain_of ss)) l → new ≡ text ++ codes "\n" → PutsLine type octets size old new
-straight_put type l ss octets size old text new is long holds put ended =
+-- the line of a packet is put by its container's layout, before the end of the line
+pub straight_put : (type : TypeIn) (l : Layout) (ss : List Scalar) (octets : List ℕ) (size : ℕ) (old ended text new : List ℕ) → IsLayoutOf type.table type.id l → length ss ≡ l.count
+    → HoldsPacket type (fields type.id (plains_of (map plain_of ss))) octets size → ended ≡ codes "\n" ++ [] → text ≡ laid_text (map (json_of_value type.table) (map plain_of ss)) l ++ ended → new ≡ old ++ text
+    → PutsLine type octets size old new
+straight_put type l ss octets size old ended text new is long holds newline put pushed =
     let v = fields type.id (plains_of (map plain_of ss)) in
     let laid = laid_is type.table type.id l (map plain_of ss) is (length-map ss plain_of ∙ long) in
     record {
       value = v;
       holds = holds;
-      line = ended ∙ ap (λ (s : List ℕ). s ++ codes "\n") (put ∙ ap (λ (s : List ℕ). old ++ s) laid) ∙ append_assoc old (json_text type.table v) (codes "\n");
+      line = pushed ∙ ap (λ (s : List ℕ). old ++ s) (put ∙ rw (laid, newline) refl);
     }

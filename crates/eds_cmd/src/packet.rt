@@ -13,7 +13,7 @@ use eds_base::{Fail, Fault, Memory, Path, Reason};
 use eds_bits::BitView;
 use eds_overlap::law::empty_types;
 use eds_types::Value;
-use eds_unpack::{Scalar, Segments, scalars_by, unpack_by};
+use eds_unpack::{FaultRoom, Scalar, Segments, scalars_by, unpack_in};
 use std::alloc::Global;
 
 // As many octets as a packet may have, or all where there are fewer.
@@ -48,12 +48,13 @@ fn octets_for(bits: u32) -> usize
     bits.div_ceil(8) as usize
 }
 
-/// The value of the packet at the front of octets, and how many octets it has.
+/// The value of the packet at the front of octets, and how many octets it has. The room serves for the path of a fault.
 pub fn packet_at(
     alloc: Global,
     target: &Target<'_>,
     segments: &Segments<'_>,
     octets: &[u8],
+    room: &mut FaultRoom,
 ) -> Result<(Value, usize), Fail<Fault>>
     requires segments { segments.now ≡ target.now.table.now }
     requires known { IsKnown (type_in target.now) }
@@ -62,12 +63,13 @@ pub fn packet_at(
 {
     target.table.keeps_rules();
     empty_types();
-    match unpack_by(
+    match unpack_in(
         alloc,
         target.table,
         segments,
         target.id,
         BitView::new(window(octets)),
+        room,
     ) {
         Ok((value, size)) => Ok((value, octets_for(size))),
         Err(Fail::Named(fault)) => Err(Fail::Named(packet_fails(fault, octets.len()))),

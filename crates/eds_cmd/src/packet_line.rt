@@ -16,36 +16,63 @@ use crate::target::Target;
 use eds_base::{Fail, Fault, Memory};
 use eds_overlap::law::canonical_spelling;
 use eds_types::Value;
-use eds_unpack::{Scalar, Segments};
-use eds_value::{Layout, Layouts, push_json, push_number, push_quoted, push_truth};
+use eds_unpack::{FaultRoom, Scalar, Segments};
+use eds_value::{Layout, Layouts, Line, put_json};
 use std::alloc::Global;
 
-// Puts the JSON text of a scalar last.
-fn push_scalar(alloc: Global, scalar: Scalar<'_>, report: &mut String) -> Result<(), Memory>
-    ensures { (t : Table) → OnOk result (string_bytes report.new ≡ string_bytes report.old ++ json_text t (plain_of scalar.entry)) }
-{
-    match scalar {
-        Scalar::Num(number) => Ok(push_number(number, report)?),
-        Scalar::Label(label) => push_quoted(alloc, label, report),
-        Scalar::Bool(truth) => Ok(push_truth(truth, report)?),
+/// What serves for one packet after another.
+#[derive(Drop)]
+pub struct Rooms<'a> {
+    /// The scalars of a packet that has nothing else.
+    pub scalars: Vec<Scalar<'a>>,
+    /// The text of its line.
+    pub line: Line,
+    /// The path of a fault.
+    pub fault: FaultRoom,
+}
+
+impl<'a> Rooms<'a> {
+    /// Rooms that are empty.
+    pub fn new(alloc: Global) -> Rooms<'a> {
+        Rooms {
+            scalars: Vec::new(alloc),
+            line: Line::new(alloc),
+            fault: FaultRoom::new(),
+        }
     }
 }
 
-// Puts the JSON text of a container last, with a scalar for each entry, by its layout.
-fn push_object(
+// Puts the JSON text of a scalar first onto a line.
+#[inline(always)]
+fn put_scalar(alloc: Global, scalar: Scalar<'_>, line: &mut Line) -> Result<(), Memory>
+    ensures { (t : Table) → OnOk result (line.new ≡ json_text t (plain_of scalar.entry) ++ line.old) }
+{
+    match scalar {
+        Scalar::Num(number) => Ok(line.put_number(number)?),
+        Scalar::Label(label) => line.put_quoted(alloc, label),
+        Scalar::Bool(truth) => Ok(line.put_truth(truth)?),
+    }
+}
+
+// Puts the JSON text of a container first onto a line, with a scalar for each entry, by its layout.
+fn put_object(
     alloc: Global,
     layout: &Layout,
     scalars: &[Scalar<'_>],
-    report: &mut String,
+    line: &mut Line,
 ) -> Result<(), Memory>
     requires { All (λ p. p.position < length scalars.now) layout.now.pieces.items }
-    ensures { (t : Table) → OnOk result (string_bytes report.new ≡ string_bytes report.old ++ laid_text (map (json_of_value t) (map plain_of scalars.now)) layout.now) }
+    ensures { (t : Table) → OnOk result (line.new ≡ laid_text (map (json_of_value t) (map plain_of scalars.now)) layout.now ++ line.old) }
 {
-    for piece in layout.pieces.as_slice() {
-        report.push_str(piece.text.as_str())?;
-        push_scalar(alloc, scalars[piece.position], report)?;
+    line.put_text(layout.end.as_str())?;
+    let pieces = layout.pieces.as_slice();
+    let mut at = pieces.len();
+    while at > 0 {
+        at -= 1;
+        let piece = &pieces[at];
+        put_scalar(alloc, scalars[piece.position], line)?;
+        line.put_padded(&piece.text)?;
     }
-    report.push_str(layout.end.as_str())?;
     Ok(())
 }
 
@@ -57,7 +84,7 @@ fn push_straight<'a>(
     segments: &Segments<'a>,
     layouts: &Layouts<'_>,
     octets: &[u8],
-    room: &mut Vec<Scalar<'a>>,
+    rooms: &mut Rooms<'a>,
     report: &mut String,
 ) -> Result<Option<usize>, Memory>
     requires segments { segments.now ≡ target.now.table.now }
@@ -66,14 +93,16 @@ fn push_straight<'a>(
     ensures line { IfOk result (λ o. IfSome o (λ size. PutsLine (type_in target.now) octets.now size (string_bytes report.old) (string_bytes report.new))) }
     ensures none { IfOk result (λ o. IfNone o (string_bytes report.new ≡ string_bytes report.old)) }
 {
-    let Some(size) = scalars_at(target, segments, octets, room)? else {
+    let Some(size) = scalars_at(target, segments, octets, &mut rooms.scalars)? else {
         return Ok(None);
     };
-    let Some(layout) = layouts.find(target.id, room.len()) else {
+    let Some(layout) = layouts.find(target.id, rooms.scalars.len()) else {
         return Ok(None);
     };
-    push_object(alloc, layout, room.as_slice(), report)?;
-    report.push_str("\n")?;
+    rooms.line.clear();
+    rooms.line.put_text("\n")?;
+    put_object(alloc, layout, rooms.scalars.as_slice(), &mut rooms.line)?;
+    report.push_str(rooms.line.as_str())?;
     Ok(Some(size))
 }
 
@@ -83,6 +112,7 @@ fn push_line(
     target: &Target<'_>,
     layouts: &Layouts<'_>,
     value: &Value,
+    line: &mut Line,
     report: &mut String,
 ) -> Result<(), Memory>
     requires layouts { layouts.now ≡ target.now.table.now }
@@ -92,20 +122,22 @@ fn push_line(
 {
     target.table.keeps_rules();
     canonical_spelling();
-    push_json(alloc, layouts, target.id, value, report)?;
-    report.push_str("\n")?;
+    line.clear();
+    line.put_text("\n")?;
+    put_json(alloc, layouts, target.id, value, line)?;
+    report.push_str(line.as_str())?;
     Ok(())
 }
 
-/// Puts the line of JSON of the packet at the front of octets last, and gives how many octets the packet has. The room serves for
-/// the scalars of packets that have nothing else.
+/// Puts the line of JSON of the packet at the front of octets last, and gives how many octets the packet has. The rooms serve
+/// for one packet after another.
 pub fn push_packet<'a>(
     alloc: Global,
     target: &Target<'_>,
     segments: &Segments<'a>,
     layouts: &Layouts<'_>,
     octets: &[u8],
-    room: &mut Vec<Scalar<'a>>,
+    rooms: &mut Rooms<'a>,
     report: &mut String,
 ) -> Result<usize, Fail<Fault>>
     requires segments { segments.now ≡ target.now.table.now }
@@ -114,10 +146,10 @@ pub fn push_packet<'a>(
     ensures line { IfOk result (λ size. PutsLine (type_in target.now) octets.now size (string_bytes report.old) (string_bytes report.new)) }
     ensures fault { IfErr result (FailsFor (type_in target.now) octets.now) }
 {
-    if let Some(size) = push_straight(alloc, target, segments, layouts, octets, room, report)? {
+    if let Some(size) = push_straight(alloc, target, segments, layouts, octets, rooms, report)? {
         return Ok(size);
     }
-    let (value, size) = packet_at(alloc, target, segments, octets)?;
-    push_line(alloc, target, layouts, &value, report)?;
+    let (value, size) = packet_at(alloc, target, segments, octets, &mut rooms.fault)?;
+    push_line(alloc, target, layouts, &value, &mut rooms.line, report)?;
     Ok(size)
 }

@@ -6,7 +6,7 @@ ghost use Rattle.eds_cmd.specs.Split.{Splits, packets_line as line_of_packets};
 ghost use Rattle.eds_cmd.specs.Target.{IsKnown, type_in};
 
 use crate::limits::PACKETS_OCTETS;
-use crate::packet_line::push_packet;
+use crate::packet_line::{Rooms, push_packet};
 use crate::stop::{Stop, packet_fault};
 use crate::target::Target;
 use eds_base::Fail;
@@ -31,7 +31,7 @@ pub fn split(alloc: Global, target: &Target<'_>, octets: &[u8]) -> Result<String
 {
     let segments = Segments::of(alloc, target.table)?;
     let layouts = Layouts::of(alloc, target.table)?;
-    let mut room = Vec::new(alloc);
+    let mut rooms = Rooms::new(alloc);
     let mut report = String::new(alloc);
     let mut packets = 0u32;
     let mut at = 0usize;
@@ -42,7 +42,7 @@ pub fn split(alloc: Global, target: &Target<'_>, octets: &[u8]) -> Result<String
             &segments,
             &layouts,
             &octets[at..],
-            &mut room,
+            &mut rooms,
             &mut report,
         ) {
             Ok(size) => {

@@ -10,7 +10,7 @@ use Rattle.eds_value.specs.declared.layout.Piece.{Piece}
 use Rattle.eds_value.specs.Entries.{entries_along}
 use Rattle.eds_value.specs.JsonOfValue.{fields_data, json_of_value, json_text, type_name}
 use Rattle.eds_value.specs.Layouts.{IsLayoutOf, laid_text, pieces_text}
-use Rattle.eds_value.proofs.Pushed.{piece_next, put_last}
+use Rattle.eds_value.proofs.Pushed.{piece_first}
 use Rattle.eds_value.proofs.WithValues.{all_listed}
 
 -- the JSON of a value by its position
@@ -22,16 +22,11 @@ json_at t vs i v lt is = by vs i lt ∙ ap (json_of_value t) (sym is)
     by (w ∷ ws) zero lt = refl
     by (w ∷ ws) (suc i) lt = by ws i (omega arith)
 
--- one piece more, with the text of its value
-pub piece_put : (t : Table) (vs : List Plain) (ps : List Piece) (i : ℕ) (p : Piece) (v : Plain) (end old first new whole : List ℕ) → i < length ps → p ≡ get_or ps i p → p.position < length vs → v ≡ get_or vs p.position v
-    → first ≡ old ++ p.text → new ≡ first ++ json_text t v
-    → old ++ (pieces_text (map (json_of_value t) vs) (drop i ps) ++ end) ≡ whole → new ++ (pieces_text (map (json_of_value t) vs) (drop (i + 1) ps) ++ end) ≡ whole
-piece_put t vs ps i p v end old first new whole lt is within at named put so_far =
-    let ds = map (json_of_value t) vs in
-    let text = json_text t v in
-    put_last old new (p.text ++ text) (pieces_text ds (drop (i + 1) ps) ++ end) (pieces_text ds (drop i ps) ++ end) whole
-    (piece_next ds ps i p (json_of_value t v) end lt is (json_at t vs p.position v within at))
-    (put ∙ ap (λ (l : List ℕ). l ++ text) named ∙ append_assoc old p.text text) so_far
+-- one piece with the text of its value, before those that stand there already
+pub piece_put : (t : Table) (vs : List Plain) (ps : List Piece) (i at : ℕ) (p : Piece) (v : Plain) (end old line first second : List ℕ) → i < length ps → at ≡ i + 1 → p ≡ get_or ps i p → p.position < length vs → v ≡ get_or vs p.position v
+    → line ≡ (pieces_text (map (json_of_value t) vs) (drop at ps) ++ end) ++ old → first ≡ json_text t v ++ line → second ≡ p.text ++ first → second ≡ (pieces_text (map (json_of_value t) vs) (drop i ps) ++ end) ++ old
+piece_put t vs ps i at p v end old line first second lt next is within at_position stands put named =
+    piece_first (map (json_of_value t) vs) ps i at p (json_of_value t v) end old line first second lt next is (json_at t vs p.position v within at_position) stands put named
 
 -- with the values of a container, one for each entry, its layout has the container's text
 pub laid_is : (t : Table) (id : ℕ) (l : Layout) (vs : List Plain) → IsLayoutOf t id l → length vs ≡ l.count → laid_text (map (json_of_value t) vs) l ≡ json_text t (fields id (plains_of vs))

@@ -20,3 +20,4 @@ pub mod Strings
 pub mod Pieces
 pub mod Pushed
 pub mod LaidTexts
+pub mod Lines

@@ -1,7 +1,7 @@
--- The text of values, put last one after another.
-use Rattle.std.proofs.Common.{◌≡◌, ◌<◌, ◌≤◌, ◌+◌, ℕ, zero, suc, List, [], ◌∷◌, ◌++◌, Bool, true, length, map, drop, get_or, Vec, Global, refl, sym, ap, subst, ◌∙◌, arith, append_assoc}
+-- The text of values, put first one after another.
+use Rattle.std.proofs.Common.{◌≡◌, ◌<◌, ◌≤◌, ◌+◌, ℕ, zero, suc, List, [], ◌∷◌, ◌++◌, Bool, true, length, map, drop, get_or, Vec, Global, refl, sym, ap, subst, ◌∙◌, arith, append_assoc, codes, false}
 use Rattle.std.proofs.lemmas.List.{drop_all}
-use Rattle.serde_json.specs.Data.{Data, null}
+use Rattle.serde_json.specs.Data.{Data, array, null}
 use Rattle.serde_json.specs.View.{items_of}
 use Rattle.serde_json.specs.Written.{comma_if, compact_text, items_text}
 use Rattle.eds_base.specs.declared.ids.TypeId.{TypeId}
@@ -10,7 +10,7 @@ use Rattle.eds_types.specs.Plain.{Plain, num, label, truth, text, bits, items, f
 use Rattle.eds_types.specs.Rows.{Table}
 use Rattle.eds_value.specs.declared.layout.Piece.{Piece}
 use Rattle.eds_value.specs.Held.{AllHeld, AreHeld}
-use Rattle.eds_value.specs.JsonOfValue.{json_of_value}
+use Rattle.eds_value.specs.JsonOfValue.{json_of_value, json_text}
 use Rattle.eds_value.specs.Layouts.{pieces_text}
 use Rattle.eds_value.proofs.Plains.{plain-Fields, plain-Items}
 use Rattle.eds_value.proofs.Steps.{drop_one}
@@ -57,9 +57,9 @@ held_at vs i v lt is h = subst (λ (w : Value). AreHeld (plain w)) (sym is) (by 
     by (w ∷ vs) zero lt h = h.0
     by (w ∷ vs) (suc i) lt h = by vs i (omega arith) h.1
 
--- what is put last is what was to come first
-pub put_last : (old new last next left whole : List ℕ) → left ≡ last ++ next → new ≡ old ++ last → old ++ left ≡ whole → new ++ next ≡ whole
-put_last old new last next left whole is put so_far = ap (λ (s : List ℕ). s ++ next) put ∙ append_assoc old last next ∙ ap (λ (s : List ℕ). old ++ s) (sym is) ∙ so_far
+-- what is put first before what stands there already
+put_first : (a b later old line first second whole : List ℕ) → whole ≡ (a ++ b) ++ later → line ≡ later ++ old → first ≡ b ++ line → second ≡ a ++ first → second ≡ whole ++ old
+put_first a b later old line first second whole is stands put named = rw (named, put, stands, is) (simp append_assoc)
 
 pub item_next : (t : Table) (later : Bool) (vs : List Value) (i : ℕ) (v : Value) → i < length vs → v ≡ get_or vs i v
     → items_text later (items_of (map (json_of_value t) (map plain (drop i vs)))) ≡ (comma_if later ++ compact_text (json_of_value t (plain v))) ++ items_text true (items_of (map (json_of_value t) (map plain (drop (i + 1) vs))))
@@ -69,6 +69,27 @@ item_next t later vs i v lt is =
 
 pub items_over : (t : Table) (later : Bool) (vs : List Value) (i : ℕ) → length vs ≤ i → items_text later (items_of (map (json_of_value t) (map plain (drop i vs)))) ≡ 93 ∷ []
 items_over t later vs i over = ap (λ (ws : List Value). items_text later (items_of (map (json_of_value t) (map plain ws)))) (drop_all i vs over)
+
+-- no item yet, but the closing bracket
+pub no_items : (t : Table) (later : Bool) (vs : List Value) (i : ℕ) (old new : List ℕ) → length vs ≤ i → new ≡ codes "]" ++ old → new ≡ items_text later (items_of (map (json_of_value t) (map plain (drop i vs)))) ++ old
+no_items t later vs i old new over put = put ∙ ap (λ (s : List ℕ). s ++ old) (sym (items_over t later vs i over))
+
+-- one item before those that stand there already
+pub item_first : (t : Table) (later some : Bool) (vs : List Value) (i at : ℕ) (v : Value) (old line first second : List ℕ) → i < length vs → at ≡ i + 1 → some ≡ true → v ≡ get_or vs i v
+    → line ≡ items_text some (items_of (map (json_of_value t) (map plain (drop at vs)))) ++ old → first ≡ json_text t (plain v) ++ line → second ≡ comma_if later ++ first
+    → second ≡ items_text later (items_of (map (json_of_value t) (map plain (drop i vs)))) ++ old
+item_first t later some vs i at v old line first second lt next is_some is stands put named =
+    let text : (more : Bool) (from : ℕ) → List ℕ = λ more from. items_text more (items_of (map (json_of_value t) (map plain (drop from vs)))) in
+    let behind : line ≡ text true (i + 1) ++ old = subst (λ (n : ℕ). line ≡ text true n ++ old) next (subst (λ (b : Bool). line ≡ text b at ++ old) is_some stands) in
+    put_first (comma_if later) (json_text t (plain v)) (text true (i + 1)) old line first second (text later i) (item_next t later vs i v lt is) behind put named
+
+-- all items, with the opening bracket
+pub all_items : (t : Table) (some : Bool) (vs : List Value) (at : ℕ) (old line new : List ℕ) → at ≡ 0 → some ≡ false → line ≡ items_text some (items_of (map (json_of_value t) (map plain (drop at vs)))) ++ old → new ≡ codes "[" ++ line
+    → new ≡ compact_text (array (items_of (map (json_of_value t) (map plain vs)))) ++ old
+all_items t some vs at old line new begin is_none stands put =
+    let text : (more : Bool) (from : ℕ) → List ℕ = λ more from. items_text more (items_of (map (json_of_value t) (map plain (drop from vs)))) in
+    let all : line ≡ text false 0 ++ old = subst (λ (n : ℕ). line ≡ text false n ++ old) begin (subst (λ (b : Bool). line ≡ text b at ++ old) is_none stands) in
+    put ∙ ap (λ (s : List ℕ). 91 ∷ s) all
 
 -- the JSON of a value by its position
 pub value_at : (t : Table) (vs : List Value) (i : ℕ) (v : Value) → i < length vs → v ≡ get_or vs i v → get_or (map (json_of_value t) (map plain vs)) i null ≡ json_of_value t (plain v)
@@ -89,3 +110,19 @@ piece_next ds ps i p d end lt is at =
 
 pub pieces_over : (ds : List Data) (ps : List Piece) (i : ℕ) (end : List ℕ) → length ps ≤ i → pieces_text ds (drop i ps) ++ end ≡ end
 pieces_over ds ps i end over = ap (λ (qs : List Piece). pieces_text ds qs ++ end) (drop_all i ps over)
+
+-- no piece yet, but the end
+pub no_pieces : (ds : List Data) (ps : List Piece) (i : ℕ) (end old new : List ℕ) → length ps ≤ i → new ≡ end ++ old → new ≡ (pieces_text ds (drop i ps) ++ end) ++ old
+no_pieces ds ps i end old new over put = put ∙ ap (λ (s : List ℕ). s ++ old) (sym (pieces_over ds ps i end over))
+
+-- one piece before those that stand there already
+pub piece_first : (ds : List Data) (ps : List Piece) (i at : ℕ) (p : Piece) (d : Data) (end old line first second : List ℕ) → i < length ps → at ≡ i + 1 → p ≡ get_or ps i p → get_or ds p.position null ≡ d
+    → line ≡ (pieces_text ds (drop at ps) ++ end) ++ old → first ≡ compact_text d ++ line → second ≡ p.text ++ first → second ≡ (pieces_text ds (drop i ps) ++ end) ++ old
+piece_first ds ps i at p d end old line first second lt next is at_position stands put named =
+    let text : (from : ℕ) → List ℕ = λ from. pieces_text ds (drop from ps) ++ end in
+    put_first p.text (compact_text d) (text (i + 1)) old line first second (text i) (piece_next ds ps i p d end lt is at_position) (subst (λ (n : ℕ). line ≡ text n ++ old) next stands) put named
+
+-- all pieces
+pub all_pieces : (ds : List Data) (ps qs : List Piece) (at : ℕ) (end old line : List ℕ) → at ≡ 0 → ps ≡ qs → line ≡ (pieces_text ds (drop at ps) ++ end) ++ old → line ≡ (pieces_text ds qs ++ end) ++ old
+all_pieces ds ps qs at end old line begin same stands =
+    subst (λ (xs : List Piece). line ≡ (pieces_text ds xs ++ end) ++ old) same (subst (λ (n : ℕ). line ≡ (pieces_text ds (drop n ps) ++ end) ++ old) begin stands)

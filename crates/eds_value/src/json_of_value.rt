@@ -1,6 +1,6 @@
 //! Values as JSON.
 
-ghost use Rattle.std.specs.Prelude.{◌≡◌, ◌<◌, ◌++◌, IfOk, OnOk, [], Ok, length, string_bytes};
+ghost use Rattle.std.specs.Prelude.{◌≡◌, ◌<◌, ◌++◌, IfOk, OnOk, [], Ok, length};
 ghost use Rattle.std.specs.Str.{IsUtf8};
 ghost use Rattle.eds_types.specs.Plain.{plain};
 ghost use Rattle.eds_value.specs.Json.{value_in};
@@ -8,7 +8,8 @@ ghost use Rattle.eds_value.specs.Laws.{HasNoTypeEntry, IsOfType};
 ghost use Rattle.eds_value.specs.JsonOfValue.{json_text};
 
 use crate::layouts::Layouts;
-use crate::push::push_value;
+use crate::line::Line;
+use crate::put::put_value;
 use crate::write::write_value;
 use eds_base::{Memory, Octets, TypeId};
 use eds_types::{TypeTable, Value};
@@ -43,19 +44,19 @@ pub fn to_json(
     Ok(Octets::from_vec(out.into_inner()))
 }
 
-/// Puts the JSON text of a value of a type last, exactly as `to_json` gives it, by the layouts of its table. These are made
-/// once, and pay where many values are written. At an error what stands last is part of the text.
-pub fn push_json(
+/// Puts the JSON text of a value of a type first onto a line, exactly as `to_json` gives it, by the layouts of its table. These
+/// are made once, and pay where many values are written. At an error what stands first is part of the text.
+pub fn put_json(
     alloc: Global,
     layouts: &Layouts<'_>,
     id: TypeId,
     value: &Value,
-    report: &mut String,
+    line: &mut Line,
 ) -> Result<(), Memory>
     requires known { id.0 < length layouts.now }
     requires one { IsOfType layouts.now id.0 (plain value.now) }
-    ensures { OnOk result (string_bytes report.new ≡ string_bytes report.old ++ json_text layouts.now (plain value.now)) }
+    ensures { OnOk result (line.new ≡ json_text layouts.now (plain value.now) ++ line.old) }
 {
     layouts.table().keeps_rules();
-    push_value(alloc, layouts, value, report)
+    put_value(alloc, layouts, value, line)
 }

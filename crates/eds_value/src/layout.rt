@@ -10,19 +10,19 @@ ghost use Rattle.eds_value.specs.Members.{in_order_by, put_all_by};
 ghost use Rattle.eds_value.specs.Seen.{seen};
 
 use crate::entry::{Entry, entries_along};
+use crate::line::PaddedText;
 use crate::member::{Member, sort};
 use crate::path::type_name;
 use crate::quoted::{push_comma, push_quoted};
 use eds_base::{Memory, Text, TypeId};
 use eds_types::TypeTable;
 use std::alloc::Global;
-use std::mem;
 
 /// A value in an object, and what stands before it.
 #[derive(Drop)]
 pub struct Piece {
     /// The text between the value before and this one, with its name.
-    pub text: Text,
+    pub text: PaddedText,
     /// The position of its entry among those of the container and of its bases.
     pub position: usize,
 }
@@ -78,8 +78,12 @@ fn push_slot(
     match slot.content {
         None => push_quoted(alloc, own_name, text),
         Some(position) => {
-            let text = Text::from_string(mem::replace(text, String::new(alloc)));
-            Ok(pieces.push(Piece { text, position })?)
+            let before = PaddedText::of(alloc, text.as_str())?;
+            text.clear();
+            Ok(pieces.push(Piece {
+                text: before,
+                position,
+            })?)
         }
     }
 }

@@ -47,7 +47,7 @@ fn layout_after(
 }
 
 /// The containers of a table as objects whose names are in order, made ready to write many values of any of its types
-/// (`push_json`): those whose names are all different. It refers to its table.
+/// (`put_json`): those whose names are all different. It refers to its table.
 #[derive(Drop)]
 pub struct Layouts<'a> {
     table: &'a TypeTable,

@@ -1,6 +1,6 @@
 //! Strings of JSON, put last onto a text.
 
-ghost use Rattle.std.specs.Prelude.{◌≡◌, ◌++◌, OnOk, string_bytes};
+ghost use Rattle.std.specs.Prelude.{◌≡◌, ◌++◌, IfOk, OnOk, string_bytes};
 ghost use Rattle.std.specs.Bool.{OnTrue};
 ghost use Rattle.json.specs.Print.{escape, quoted};
 ghost use Rattle.json.specs.Run.{is_stop as is_stop_of};
@@ -17,8 +17,8 @@ fn is_stop(octet: u8) -> bool
     octet == b'"' || octet == b'\\' || octet < 0x20
 }
 
-// Whether a text stands in a string of JSON as it is.
-fn is_plain(text: &[u8]) -> bool
+/// Whether a text stands in a string of JSON as it is.
+pub(crate) fn is_plain(text: &[u8]) -> bool
     ensures { OnTrue result (escape text.now ≡ text.now) }
 {
     for octet in text {
@@ -29,20 +29,20 @@ fn is_plain(text: &[u8]) -> bool
     true
 }
 
-// Puts a text last as a string, by a writer.
-fn push_escaped(alloc: Global, text: &str, report: &mut String) -> Result<(), Memory>
-    ensures { OnOk result (string_bytes report.new ≡ string_bytes report.old ++ quoted text.now) }
+/// A text as a string, by a writer.
+pub(crate) fn escaped(alloc: Global, text: &str) -> Result<String, Memory>
+    ensures { IfOk result (λ s. string_bytes s ≡ quoted text.now) }
 {
     let mut out = writer(alloc)?;
     out.string(text)?;
     match String::from_utf8(out.into_inner()) {
-        Ok(string) => Ok(report.push_str(string.as_str())?),
+        Ok(string) => Ok(string),
         Err(_) => unreachable!(),
     }
 }
 
 /// Puts a text last as a string.
-pub fn push_quoted(alloc: Global, text: &str, report: &mut String) -> Result<(), Memory>
+pub(crate) fn push_quoted(alloc: Global, text: &str, report: &mut String) -> Result<(), Memory>
     ensures { OnOk result (string_bytes report.new ≡ string_bytes report.old ++ quoted text.now) }
 {
     if is_plain(text.as_bytes()) {
@@ -51,7 +51,7 @@ pub fn push_quoted(alloc: Global, text: &str, report: &mut String) -> Result<(),
         report.push_str("\"")?;
         Ok(())
     } else {
-        push_escaped(alloc, text, report)
+        Ok(report.push_str(escaped(alloc, text)?.as_str())?)
     }
 }
 

@@ -14,8 +14,8 @@ use Rattle.eds_cmd.proofs.packet.packet_at.Goals as goal
 pub new-requires : goal.new-requires
 new-requires c = let few = ap length c.window.ensures in omega (arith, few, length-take 65536 c.args.octets.now)
 
-pub unpack_by-requires-clause-most : goal.unpack_by-requires-clause-most
-unpack_by-requires-clause-most c =
+pub unpack_in-requires-clause-most : goal.unpack_in-requires-clause-most
+unpack_in-requires-clause-most c =
     let few = ap length c.window.ensures in
     let bits = ap length c.new.ensures in
     omega (arith, few, bits, length-take 65536 c.args.octets.now, length-bits_of c.window.result.now)

@@ -5,12 +5,12 @@ use Rattle.eds_types.specs.Rows.{Table}
 use Rattle.eds_value.specs.Laws.{IsOfType}
 use Rattle.eds_cmd.proofs.packet_line.push_line.Goals as goal
 
-pub push_json-requires-clause-known : goal.push_json-requires-clause-known
-push_json-requires-clause-known c = subst (λ (t : Table). c.args.target.now.id.0 < length t) (sym c.requires.layouts) c.requires.known.there
+pub put_json-requires-clause-known : goal.put_json-requires-clause-known
+put_json-requires-clause-known c = subst (λ (t : Table). c.args.target.now.id.0 < length t) (sym c.requires.layouts) c.requires.known.there
 
 -- a value that is spelled has a canonical spelling
-pub push_json-requires-clause-one : goal.push_json-requires-clause-one
-push_json-requires-clause-one c =
+pub put_json-requires-clause-one : goal.put_json-requires-clause-one
+put_json-requires-clause-one c =
     let t = c.args.target.now.table.now in
     let id = c.args.target.now.id.0 in
     let there : IsThere t id = record { rules = c.keeps_rules.ensures; there = c.requires.known.there } in

@@ -1,4 +1,4 @@
-use Rattle.std.proofs.Common.{◌≡◌, ◌++◌, List, codes, length, map, rules, string_bytes, subst, arith}
+use Rattle.std.proofs.Common.{◌≡◌, ◌++◌, List, ℕ, [], codes, length, map, rules, string_bytes, subst, arith}
 use Rattle.std.specs.Prelude.{IfSome}
 use Rattle.eds_types.specs.Plain.{fields, plains_of}
 use Rattle.eds_types.specs.Rows.{Table}
@@ -19,6 +19,7 @@ returns-clause-line c =
     let holds = subst (λ o. IfSome o (λ size. HoldsPacket type (fields type.id (plains_of (map plain_of ss))) c.args.octets.now size)) c.in-Some.is c.in_ok-size.ensures in
     let is = subst (λ (t : Table). IsLayoutOf t type.id l) c.requires.layouts c.in-Some-find.ensures.layout in
     let long : length ss ≡ l.count = omega (arith, c.in-Some-find.ensures.count, c.len.ensures) in
-    let laid = subst (λ (xs : List Scalar). string_bytes c.push_object.new.report ≡ string_bytes c.args.report.now ++ laid_text (map (json_of_value type.table) (map plain_of xs)) l) c.as_slice.ensures.value (c.in_ok-push_object.ensures type.table) in
-    let ended : string_bytes c.push_str.new.self ≡ string_bytes c.push_object.new.report ++ codes "\n" = search rules in
-    straight_put type l ss c.args.octets.now c.in-Some.size (string_bytes c.args.report.now) (string_bytes c.push_object.new.report) (string_bytes c.push_str.new.self) is long holds laid ended
+    let newline : c.put_text.new.self ≡ codes "\n" ++ [] = search rules in
+    let laid = subst (λ (xs : List Scalar). c.put_object.new.line ≡ laid_text (map (json_of_value type.table) (map plain_of xs)) l ++ c.put_text.new.self) c.as_slice.ensures.value (c.in_ok-put_object.ensures type.table) in
+    let pushed : string_bytes c.push_str.new.self ≡ string_bytes c.args.report.now ++ c.put_object.new.line = search rules in
+    straight_put type l ss c.args.octets.now c.in-Some.size (string_bytes c.args.report.now) c.put_text.new.self c.put_object.new.line (string_bytes c.push_str.new.self) is long holds newline laid pushed

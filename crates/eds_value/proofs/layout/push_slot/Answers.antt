@@ -11,15 +11,15 @@ returns-in_ok-push-in-Some-clause-text c ds rest =
     let ps = c.args.pieces.now.items in
     let slot = c.args.slot.now in
     let own = c.args.own_name.now in
-    let empty : string_bytes c.replace.new.dest ≡ [] = search rules in
+    let empty : string_bytes c.clear.new.self ≡ [] = search rules in
     let old = string_bytes c.args.text.now in
     let comma = comma_if c.args.later in
     let name = quoted slot.name.now in
     let first : string_bytes c.push_comma.new.report ≡ old ++ comma = c.in_ok-push_comma.ensures in
     let second : string_bytes c.push_quoted.new.report ≡ string_bytes c.push_comma.new.report ++ name = c.in_ok-push_quoted.ensures in
     let third : string_bytes c.push_str.new.self ≡ string_bytes c.push_quoted.new.report ++ 58 ∷ [] = search rules in
-    let taken : c.from_string-text.result ≡ string_bytes c.push_str.new.self = search rules in
-    let text : c.from_string-text.result ≡ old ++ (comma ++ (name ++ 58 ∷ [])) = taken ∙ three_put old comma name (58 ∷ []) _ _ _ first second third in
+    let taken : c.in_ok-before-in-Some.before ≡ string_bytes c.push_str.new.self = search rules in
+    let text : c.in_ok-before-in-Some.before ≡ old ++ (comma ++ (name ++ 58 ∷ [])) = taken ∙ three_put old comma name (58 ∷ []) _ _ _ first second third in
     let at : compact_text (get_or ds c.in-Some.position null) ≡ compact_text (content_at own ds slot.content) = ap (λ o. compact_text (content_at own ds o)) (sym c.in-Some.is) in
     ap (λ (s : List ℕ). pieces_text ds c.push.new.self.items ++ (s ++ rest)) empty ∙ piece_put ds ps c.push.new.self.items _ rest c.in_ok-push-in-Some.ensures.items
-    ∙ joined (pieces_text ds ps) c.from_string-text.result (string_bytes c.args.text.now) (comma_if c.args.later) (quoted slot.name.now) _ _ rest text at
+    ∙ joined (pieces_text ds ps) c.in_ok-before-in-Some.before (string_bytes c.args.text.now) (comma_if c.args.later) (quoted slot.name.now) _ _ rest text at

@@ -1,0 +1,16 @@
+use Rattle.std.proofs.Common.{◌≡◌, ◌≤◌, ◌++◌, drop, length, map}
+use Rattle.eds_types.specs.Rows.{Table}
+use Rattle.eds_unpack.specs.Scalars.{plain_of}
+use Rattle.eds_value.specs.JsonOfValue.{json_of_value}
+use Rattle.eds_value.specs.Layouts.{pieces_text}
+use Rattle.eds_cmd.proofs.packet_line.put_object.Given as goal
+
+-- what is put is the text of the pieces from a place on
+abbrev pub invariant-loop-at : goal.invariant-loop-at
+invariant-loop-at l = record {
+  within : l.at ≤ length l.pieces;
+  text : (t : Table) → l.line ≡ (pieces_text (map (json_of_value t) (map plain_of l.scalars)) (drop l.at l.pieces) ++ l.layout.end) ++ l.fn.line;
+}
+
+abbrev pub decreases-loop-at : goal.decreases-loop-at
+decreases-loop-at l = l.at

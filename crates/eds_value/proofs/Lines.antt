@@ -1,0 +1,31 @@
+-- The text at the end of a room, onto which more is put first.
+use Rattle.std.proofs.Common.{◌≡◌, ℕ, ◌≤◌, ◌+◌, ◌-◌, List, ◌++◌, length, take, drop, IsUtf8, sym, ap, subst, ◌∙◌, arith, append-nil, length-drop}
+use Rattle.std.proofs.lemmas.List.{drop-append-le, drop-drop, drop_all, take_all}
+use Rattle.std.proofs.lemmas.Str.{IsUtf8-append}
+
+-- a slice of a whole list, written back
+written_back : (new items : List ℕ) (len : ℕ) → length new ≡ length items → len ≡ length items → take len (new ++ drop (length new) items) ≡ new
+written_back new items len same all =
+    let none : new ++ drop (length new) items ≡ new = ap (λ s. new ++ s) (drop_all (length new) items (omega arith)) ∙ append-nil new in
+    ap (take len) none ∙ take_all len new (omega arith)
+
+-- what a room holds from a place on is UTF-8
+abbrev pub IsTextFrom : (start : ℕ) (room : List ℕ) → Type 0
+IsTextFrom start room = (start ≤ length room) × IsUtf8 (drop start room)
+
+-- so it is where a text is put before one
+pub text_put : (text old new items : List ℕ) (start len : ℕ) → length new ≡ length items → len ≡ length items → IsUtf8 text → IsUtf8 old → start ≤ length new → drop start new ≡ text ++ old
+    → IsTextFrom start (take len (new ++ drop (length new) items))
+text_put text old new items start len same all first later within put =
+    subst (IsTextFrom start) (sym (written_back new items len same all)) (within, subst IsUtf8 (sym put) (IsUtf8-append text old first later))
+
+-- of a block that was put, only what stands behind its first octets
+pub block_put : (padded block room new : List ℕ) (end start : ℕ) → 16 ≤ length padded → length padded - 16 ≤ 16 → block ≡ drop (length padded - 16) padded → start + length block ≡ end → drop start new ≡ block ++ drop end room
+    → drop (end - (length padded - 16)) new ≡ drop 16 padded ++ drop end room
+block_put padded block room new end start some few is starts put =
+    let size = length padded - 16 in
+    let whole : length block ≡ 16 = omega (arith, ap length is, length-drop size padded) in
+    let from : start + (16 - size) ≡ end - size = omega (arith, whole) in
+    let back : size + (16 - size) ≡ 16 = omega arith in
+    ap (λ n. drop n new) (sym from) ∙ sym (drop-drop (16 - size) start new) ∙ ap (drop (16 - size)) put ∙ drop-append-le (16 - size) block (drop end room) (omega (arith, whole))
+    ∙ ap (λ s. s ++ drop end room) (ap (drop (16 - size)) is ∙ drop-drop (16 - size) size padded ∙ ap (λ n. drop n padded) back)
