@@ -15,35 +15,13 @@ use eds_types::TypeTable;
 use std::alloc::Global;
 use std::marker::Model;
 
-/// The segment at the number of a type, if there is one.
+/// What stands at the number of a type, if something does.
 #[inline(always)]
-fn segment_at(each: &[Option<Segment>], id: TypeId) -> Option<&Segment>
-    ensures { IfSome result (λ s. slice_get each.now id.0 ≡ Some (Some s.now)) }
+fn found_at<T>(each: &[Option<T>], id: TypeId) -> Option<&T>
+    ensures { IfSome result (λ x. slice_get each.now id.0 ≡ Some (Some x.now)) }
 {
     match each.get(id.0 as usize) {
-        Some(Some(segment)) => Some(segment),
-        _ => None,
-    }
-}
-
-/// The operation at the number of a type, if there is one.
-#[inline(always)]
-fn operation_at(operations: &[Option<Operation>], id: TypeId) -> Option<&Operation>
-    ensures { IfSome result (λ o. slice_get operations.now id.0 ≡ Some (Some o.now)) }
-{
-    match operations.get(id.0 as usize) {
-        Some(Some(operation)) => Some(operation),
-        _ => None,
-    }
-}
-
-/// The selector at the number of a container, if there is one.
-#[inline(always)]
-fn selector_at(selectors: &[Option<Selector>], id: TypeId) -> Option<&Selector>
-    ensures { IfSome result (λ s. slice_get selectors.now id.0 ≡ Some (Some s.now)) }
-{
-    match selectors.get(id.0 as usize) {
-        Some(Some(selector)) => Some(selector),
+        Some(Some(found)) => Some(found),
         _ => None,
     }
 }
@@ -124,7 +102,7 @@ impl<'a> Segments<'a> {
     pub(crate) fn head_of(&self, id: TypeId) -> Option<&Segment>
         ensures { IfSome result (λ s. IsHeadOf self.now id.0 s.now) }
     {
-        segment_at(self.each.as_slice(), id)
+        found_at(self.each.as_slice(), id)
     }
 
     /// The segment of a container whose value is that of its entries alone, if it has one.
@@ -143,7 +121,7 @@ impl<'a> Segments<'a> {
     pub(crate) fn operation(&self, id: TypeId) -> Option<&Operation>
         ensures { IfSome result (λ o. IsScalar self.now id.0 o.now) }
     {
-        operation_at(self.operations.as_slice(), id)
+        found_at(self.operations.as_slice(), id)
     }
 
     /// The selector of a container, if it has one.
@@ -151,7 +129,7 @@ impl<'a> Segments<'a> {
     pub(crate) fn selector(&self, id: TypeId) -> Option<&Selector>
         ensures { IfSome result (λ s. IsSelectorOf self.now id.0 s.now) }
     {
-        selector_at(self.selectors.as_slice(), id)
+        found_at(self.selectors.as_slice(), id)
     }
 
     /// The size of the trailers of a container's chain in bits, which is known beforehand where a tail stands before them.

@@ -7,6 +7,6 @@ use Rattle.eds_unpack.proofs.segments.Segments.operation.Goals as goal
 
 pub returns : goal.returns
 returns c =
-    subst (λ (t : Table). IfSome c.operation_at.result (λ o. IsScalar t c.args.id.0 o.now)) c.self.view_is
-    (some_weaker (λ o. slice_get c.as_slice.result.now c.args.id.0 ≡ Some (Some o.now)) (λ o. IsScalar c.self.inside.table.now c.args.id.0 o.now) c.operation_at.result
-    (λ o e. c.self.invariant.3 c.args.id.0 o.now (ap (λ xs. slice_get xs c.args.id.0) (sym c.as_slice.ensures.value) ∙ e)) c.operation_at.ensures)
+    subst (λ (t : Table). IfSome c.found_at.result (λ o. IsScalar t c.args.id.0 o.now)) c.self.view_is
+    (some_weaker (λ o. slice_get c.as_slice.result.now c.args.id.0 ≡ Some (Some o.now)) (λ o. IsScalar c.self.inside.table.now c.args.id.0 o.now) c.found_at.result
+    (λ o e. c.self.invariant.3 c.args.id.0 o.now (ap (λ xs. slice_get xs c.args.id.0) (sym c.as_slice.ensures.value) ∙ e)) c.found_at.ensures)

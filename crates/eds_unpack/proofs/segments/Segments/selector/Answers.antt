@@ -7,6 +7,6 @@ use Rattle.eds_unpack.proofs.segments.Segments.selector.Goals as goal
 
 pub returns : goal.returns
 returns c =
-    subst (λ (t : Table). IfSome c.selector_at.result (λ s. IsSelectorOf t c.args.id.0 s.now)) c.self.view_is
-    (some_weaker (λ s. slice_get c.as_slice.result.now c.args.id.0 ≡ Some (Some s.now)) (λ s. IsSelectorOf c.self.inside.table.now c.args.id.0 s.now) c.selector_at.result
-    (λ s e. c.self.invariant.1 c.args.id.0 s.now (ap (λ xs. slice_get xs c.args.id.0) (sym c.as_slice.ensures.value) ∙ e)) c.selector_at.ensures)
+    subst (λ (t : Table). IfSome c.found_at.result (λ s. IsSelectorOf t c.args.id.0 s.now)) c.self.view_is
+    (some_weaker (λ s. slice_get c.as_slice.result.now c.args.id.0 ≡ Some (Some s.now)) (λ s. IsSelectorOf c.self.inside.table.now c.args.id.0 s.now) c.found_at.result
+    (λ s e. c.self.invariant.1 c.args.id.0 s.now (ap (λ xs. slice_get xs c.args.id.0) (sym c.as_slice.ensures.value) ∙ e)) c.found_at.ensures)
