@@ -84,6 +84,34 @@ fn transaction_names(alloc: Global, texts: &[Text]) -> Result<NameList, Memory>
     NameList::of(alloc, names)
 }
 
+// The names of what a component has beside its ends.
+#[derive(Drop)]
+struct OwnNames {
+    variables: NameList,
+    activities: NameList,
+    transactions: NameList,
+}
+
+fn own_names(
+    alloc: Global,
+    variables: &[VariableHead],
+    activities: &[Head],
+    transactions: &[Text],
+) -> Result<OwnNames, Memory>
+    ensures variables { IfOk result (λ n. n.variables ≡ map (λ (v : variable_type). v.name) variables.now) }
+    ensures activities { IfOk result (λ n. n.activities ≡ map (λ (h : head_type). h.name) activities.now) }
+    ensures transactions { IfOk result (λ n. n.transactions ≡ transactions.now) }
+{
+    let variables = variable_names(alloc, variables)?;
+    let activities = activity_names(alloc, activities)?;
+    let transactions = transaction_names(alloc, transactions)?;
+    Ok(OwnNames {
+        variables,
+        activities,
+        transactions,
+    })
+}
+
 // The arguments that a member carries, out of those of all members of its end.
 fn fields_of(fields: &SharedItems<Fields>, member: usize) -> Option<&Fields>
     ensures { option_copied result ≡ slice_get fields.now member }
@@ -105,19 +133,17 @@ impl<'a> Component<'a> {
         ensures activities { IfOk result (λ c. c.activities.now ≡ activities.now) }
         ensures transactions { IfOk result (λ c. c.transactions ≡ transactions.now) }
     {
-        let transactions = transaction_names(alloc, transactions)?;
+        let own = own_names(alloc, variables, activities, transactions)?;
         let end_names = end_names(alloc, ends)?;
-        let variable_names = variable_names(alloc, variables)?;
-        let activity_names = activity_names(alloc, activities)?;
         let carried = carried_at_ends(alloc, ends)?;
         Ok(Component {
             ends,
             variables,
             activities,
-            transactions,
+            transactions: own.transactions,
             end_names,
-            variable_names,
-            activity_names,
+            variable_names: own.variables,
+            activity_names: own.activities,
             sent: carried.sent,
             received: carried.received,
         })

@@ -207,6 +207,21 @@ fn machines_in(alloc: Global, scope: &Scope, node: u32) -> Result<Items<Machine>
     read_machines(alloc, scope, nodes.as_slice())
 }
 
+fn inner_in(alloc: Global, scope: &Scope, node: u32) -> Result<Inner, Memory>
+    ensures maps { IfOk result (λ i. i.maps.items ≡ map_plans_of scope.now.component.now.ends.now scope.now.component.now.variables.now scope.now.tree.now node) }
+    ensures activities { IfOk result (λ i. map planned i.activities ≡ activities_at (scope_of scope.now) (activity_nodes_of scope.now.tree.now node)) }
+    ensures machines { IfOk result (λ i. map planned_machine i.machines ≡ machines_at (scope_of scope.now) (machine_nodes_of scope.now.tree.now node)) }
+{
+    let maps = maps_in(alloc, scope, node)?;
+    let activities = activities_in(alloc, scope, node)?;
+    let machines = machines_in(alloc, scope, node)?;
+    Ok(Inner {
+        maps,
+        activities,
+        machines,
+    })
+}
+
 fn inner_of(
     alloc: Global,
     sheet: &Sheet,
@@ -227,14 +242,7 @@ fn inner_of(
         named.transactions.as_slice(),
     )?;
     let scope = scope_over(&*file.tree, &*sheet.table, &component);
-    let maps = maps_in(alloc, &scope, node)?;
-    let activities = activities_in(alloc, &scope, node)?;
-    let machines = machines_in(alloc, &scope, node)?;
-    Ok(Inner {
-        maps,
-        activities,
-        machines,
-    })
+    inner_in(alloc, &scope, node)
 }
 
 /// The plan of a component of a qualified name.
