@@ -22,7 +22,7 @@ import cases
 
 TOP = os.path.dirname(os.path.dirname(os.path.abspath(__file__)))
 SECONDS, MEMORY, STACK, SYSTEM = 2, 256 << 20, 1 << 20, 8 << 20
-FILE = 4_194_304
+FILE, PACKETS = 4_194_304, 16_777_216
 
 U4 = ["IntegerDataType", {"name": "U4"}, ["IntegerDataEncoding", {"sizeInBits": "4", "encoding": "unsigned"}]]
 U12 = ["IntegerDataType", {"name": "U12"}, ["IntegerDataEncoding", {"sizeInBits": "12", "encoding": "unsigned"}]]
@@ -396,6 +396,17 @@ def inputs():
     yield "a value 100,000 lists deep", "pack P/Word v s", {"s": WORD, "v": "[" * 100000 + "]" * 100000}, (3, "fault NotJson at $\n")
 
 
+def recordings():
+    """Recordings of 16 MiB."""
+    ranged = ["Range", ["MinMaxRange", {"rangeType": "atMost", "max": "127"}]]
+    number = ["IntegerDataType", {"name": "U7"}, ["IntegerDataEncoding", {"sizeInBits": "8", "encoding": "unsigned"}], ranged]
+    files = {"r": bytes(PACKETS), "s": sheet(number, container("Tiny", entry("a", "U7")))}
+    yield "16 million packets, whose lines are more than a report may be", "split P/Tiny r s", files, (7, "limit report 67108864\n")
+    yield "16 million packets, of which the last has no value", "split P/Tiny r s", {**files, "r": bytes(PACKETS - 1) + b"\xff"}, (
+        3, f"fault OutOfRange at $.a in packet {PACKETS}\n")  # fmt: skip
+    yield "16 million packets of a number", "split P/U7 r s", files, (0, "0\n" * PACKETS + f"packets {PACKETS} octets {PACKETS}\n")
+
+
 def scripts():
     """Scripts that are made to hurt: what each shows, the script, and the answer. They are run over the sheet of a heater."""
     beats = [f"{n}000 frame Dev/Heater:bus send a5{n:02x}" for n in range(1, 256)] + [f"{n}000 halt Dev/Heater m OutOfRange" for n in range(256, 10001)]
@@ -513,7 +524,7 @@ def main():
     program = os.path.abspath(words[0]) if words else os.path.join(TOP, "crates/eds_prog/out/eds_prog")
     measures = "--measure" in sys.argv
     with ThreadPoolExecutor(1 if measures else os.cpu_count()) as pool:
-        held = list(pool.map(lambda it: hold(program, it, measures), map(as_octets, chain_of(inputs(), deep(), behaviour(), runs()))))
+        held = list(pool.map(lambda it: hold(program, it, measures), map(as_octets, chain_of(inputs(), deep(), recordings(), behaviour(), runs()))))
     for what, wrong, took, _ in held:
         if measures:
             print(f"{took}  {what}")

@@ -32,8 +32,6 @@ use Rattle.eds_cmd.specs.declared.command.Verb.TheVariants.{Unpack, Pack, Split}
 use Rattle.eds_cmd.specs.declared.status.Status.{Status}
 use Rattle.eds_cmd.specs.declared.status.Status.TheVariants as statuses
 use Rattle.eds_cmd.specs.declared.status.What.TheVariants as what
-use Rattle.eds_cmd.specs.declared.stop.Cause.{Cause}
-use Rattle.eds_cmd.specs.declared.stop.Cause.TheVariants as causes
 use Rattle.eds_cmd.specs.declared.stop.Stop.{Stop}
 use Rattle.eds_cmd.specs.Answer.{AnswersBy, AnswersCommand, AnswersFew, AnswersWords, DoesBy, DoesOn, IsPast, IsWithin, Works, accepted, input_for, or_refused, sheet_files}
 use Rattle.eds_cmd.specs.Command.{CommandWords, JobWords, TaskWords, by_type, command_of, demo_of, job_type, run, task_type, type_name_of}
@@ -47,6 +45,7 @@ use Rattle.eds_cmd.specs.Split.{framing_of}
 use Rattle.eds_cmd.specs.Stops.{IsStop, frame_fault, limited, pack_fault, status_of}
 use Rattle.eds_cmd.specs.Target.{TypeIn, type_of}
 use Rattle.eds_cmd.specs.Unpack.{Begins, UnpacksBits, UnpacksFrame, frame_for}
+use Rattle.eds_cmd.proofs.Reporting.{not_done}
 use Rattle.eds_cmd.proofs.OneDemonstration.{one_demonstration}
 use Rattle.eds_cmd.proofs.SheetRuns.{ScriptLaws, one_of_sheet, some_of_sheet}
 use Rattle.eds_cmd.proofs.Splitting.{framing_for, one_way, some_way}
@@ -63,13 +62,6 @@ pub record ValueLaws : Type 0 where
 -- a stop ends a command as itself
 itself : (stop : Stop) → IsStop stop (status_of stop.cause) stop.report
 itself stop = record { status_is = refl; report_is = refl }
-
--- a stop is another status than that of what is done
-not_done : (cause : Cause) → status_of cause ≡ statuses.Done → ⊥
-not_done (causes.Sheet refusal) e = cc e
-not_done (causes.Data fault) e = cc e
-not_done (causes.Limit what most) e = cc e
-not_done (causes.NoFile name) e = cc e
 
 -- what is said holds of one status and report at most
 abbrev IsOfOne : (Status → List ℕ → Type 0) → Type 0

@@ -5,7 +5,7 @@ use Rattle.eds_types.specs.Plain.{fields, plains_of}
 use Rattle.eds_unpack.specs.declared.scalar.Scalar.{Scalar}
 use Rattle.eds_unpack.specs.Scalars.{plain_of}
 use Rattle.eds_value.specs.declared.layout.Layout.{Layout}
-use Rattle.eds_value.specs.JsonOfValue.{json_of_value, json_text}
+use Rattle.eds_value.specs.JsonOfValue.{json_of_value}
 use Rattle.eds_value.specs.Layouts.{IsLayoutOf, laid_text}
 use Rattle.eds_value.proofs.LaidTexts.{laid_is}
 use Rattle.eds_cmd.specs.Split.{HoldsPacket, PutsLine}

@@ -24,8 +24,9 @@ use Rattle.eds_value.specs.JsonOfValue.{json_text}
 use Rattle.eds_cmd.specs.declared.status.Status.{Status}
 use Rattle.eds_cmd.specs.declared.status.Status.TheVariants as statuses
 use Rattle.eds_cmd.specs.declared.stop.Stop.{Stop}
-use Rattle.eds_cmd.specs.Limits.{packet_octets}
-use Rattle.eds_cmd.specs.Split.{HoldsPacket, Splits, framing_of, packet_failure, packet_lines, packets_line}
+use Rattle.eds_cmd.specs.Endings.{UpToLimit}
+use Rattle.eds_cmd.specs.Limits.{packet_octets, report_octets}
+use Rattle.eds_cmd.specs.Split.{HoldsPacket, Splits, TakesPacket, framing_of, packet_failure, packet_lines, packets_line}
 use Rattle.eds_cmd.specs.Stops.{IsStop, packet_fault, status_of}
 use Rattle.eds_cmd.specs.Target.{IsKnown, TypeIn}
 
@@ -117,17 +118,21 @@ packet_is type is v octets judged n m e o few s =
 
 -- ---- packet after packet
 
+-- a text is these lines, or both are longer than a report may be
+abbrev pub AreLines : (text lines : List ℕ) → Type 0
+AreLines text lines = (text ≡ lines) ⊎ ((report_octets < length text) × (report_octets < length lines))
+
 -- so many octets are cut into so many packets, whose lines are this text
 pub record IsCutTo (type : TypeIn) (octets : List ℕ) (at count : ℕ) (text : List ℕ) : Type 0 where
   pub packets : List Packet
   pub cut : AreCut (framing_of type) packets (take at octets)
   pub count_is : count ≡ length packets
-  pub lines : text ≡ packet_lines type.table packets
+  pub lines : AreLines text (packet_lines type.table packets)
   pub few : count ≤ at
   pub within : at ≤ length octets
 
 pub cut_to_none : (type : TypeIn) (octets : List ℕ) → IsCutTo type octets 0 0 []
-cut_to_none type octets = record { packets = []; cut = refl; count_is = refl; lines = refl; few = omega arith; within = omega arith }
+cut_to_none type octets = record { packets = []; cut = refl; count_is = refl; lines = inl refl; few = omega arith; within = omega arith }
 
 lines-more : (t : Table) (ps : List Packet) (p : Packet) → packet_lines t (ps ++ p ∷ []) ≡ packet_lines t ps ++ (json_text t p.value ++ codes "\n")
 lines-more t [] p = append-nil (json_text t p.value ++ codes "\n")
@@ -152,40 +157,70 @@ front_is type value octets size h =
     let same : length front ≡ length (take size octets) = omega (arith, ap length e, length-append front rest, length-append (take size octets) rest) in
     sym (take-append_seam front rest) ∙ ap (take (length front)) e ∙ ap (λ n. take n (take size octets ++ rest)) same ∙ take-append_seam (take size octets) rest
 
+-- one more line, or none behind lines that are longer than a report may be
+lines_up : (t : Table) (ps : List Packet) (p : Packet) (text longer : List ℕ) → AreLines text (packet_lines t ps)
+    → (longer ≡ text ++ (json_text t p.value ++ codes "\n")) ⊎ ((report_octets < length text) × (longer ≡ text)) → AreLines longer (packet_lines t (ps ++ p ∷ []))
+lines_up t ps p text longer lines put = go lines put
+  where
+    line : List ℕ
+    line = json_text t p.value ++ codes "\n"
+
+    more : length (packet_lines t (ps ++ p ∷ [])) ≡ length (packet_lines t ps) + length line
+    more = ap length (lines-more t ps p) ∙ length-append (packet_lines t ps) line
+
+    go : AreLines text (packet_lines t ps) → (longer ≡ text ++ line) ⊎ ((report_octets < length text) × (longer ≡ text)) → AreLines longer (packet_lines t (ps ++ p ∷ []))
+    go (inl e) (inl is) = inl (is ∙ ap (λ l. l ++ line) e ∙ sym (lines-more t ps p))
+    go (inl e) (inr left) = inr (omega (arith, left.0, ap length left.1), omega (arith, left.0, ap length e, more))
+    go (inr past) (inl is) = inr (omega (arith, past.0, ap length is, length-append text line), omega (arith, past.1, more))
+    go (inr past) (inr left) = inr (omega (arith, past.0, ap length left.1), omega (arith, past.1, more))
+
 -- one more packet
-pub cut_to_more : (type : TypeIn) (octets : List ℕ) (at count size : ℕ) (text longer : List ℕ) (value : Plain) → IsCutTo type octets at count text → HoldsPacket type value (drop at octets) size
-    → longer ≡ text ++ (json_text type.table value ++ codes "\n") → IsCutTo type octets (at + size) (count + 1) longer
-cut_to_more type octets at count size text longer value k h is =
-    let p : Packet = packet_of value h.bits in
-    let packet : IsPacket (framing_of type) p (take size (drop at octets)) = subst (IsPacket (framing_of type) p) (front_is type value (drop at octets) size h) h.begins.spelled in
+pub cut_to_more : (type : TypeIn) (octets : List ℕ) (at count size : ℕ) (text longer : List ℕ) → IsCutTo type octets at count text → TakesPacket type (drop at octets) size text longer
+    → IsCutTo type octets (at + size) (count + 1) longer
+cut_to_more type octets at count size text longer k taken =
+    let h = taken.holds in
+    let p : Packet = packet_of taken.value h.bits in
+    let packet : IsPacket (framing_of type) p (take size (drop at octets)) = subst (IsPacket (framing_of type) p) (front_is type taken.value (drop at octets) size h) h.begins.spelled in
     record {
       packets = k.packets ++ p ∷ [];
       cut = subst (AreCut (framing_of type) (k.packets ++ p ∷ [])) (sym (take-more at size octets k.within)) (cut_more (framing_of type) k.packets p (take at octets) (take size (drop at octets)) k.cut packet);
       count_is = omega (arith, k.count_is, length-append k.packets (p ∷ []));
-      lines = is ∙ ap (λ l. l ++ (json_text type.table value ++ codes "\n")) k.lines ∙ sym (lines-more type.table k.packets p);
+      lines = lines_up type.table k.packets p text longer k.lines taken.line;
       few = omega (arith, k.few, h.some);
       within = omega (arith, k.within, h.within, length-drop at octets);
     }
 
+-- the report of packets, whose lines may have been left out
+report_up : (type : TypeIn) (octets : List ℕ) (packets : List Packet) (text report : List ℕ) → AreCut (framing_of type) packets octets → AreLines text (packet_lines type.table packets)
+    → report ≡ text ++ packets_line (length packets) (length octets) → UpToLimit (Splits type octets) statuses.Done report
+report_up type octets packets text report cut (inl e) is = inl (inl (record { packets = packets; cut = cut; status_is = refl; report_is = is ∙ rw e refl }))
+report_up type octets packets text report cut (inr past) is =
+    let line = packets_line (length packets) (length octets) in
+    let lines = packet_lines type.table packets in
+    inr (record {
+      status_is = refl;
+      past = omega (arith, past.0, ap length is, length-append text line);
+      whole = lines ++ line;
+      says = inl (record { packets = packets; cut = cut; status_is = refl; report_is = refl });
+      whole_past = omega (arith, past.1, length-append lines line);
+    })
+
 -- all octets are cut
 pub split_by : (type : TypeIn) (octets : List ℕ) (at count : ℕ) (text report : List ℕ) → IsCutTo type octets at count text → length octets ≤ at
-    → report ≡ text ++ packets_line count (length octets) → Splits type octets statuses.Done report
-split_by type octets at count text report k all is = inl (record {
-  packets = k.packets;
-  cut = subst (AreCut (framing_of type) k.packets) (take_all at octets all) k.cut;
-  status_is = refl;
-  report_is = is ∙ rw (k.lines, k.count_is) refl;
-})
+    → report ≡ text ++ packets_line count (length octets) → UpToLimit (Splits type octets) statuses.Done report
+split_by type octets at count text report k all is =
+    let cut = subst (AreCut (framing_of type) k.packets) (take_all at octets all) k.cut in
+    report_up type octets k.packets text report cut k.lines (is ∙ ap (λ n. text ++ packets_line n (length octets)) k.count_is)
 
 -- what follows can't be read
 pub cut_off_by : (type : TypeIn) (octets : List ℕ) (at count : ℕ) (text : List ℕ) (fault : Fault) (stop : Stop) → IsCutTo type octets at count text → at < length octets
-    → IsLastFault (framing_of type) (drop at octets) fault → stop ≡ packet_fault type.table (count + 1) fault.reason fault.path → Splits type octets (status_of stop.cause) stop.report
+    → IsLastFault (framing_of type) (drop at octets) fault → stop ≡ packet_fault type.table (count + 1) fault.reason fault.path → UpToLimit (Splits type octets) (status_of stop.cause) stop.report
 cut_off_by type octets at count text fault stop k longer fails is =
     let told : stop ≡ packet_fault type.table (length k.packets + 1) fault.reason fault.path = is ∙ ap (λ n. packet_fault type.table (n + 1) fault.reason fault.path) k.count_is in
-    inr (record {
+    inl (inr (record {
       packets = k.packets;
       reason = fault.reason;
       path = fault.path;
       cut = record { front = take at octets; rest = drop at octets; is = sym (take-append-drop at octets); cut = k.cut; some = λ e. omega (arith, longer, ap length e, length-drop at octets); fails = fails };
       stop = record { status_is = ap (λ (s : Stop). status_of s.cause) told; report_is = ap (λ (s : Stop). s.report) told };
-    })
+    }))

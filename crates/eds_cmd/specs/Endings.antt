@@ -1,5 +1,5 @@
 -- What ends a command over a shelf before it is done.
-use Rattle.std.specs.Prelude.{◌≡◌, ℕ, List, Result, Ok, Err, ⊤}
+use Rattle.std.specs.Prelude.{◌≡◌, ◌<◌, ℕ, List, length, Result, Ok, Err, ⊤, ◌⊎◌}
 use Rattle.eds_base.specs.declared.fail.Fail.{Fail}
 use Rattle.eds_base.specs.declared.fail.Fail.TheVariants as fails
 use Rattle.eds_cmd.specs.declared.ended.Ended.{Ended}
@@ -7,6 +7,7 @@ use Rattle.eds_cmd.specs.declared.ended.Ended.TheVariants.{Stopped, Unread, Memo
 use Rattle.eds_cmd.specs.declared.status.Status.{Status}
 use Rattle.eds_cmd.specs.declared.status.Status.TheVariants as statuses
 use Rattle.eds_cmd.specs.declared.stop.Stop.{Stop}
+use Rattle.eds_cmd.specs.Limits.{report_octets}
 use Rattle.eds_cmd.specs.Stops.{status_of}
 
 -- the end that a failure is: a stop, or want of memory
@@ -53,3 +54,17 @@ EndedSays Says Memory = ⊤
 abbrev pub CommandEndsAs : {X : Type 0} → (X → List ℕ) → (Status → List ℕ → Type 0) → Result X Ended → Type 0
 CommandEndsAs view Says (Ok report) = Says statuses.Done (view report)
 CommandEndsAs view Says (Err ended) = EndedSays Says ended
+
+-- ---- a report that is too long
+
+-- what is said holds of a report of what is done that is longer than a report may be, and so is this text, which stands for it
+pub record IsTooLong (Says : Status → List ℕ → Type 0) (status : Status) (text : List ℕ) : Type 0 where
+  pub status_is : status ≡ statuses.Done
+  pub past : report_octets < length text
+  pub whole : List ℕ
+  pub says : Says statuses.Done whole
+  pub whole_past : report_octets < length whole
+
+-- What is said of the status and the report holds; a report that is longer than a report may be is perhaps another one that is.
+abbrev pub UpToLimit : (Status → List ℕ → Type 0) → Status → List ℕ → Type 0
+UpToLimit Says status report = Says status report ⊎ IsTooLong Says status report

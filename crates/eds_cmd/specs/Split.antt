@@ -1,5 +1,5 @@
 -- What cutting octets into packets comes to.
-use Rattle.std.specs.Prelude.{◌≡◌, ◌≤◌, ℕ, ◌+◌, nat_le, List, [], ◌∷◌, ◌++◌, length, drop, codes, decimal, if◌then◌else◌, ◌&&◌, ⊤, ◌⊎◌}
+use Rattle.std.specs.Prelude.{◌≡◌, ◌≤◌, ◌<◌, ℕ, ◌+◌, nat_le, List, [], ◌∷◌, ◌++◌, length, drop, codes, decimal, if◌then◌else◌, ◌&&◌, ⊤, ◌⊎◌}
 use Rattle.eds_base.specs.declared.fail.Fail.{Fail}
 use Rattle.eds_base.specs.declared.fail.Fail.TheVariants as fails
 use Rattle.eds_base.specs.declared.fault.Fault.{Fault}
@@ -14,7 +14,7 @@ use Rattle.eds_unpack.specs.Pieces.{IsCutUpTo, IsLastFault}
 use Rattle.eds_unpack.specs.Split.{is_short}
 use Rattle.eds_unpack.specs.Splitting.{BeginsWith}
 use Rattle.eds_value.specs.JsonOfValue.{json_text}
-use Rattle.eds_cmd.specs.Limits.{packet_octets}
+use Rattle.eds_cmd.specs.Limits.{packet_octets, report_octets}
 use Rattle.eds_cmd.specs.declared.status.Status.{Status}
 use Rattle.eds_cmd.specs.declared.status.Status.TheVariants as statuses
 use Rattle.eds_cmd.specs.Stops.{IsStop, packet_fault}
@@ -46,6 +46,13 @@ pub record PutsLine (type : TypeIn) (octets : List ℕ) (size : ℕ) (old new : 
   pub value : Plain
   pub holds : HoldsPacket type value octets size
   pub line : new ≡ old ++ (json_text type.table value ++ codes "\n")
+
+-- so many octets at the front are a packet, and a line of JSON for its value is put behind a text, or left out where the text is
+-- already longer than a report may be
+pub record TakesPacket (type : TypeIn) (octets : List ℕ) (size : ℕ) (old new : List ℕ) : Type 0 where
+  pub value : Plain
+  pub holds : HoldsPacket type value octets size
+  pub line : (new ≡ old ++ (json_text type.table value ++ codes "\n")) ⊎ ((report_octets < length old) × (new ≡ old))
 
 -- ---- the report
 

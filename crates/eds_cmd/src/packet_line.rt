@@ -2,15 +2,16 @@
 
 ghost use Rattle.std.specs.Prelude.{◌≡◌, ◌<◌, ◌++◌, All, IfErr, IfNone, IfOk, IfSome, OnOk, codes, length, map, string_bytes};
 ghost use Rattle.eds_bits.specs.Bits.{Bits};
-ghost use Rattle.eds_cmd.specs.Split.{FailsFor, PutsLine};
+ghost use Rattle.eds_cmd.specs.Split.{FailsFor, HoldsPacket, PutsLine, TakesPacket};
 ghost use Rattle.eds_cmd.specs.Target.{IsKnown, type_in};
-ghost use Rattle.eds_types.specs.Plain.{plain};
+ghost use Rattle.eds_types.specs.Plain.{Plain, plain};
 ghost use Rattle.eds_types.specs.Rows.{Table};
 ghost use Rattle.eds_types.specs.Spelling.{Spells};
 ghost use Rattle.eds_unpack.specs.Scalars.{plain_of};
 ghost use Rattle.eds_value.specs.JsonOfValue.{json_of_value, json_text};
 ghost use Rattle.eds_value.specs.Layouts.{laid_text};
 
+use crate::limits::REPORT_OCTETS;
 use crate::packet::{packet_at, scalars_at};
 use crate::target::Target;
 use eds_base::{Fail, Fault, Memory};
@@ -129,9 +130,8 @@ fn push_line(
     Ok(())
 }
 
-/// Puts the line of JSON of the packet at the front of octets last, and gives how many octets the packet has. The rooms serve
-/// for one packet after another.
-pub fn push_packet<'a>(
+// Puts the line of JSON of the packet at the front of octets last, and gives how many octets the packet has.
+fn push_packet<'a>(
     alloc: Global,
     target: &Target<'_>,
     segments: &Segments<'a>,
@@ -152,4 +152,48 @@ pub fn push_packet<'a>(
     let (value, size) = packet_at(alloc, target, segments, octets, &mut rooms.fault)?;
     push_line(alloc, target, layouts, &value, &mut rooms.line, report)?;
     Ok(size)
+}
+
+// How many octets the packet at the front of octets has.
+fn packet_size<'a>(
+    alloc: Global,
+    target: &Target<'_>,
+    segments: &Segments<'a>,
+    octets: &[u8],
+    rooms: &mut Rooms<'a>,
+) -> Result<usize, Fail<Fault>>
+    requires segments { segments.now ≡ target.now.table.now }
+    requires known { IsKnown (type_in target.now) }
+    ensures packet { IfOk result (λ size. (v : Plain) × HoldsPacket (type_in target.now) v octets.now size) }
+    ensures fault { IfErr result (FailsFor (type_in target.now) octets.now) }
+{
+    if let Some(size) = scalars_at(target, segments, octets, &mut rooms.scalars)? {
+        return Ok(size);
+    }
+    let (_, size) = packet_at(alloc, target, segments, octets, &mut rooms.fault)?;
+    Ok(size)
+}
+
+/// Takes the packet at the front of octets: puts its line of JSON last, and gives how many octets it has. The line is left out
+/// where the report is already longer than a report may be. The rooms serve for one packet after another.
+pub fn take_packet<'a>(
+    alloc: Global,
+    target: &Target<'_>,
+    segments: &Segments<'a>,
+    layouts: &Layouts<'_>,
+    octets: &[u8],
+    rooms: &mut Rooms<'a>,
+    report: &mut String,
+) -> Result<usize, Fail<Fault>>
+    requires segments { segments.now ≡ target.now.table.now }
+    requires layouts { layouts.now ≡ target.now.table.now }
+    requires known { IsKnown (type_in target.now) }
+    ensures line { IfOk result (λ size. TakesPacket (type_in target.now) octets.now size (string_bytes report.old) (string_bytes report.new)) }
+    ensures fault { IfErr result (FailsFor (type_in target.now) octets.now) }
+{
+    if report.len() as u64 <= REPORT_OCTETS {
+        push_packet(alloc, target, segments, layouts, octets, rooms, report)
+    } else {
+        packet_size(alloc, target, segments, octets, rooms)
+    }
 }

@@ -9,7 +9,7 @@ ghost use Rattle.eds_sheet.specs.Compiled.{compiled, seen_sheet};
 ghost use Rattle.eds_sheet.specs.Firsts.{WhereFirstsAreTold};
 ghost use Rattle.eds_cmd.specs.Answer.{AnswersFew, Does, DoesBy, IsReached, IsReachedSheet, Works, accepted, input_for as input_of, or_refused, sheet_file as sheet_of_name, sheet_files as sheets_of_names, whole_file as whole, within_report as within_limit};
 ghost use Rattle.eds_cmd.specs.Command.{ReadsFile, job_type, job_words, task_type, task_words, type_name_of, words_of};
-ghost use Rattle.eds_cmd.specs.Endings.{Comes, CommandEndsAs, EndsAs, OnUnread};
+ghost use Rattle.eds_cmd.specs.Endings.{Comes, CommandEndsAs, EndsAs, OnUnread, UpToLimit};
 ghost use Rattle.eds_cmd.specs.Run.{IsRunnable, RunsSheet};
 ghost use Rattle.eds_cmd.specs.Target.{IsKnown, IsUsable, MayBeRead, type_in, type_of};
 
@@ -155,7 +155,7 @@ fn run_verb(
 ) -> Result<String, Fail<Stop>>
     requires known { IsKnown (type_in target.now) }
     requires few { length input.now ≤ PACKETS_OCTETS }
-    ensures { EndsAs string_bytes (Works verb (type_in target.now) input.now) result }
+    ensures { EndsAs string_bytes (UpToLimit (Works verb (type_in target.now) input.now)) result }
 {
     match verb {
         Verb::Unpack => unpacked(alloc, target, input),
@@ -169,7 +169,7 @@ fn do_by_type(alloc: Global, verb: Verb, sheet: &Sheet, input: &[u8]) -> Result<
     requires word { IsSomeAnd sheet.now.asked_type (λ id. id.0 < length sheet.now.table) }
     requires readable { MayBeRead (seen_sheet sheet.now) }
     requires few { length input.now ≤ PACKETS_OCTETS }
-    ensures { EndsAs (λ o. o) (Works verb (type_of (seen_sheet sheet.now)) input.now) result }
+    ensures { EndsAs (λ o. o) (UpToLimit (Works verb (type_of (seen_sheet sheet.now)) input.now)) result }
 {
     let target = target_of(sheet);
     let report = run_verb(alloc, verb, &target, input)?;
@@ -208,7 +208,7 @@ fn do_task(
     requires usable { IsUsable sheet.now }
     requires given { is_some sheet.now.asked_type ≡ is_some (task_type (task_words task.now)) }
     requires few { length input.now ≤ PACKETS_OCTETS }
-    ensures { EndsAs (λ o. o) (Does (task_words task.now) (seen_sheet sheet.now) input.now) result }
+    ensures { EndsAs (λ o. o) (UpToLimit (Does (task_words task.now) (seen_sheet sheet.now) input.now)) result }
 {
     match task {
         Task::ByType(verb, _) => do_by_type(alloc, *verb, sheet, input),
@@ -238,7 +238,7 @@ fn run_job<S: Shelf>(
     requires usable { IsUsable sheet.now }
     requires given { is_some sheet.now.asked_type ≡ is_some (task_type (job_words job.now).task) }
     ensures told { (files : Files) → S.files shelf.old ≡ Some files
-        → CommandEndsAs (λ o. o) (DoesBy (Some (job_words job.now)) files (seen_sheet sheet.now)) result }
+        → CommandEndsAs (λ o. o) (UpToLimit (DoesBy (Some (job_words job.now)) files (seen_sheet sheet.now))) result }
     ensures calm { (other : List ℕ) → S.faults shelf.old other ≤ S.faults shelf.new other }
     ensures unread { IfErr result (λ ended. OnUnread ended
         (λ n. (n ≡ job.now.input.now) × HasRisen (S.faults shelf.old n) (S.faults shelf.new n))) }
@@ -257,7 +257,7 @@ fn report_for<S: Shelf>(
     requires usable { IsUsable sheet.now }
     requires given { is_some sheet.now.asked_type ≡ is_some (job_type (option_map job_words job)) }
     ensures told { (files : Files) → S.files shelf.old ≡ Some files
-        → CommandEndsAs (λ o. o) (DoesBy (option_map job_words job.entry) files (seen_sheet sheet.now)) result }
+        → CommandEndsAs (λ o. o) (UpToLimit (DoesBy (option_map job_words job.entry) files (seen_sheet sheet.now))) result }
     ensures calm { (other : List ℕ) → S.faults shelf.old other ≤ S.faults shelf.new other }
     ensures cause { IfErr result (λ ended. OnUnread ended
         (λ n. HasRisen (S.faults shelf.old n) (S.faults shelf.new n))) }

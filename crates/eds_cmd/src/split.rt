@@ -1,12 +1,12 @@
 //! From octets that hold packets to the report on their values.
 
 ghost use Rattle.std.specs.Prelude.{◌≡◌, ◌≤◌, IfOk, string_bytes, length};
-ghost use Rattle.eds_cmd.specs.Endings.{EndsAs};
+ghost use Rattle.eds_cmd.specs.Endings.{EndsAs, UpToLimit};
 ghost use Rattle.eds_cmd.specs.Split.{Splits, packets_line as line_of_packets};
 ghost use Rattle.eds_cmd.specs.Target.{IsKnown, type_in};
 
 use crate::limits::PACKETS_OCTETS;
-use crate::packet_line::{Rooms, push_packet};
+use crate::packet_line::{Rooms, take_packet};
 use crate::stop::{Stop, packet_fault};
 use crate::target::Target;
 use eds_base::Fail;
@@ -23,11 +23,12 @@ fn packets_line(alloc: Global, packets: u32, octets: usize) -> Result<String, Al
 
 /// The report on the packets that octets hold one after another: a line of JSON for the value of each, and how many packets and
 /// octets there are. Each packet begins at an octet, and up to 7 bits fill its last one. The first packet that can't be read is
-/// told with its number.
+/// told with its number. Where the report gets longer than a report may be, packets are read on, but their lines are left out: the
+/// packet that fails comes before the limit.
 pub fn split(alloc: Global, target: &Target<'_>, octets: &[u8]) -> Result<String, Fail<Stop>>
     requires known { IsKnown (type_in target.now) }
     requires few { length octets.now ≤ PACKETS_OCTETS }
-    ensures { EndsAs string_bytes (Splits (type_in target.now) octets.now) result }
+    ensures { EndsAs string_bytes (UpToLimit (Splits (type_in target.now) octets.now)) result }
 {
     let segments = Segments::of(alloc, target.table)?;
     let layouts = Layouts::of(alloc, target.table)?;
@@ -36,7 +37,7 @@ pub fn split(alloc: Global, target: &Target<'_>, octets: &[u8]) -> Result<String
     let mut packets = 0u32;
     let mut at = 0usize;
     while at < octets.len() {
-        match push_packet(
+        match take_packet(
             alloc,
             target,
             &segments,

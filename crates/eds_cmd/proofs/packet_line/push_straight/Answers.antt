@@ -1,4 +1,4 @@
-use Rattle.std.proofs.Common.{◌≡◌, ◌++◌, List, ℕ, [], codes, length, map, rules, string_bytes, subst, arith}
+use Rattle.std.proofs.Common.{◌≡◌, ◌++◌, List, [], codes, length, map, rules, string_bytes, subst, arith}
 use Rattle.std.specs.Prelude.{IfSome}
 use Rattle.eds_types.specs.Plain.{fields, plains_of}
 use Rattle.eds_types.specs.Rows.{Table}

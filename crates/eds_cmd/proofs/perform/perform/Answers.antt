@@ -16,4 +16,4 @@ returns-in_err-within_report-clause-told g c = λ firsts tells files told.
     let is = c.in_ok-sheet.ensures.told firsts tells files told in
     let does = c.in_ok-report.ensures.told files (c.in_ok-sheet.ensures.files ∙ told) in
     rw (handed_on c.from_residual-in_err-within_report.result (ended_of c.in_err-within_report.field-0.0) c.from_residual-in_err-within_report.ensures.1)
-    (past_end firsts files (words_of c.args.command.now) (seen_sheet c.in_ok-sheet.sheet) c.in_ok-report.report c.in_err-within_report.field-0.0 is does c.in_err-within_report.ensures)
+    (past_end firsts files (words_of c.args.command.now) (seen_sheet c.in_ok-sheet.sheet) is c.in_ok-report.report c.in_err-within_report.field-0.0 does c.in_err-within_report.ensures)
