@@ -22,7 +22,7 @@ import cases
 
 TOP = os.path.dirname(os.path.dirname(os.path.abspath(__file__)))
 SECONDS, MEMORY, STACK, SYSTEM = 2, 256 << 20, 1 << 20, 8 << 20
-FILE, PACKETS = 4_194_304, 16_777_216
+FILE, PACKETS = 4_194_304, 8_388_608
 
 U4 = ["IntegerDataType", {"name": "U4"}, ["IntegerDataEncoding", {"sizeInBits": "4", "encoding": "unsigned"}]]
 U12 = ["IntegerDataType", {"name": "U12"}, ["IntegerDataEncoding", {"sizeInBits": "12", "encoding": "unsigned"}]]
@@ -397,14 +397,13 @@ def inputs():
 
 
 def recordings():
-    """Recordings of 16 MiB."""
+    """Recordings of packets of an octet, whose lines are three times as long as a report may be."""
     ranged = ["Range", ["MinMaxRange", {"rangeType": "atMost", "max": "127"}]]
     number = ["IntegerDataType", {"name": "U7"}, ["IntegerDataEncoding", {"sizeInBits": "8", "encoding": "unsigned"}], ranged]
     files = {"r": bytes(PACKETS), "s": sheet(number, container("Tiny", entry("a", "U7")))}
-    yield "16 million packets, whose lines are more than a report may be", "split P/Tiny r s", files, (7, "limit report 67108864\n")
-    yield "16 million packets, of which the last has no value", "split P/Tiny r s", {**files, "r": bytes(PACKETS - 1) + b"\xff"}, (
+    yield "8 million packets, whose lines are more than a report may be", "split P/Tiny r s", files, (7, "limit report 67108864\n")
+    yield "8 million packets, of which the last has no value", "split P/Tiny r s", {**files, "r": bytes(PACKETS - 1) + b"\xff"}, (
         3, f"fault OutOfRange at $.a in packet {PACKETS}\n")  # fmt: skip
-    yield "16 million packets of a number", "split P/U7 r s", files, (0, "0\n" * PACKETS + f"packets {PACKETS} octets {PACKETS}\n")
 
 
 def scripts():
