@@ -1,7 +1,7 @@
 -- The text at the end of a room, onto which more is put first.
-use Rattle.std.proofs.Common.{◌≡◌, ℕ, ◌≤◌, ◌+◌, ◌-◌, List, ◌++◌, length, take, drop, IsUtf8, sym, ap, subst, ◌∙◌, arith, append-nil, length-drop}
+use Rattle.std.proofs.Common.{◌-◌, ◌+◌, ◌≡◌, ℕ, zero, suc, ◌≤◌, List, [], ◌∷◌, ◌++◌, length, take, drop, IsAscii, IsUtf8, sym, ap, subst, ◌∙◌, arith, append_assoc, append-nil, length-drop}
 use Rattle.std.proofs.lemmas.List.{drop-append-le, drop-drop, drop_all, take_all}
-use Rattle.std.proofs.lemmas.Str.{IsUtf8-append}
+use Rattle.std.proofs.lemmas.Str.{IsUtf8-append, IsUtf8-from_ascii}
 
 -- a slice of a whole list, written back
 written_back : (new items : List ℕ) (len : ℕ) → length new ≡ length items → len ≡ length items → take len (new ++ drop (length new) items) ≡ new
@@ -29,3 +29,17 @@ block_put padded block room new end start some few is starts put =
     let back : size + (16 - size) ≡ 16 = omega arith in
     ap (λ n. drop n new) (sym from) ∙ sym (drop-drop (16 - size) start new) ∙ ap (drop (16 - size)) put ∙ drop-append-le (16 - size) block (drop end room) (omega (arith, whole))
     ∙ ap (λ s. s ++ drop end room) (ap (drop (16 - size)) is ∙ drop-drop (16 - size) size padded ∙ ap (λ n. drop n padded) back)
+
+-- ---- between quotation marks
+
+quote_ascii : IsAscii (34 ∷ [])
+quote_ascii zero = omega arith
+quote_ascii (suc i) = omega arith
+
+pub marked_utf8 : (own : List ℕ) → IsUtf8 own → IsUtf8 (34 ∷ (own ++ 34 ∷ []))
+marked_utf8 own h =
+    let quote = IsUtf8-from_ascii (34 ∷ []) quote_ascii in
+    IsUtf8-append (34 ∷ []) (own ++ 34 ∷ []) quote (IsUtf8-append own (34 ∷ []) h quote)
+
+pub marked_text : (own old : List ℕ) → (34 ∷ (own ++ 34 ∷ [])) ++ old ≡ 34 ∷ (own ++ 34 ∷ old)
+marked_text own old = ap (λ s. 34 ∷ s) (append_assoc own (34 ∷ []) old)

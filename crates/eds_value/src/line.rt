@@ -1,6 +1,6 @@
 //! The text of a line, put together from its end.
 
-ghost use Rattle.std.specs.Prelude.{◌≡◌, ◌+◌, ◌<◌, ◌≤◌, ◌++◌, [], IfOk, OnErr, OnOk, drop, length};
+ghost use Rattle.std.specs.Prelude.{◌+◌, ◌≡◌, ◌<◌, ◌≤◌, ◌++◌, ◌∷◌, [], codes, IfOk, OnErr, OnOk, drop, length};
 ghost use Rattle.std.specs.Fmt.{signed_decimal};
 ghost use Rattle.json.specs.Print.{quoted};
 ghost use Rattle.serde_json.specs.Data.{boolean, number};
@@ -51,6 +51,21 @@ fn put_digits(room: &mut [u8], end: usize, number: i64) -> usize
         return start;
     }
     room[start - 1] = b'-';
+    start - 1
+}
+
+/// Puts octets between two quotation marks into a room so that they end at a place, and gives where they begin.
+#[inline(always)]
+fn put_marked(room: &mut [u8], end: usize, octets: &[u8]) -> usize
+    requires free { length octets.now + 2 ≤ end }
+    requires within { end ≤ length room.old }
+    ensures start { result ≤ end }
+    ensures size { length room.new ≡ length room.old }
+    ensures put { drop result room.new ≡ 34 ∷ (octets.now ++ 34 ∷ drop end room.old) }
+{
+    room[end - 1] = b'"';
+    let start = put_before(room, end - 1, octets);
+    room[start - 1] = b'"';
     start - 1
 }
 
@@ -197,9 +212,17 @@ impl Line {
         Ok(())
     }
 
-    /// Puts a number of 64 bits first.
+    /// Puts a whole number of 64 bits first.
     #[inline(always)]
-    fn put_short(&mut self, n: i64) -> Result<(), AllocError>
+    pub fn put_short(&mut self, n: i64) -> Result<(), AllocError>
+        ensures { OnOk result (self.new ≡ compact_text (number (of_integer n)) ++ self.old) }
+    {
+        self.put_decimal(n)
+    }
+
+    /// Puts the digits of a number of 64 bits first.
+    #[inline(always)]
+    fn put_decimal(&mut self, n: i64) -> Result<(), AllocError>
         ensures { OnOk result (self.new ≡ signed_decimal n ++ self.old) }
     {
         let end = if NUMBER_OCTETS <= self.start {
@@ -225,7 +248,7 @@ impl Line {
         ensures { OnOk result (self.new ≡ compact_text (number (of_integer n)) ++ self.old) }
     {
         match i64::try_from(n) {
-            Ok(short) => self.put_short(short),
+            Ok(short) => self.put_decimal(short),
             Err(_) => self.put_long(n),
         }
     }
@@ -242,15 +265,27 @@ impl Line {
         }
     }
 
+    /// Puts a text first between two quotation marks.
+    #[inline(always)]
+    fn put_between_quotes(&mut self, text: &str) -> Result<(), AllocError>
+        ensures { OnOk result (self.new ≡ codes "\"" ++ (text.now ++ (codes "\"" ++ self.old))) }
+    {
+        let octets = text.as_bytes();
+        let end = if octets.len() < self.start.saturating_sub(1) {
+            self.start
+        } else {
+            grow(&mut self.room, self.start, octets.len().saturating_add(2))?
+        };
+        self.start = put_marked(self.room.as_mut_slice(), end, octets);
+        Ok(())
+    }
+
     /// Puts a text first as a string of JSON.
     pub fn put_quoted(&mut self, alloc: Global, text: &str) -> Result<(), Memory>
         ensures { OnOk result (self.new ≡ quoted text.now ++ self.old) }
     {
         if is_plain(text.as_bytes()) {
-            self.put_text("\"")?;
-            self.put_text(text)?;
-            self.put_text("\"")?;
-            Ok(())
+            Ok(self.put_between_quotes(text)?)
         } else {
             Ok(self.put_text(escaped(alloc, text)?.as_str())?)
         }

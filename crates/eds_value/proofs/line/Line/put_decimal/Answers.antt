@@ -3,8 +3,8 @@ use Rattle.std.proofs.lemmas.Str.{IsUtf8-from_ascii}
 use Rattle.std.specs.Fmt.{signed_decimal}
 use Rattle.itoa.proofs.Decimal.{IsAscii-signed_decimal}
 use Rattle.eds_value.proofs.Lines.{text_put}
-use Rattle.eds_value.proofs.line.Line.put_short.Goals.{then-self-ge-NUMBER_OCTETS, else-self-ge-NUMBER_OCTETS+in_ok-end}
-use Rattle.eds_value.proofs.line.Line.put_short.Goals as goal
+use Rattle.eds_value.proofs.line.Line.put_decimal.Goals.{then-self-ge-NUMBER_OCTETS, else-self-ge-NUMBER_OCTETS+in_ok-end}
+use Rattle.eds_value.proofs.line.Line.put_decimal.Goals as goal
 
 pub invariant_of-self-2 : goal.invariant_of-self-2
 invariant_of-self-2 c =
