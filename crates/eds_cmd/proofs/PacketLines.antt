@@ -18,12 +18,12 @@ plain_at (s ∷ ss) zero none lt = refl
 plain_at (s ∷ ss) (suc i) none lt = plain_at ss i none (omega arith)
 
 -- the line of a packet is put by its container's layout, before the end of the line
-pub straight_put : (type : TypeIn) (l : Layout) (ss : List Scalar) (octets : List ℕ) (size : ℕ) (old ended text new : List ℕ) → IsLayoutOf type.table type.id l → length ss ≡ l.count
-    → HoldsPacket type (fields type.id (plains_of (map plain_of ss))) octets size → ended ≡ codes "\n" ++ [] → text ≡ laid_text (map (json_of_value type.table) (map plain_of ss)) l ++ ended → new ≡ old ++ text
+pub straight_put : (type : TypeIn) (k : ℕ) (l : Layout) (ss : List Scalar) (octets : List ℕ) (size : ℕ) (old ended text new : List ℕ) → IsLayoutOf type.table k l → length ss ≡ l.count
+    → HoldsPacket type (fields k (plains_of (map plain_of ss))) octets size → ended ≡ codes "\n" ++ [] → text ≡ laid_text (map (json_of_value type.table) (map plain_of ss)) l ++ ended → new ≡ old ++ text
     → PutsLine type octets size old new
-straight_put type l ss octets size old ended text new is long holds newline put pushed =
-    let v = fields type.id (plains_of (map plain_of ss)) in
-    let laid = laid_is type.table type.id l (map plain_of ss) is (length-map ss plain_of ∙ long) in
+straight_put type k l ss octets size old ended text new is long holds newline put pushed =
+    let v = fields k (plains_of (map plain_of ss)) in
+    let laid = laid_is type.table k l (map plain_of ss) is (length-map ss plain_of ∙ long) in
     record {
       value = v;
       holds = holds;

@@ -9,7 +9,7 @@ ghost use Rattle.eds_unpack.specs.Scalars.{plain_of};
 
 use crate::limits::PACKET_OCTETS;
 use crate::target::Target;
-use eds_base::{Fail, Fault, Memory, Path, Reason};
+use eds_base::{Fail, Fault, Memory, Path, Reason, TypeId};
 use eds_bits::BitView;
 use eds_overlap::law::empty_types;
 use eds_types::Value;
@@ -77,22 +77,22 @@ pub fn packet_at(
     }
 }
 
-/// The scalars of the packet at the front of octets, put into a room, and how many octets the packet has. None, where `scalars_by`
-/// doesn't tell them.
+/// The scalars of the packet at the front of octets, put into a room, with the container that it is, and how many octets it has.
+/// None, where `scalars_by` doesn't tell them.
 pub fn scalars_at<'a>(
     target: &Target<'_>,
     segments: &Segments<'a>,
     octets: &[u8],
     room: &mut Vec<Scalar<'a>>,
-) -> Result<Option<usize>, Memory>
+) -> Result<Option<(TypeId, usize)>, Memory>
     requires segments { segments.now ≡ target.now.table.now }
     requires known { IsKnown (type_in target.now) }
-    ensures { IfOk result (λ o. IfSome o (λ size. HoldsPacket (type_in target.now) (fields target.now.id.0 (plains_of (map plain_of room.new.items))) octets.now size)) }
+    ensures { IfOk result (λ o. IfSome o (λ x. HoldsPacket (type_in target.now) (fields (x.0).0 (plains_of (map plain_of room.new.items))) octets.now x.1)) }
 {
     target.table.keeps_rules();
     empty_types();
     match scalars_by(segments, target.id, BitView::new(window(octets)), room)? {
-        Some(size) => Ok(Some(octets_for(size))),
+        Some((found, size)) => Ok(Some((found, octets_for(size)))),
         None => Ok(None),
     }
 }

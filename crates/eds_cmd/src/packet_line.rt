@@ -1,10 +1,11 @@
 //! The line of the packet at the front of octets.
 
-ghost use Rattle.std.specs.Prelude.{◌≡◌, ◌<◌, ◌++◌, All, IfErr, IfNone, IfOk, IfSome, OnOk, codes, length, map, string_bytes};
+ghost use Rattle.std.specs.Prelude.{◌≡◌, ◌<◌, ◌++◌, All, IfErr, IfNone, IfOk, IfSome, OnOk, codes, length, map, nat_le, string_bytes};
 ghost use Rattle.eds_bits.specs.Bits.{Bits};
-ghost use Rattle.eds_cmd.specs.Split.{FailsFor, HoldsPacket, PutsLine, TakesPacket};
+ghost use Rattle.eds_cmd.specs.Limits.{report_octets};
+ghost use Rattle.eds_cmd.specs.Split.{FailsFor, PutsLine, TakesPacket};
 ghost use Rattle.eds_cmd.specs.Target.{IsKnown, type_in};
-ghost use Rattle.eds_types.specs.Plain.{Plain, plain};
+ghost use Rattle.eds_types.specs.Plain.{plain};
 ghost use Rattle.eds_types.specs.Rows.{Table};
 ghost use Rattle.eds_types.specs.Spelling.{Spells};
 ghost use Rattle.eds_unpack.specs.Scalars.{plain_of};
@@ -49,7 +50,8 @@ fn put_scalar(alloc: Global, scalar: Scalar<'_>, line: &mut Line) -> Result<(), 
     ensures { (t : Table) → OnOk result (line.new ≡ json_text t (plain_of scalar.entry) ++ line.old) }
 {
     match scalar {
-        Scalar::Num(number) => Ok(line.put_number(number)?),
+        Scalar::Num(number) => Ok(line.put_short(number)?),
+        Scalar::Large(number) => Ok(line.put_number(i128::from(number))?),
         Scalar::Label(label) => line.put_quoted(alloc, label),
         Scalar::Bool(truth) => Ok(line.put_truth(truth)?),
     }
@@ -94,10 +96,10 @@ fn push_straight<'a>(
     ensures line { IfOk result (λ o. IfSome o (λ size. PutsLine (type_in target.now) octets.now size (string_bytes report.old) (string_bytes report.new))) }
     ensures none { IfOk result (λ o. IfNone o (string_bytes report.new ≡ string_bytes report.old)) }
 {
-    let Some(size) = scalars_at(target, segments, octets, &mut rooms.scalars)? else {
+    let Some((found, size)) = scalars_at(target, segments, octets, &mut rooms.scalars)? else {
         return Ok(None);
     };
-    let Some(layout) = layouts.find(target.id, rooms.scalars.len()) else {
+    let Some(layout) = layouts.find(found, rooms.scalars.len()) else {
         return Ok(None);
     };
     rooms.line.clear();
@@ -130,14 +132,48 @@ fn push_line(
     Ok(())
 }
 
-// Puts the line of JSON of the packet at the front of octets last, and gives how many octets the packet has.
-fn push_packet<'a>(
+// Whether a report is no longer than a report may be.
+fn is_within(report: &str) -> bool
+    ensures { result ≡ nat_le (length report.now) report_octets }
+{
+    report.len() as u64 <= REPORT_OCTETS
+}
+
+/// Takes the packet at the front of octets, as `take_packet` does, where it has nothing but scalars. None, and nothing is put,
+/// where the packet isn't read so. What this answers is small: the answer of `take_packet` has room for the path of a fault, which
+/// is cleared and moved for each packet.
+pub fn take_scalars<'a>(
     alloc: Global,
     target: &Target<'_>,
     segments: &Segments<'a>,
     layouts: &Layouts<'_>,
     octets: &[u8],
     rooms: &mut Rooms<'a>,
+    report: &mut String,
+) -> Result<Option<usize>, Memory>
+    requires segments { segments.now ≡ target.now.table.now }
+    requires layouts { layouts.now ≡ target.now.table.now }
+    requires known { IsKnown (type_in target.now) }
+    ensures line { IfOk result (λ o. IfSome o (λ size. TakesPacket (type_in target.now) octets.now size (string_bytes report.old) (string_bytes report.new))) }
+    ensures none { IfOk result (λ o. IfNone o (string_bytes report.new ≡ string_bytes report.old)) }
+{
+    if is_within(report) {
+        return push_straight(alloc, target, segments, layouts, octets, rooms, report);
+    }
+    match scalars_at(target, segments, octets, &mut rooms.scalars)? {
+        Some((_, size)) => Ok(Some(size)),
+        None => Ok(None),
+    }
+}
+
+// Puts the line of JSON of the packet at the front of octets last, and gives how many octets the packet has.
+fn push_packet(
+    alloc: Global,
+    target: &Target<'_>,
+    segments: &Segments<'_>,
+    layouts: &Layouts<'_>,
+    octets: &[u8],
+    rooms: &mut Rooms<'_>,
     report: &mut String,
 ) -> Result<usize, Fail<Fault>>
     requires segments { segments.now ≡ target.now.table.now }
@@ -146,43 +182,20 @@ fn push_packet<'a>(
     ensures line { IfOk result (λ size. PutsLine (type_in target.now) octets.now size (string_bytes report.old) (string_bytes report.new)) }
     ensures fault { IfErr result (FailsFor (type_in target.now) octets.now) }
 {
-    if let Some(size) = push_straight(alloc, target, segments, layouts, octets, rooms, report)? {
-        return Ok(size);
-    }
     let (value, size) = packet_at(alloc, target, segments, octets, &mut rooms.fault)?;
     push_line(alloc, target, layouts, &value, &mut rooms.line, report)?;
     Ok(size)
 }
 
-// How many octets the packet at the front of octets has.
-fn packet_size<'a>(
-    alloc: Global,
-    target: &Target<'_>,
-    segments: &Segments<'a>,
-    octets: &[u8],
-    rooms: &mut Rooms<'a>,
-) -> Result<usize, Fail<Fault>>
-    requires segments { segments.now ≡ target.now.table.now }
-    requires known { IsKnown (type_in target.now) }
-    ensures packet { IfOk result (λ size. (v : Plain) × HoldsPacket (type_in target.now) v octets.now size) }
-    ensures fault { IfErr result (FailsFor (type_in target.now) octets.now) }
-{
-    if let Some(size) = scalars_at(target, segments, octets, &mut rooms.scalars)? {
-        return Ok(size);
-    }
-    let (_, size) = packet_at(alloc, target, segments, octets, &mut rooms.fault)?;
-    Ok(size)
-}
-
 /// Takes the packet at the front of octets: puts its line of JSON last, and gives how many octets it has. The line is left out
 /// where the report is already longer than a report may be. The rooms serve for one packet after another.
-pub fn take_packet<'a>(
+pub fn take_packet(
     alloc: Global,
     target: &Target<'_>,
-    segments: &Segments<'a>,
+    segments: &Segments<'_>,
     layouts: &Layouts<'_>,
     octets: &[u8],
-    rooms: &mut Rooms<'a>,
+    rooms: &mut Rooms<'_>,
     report: &mut String,
 ) -> Result<usize, Fail<Fault>>
     requires segments { segments.now ≡ target.now.table.now }
@@ -191,9 +204,9 @@ pub fn take_packet<'a>(
     ensures line { IfOk result (λ size. TakesPacket (type_in target.now) octets.now size (string_bytes report.old) (string_bytes report.new)) }
     ensures fault { IfErr result (FailsFor (type_in target.now) octets.now) }
 {
-    if report.len() as u64 <= REPORT_OCTETS {
-        push_packet(alloc, target, segments, layouts, octets, rooms, report)
-    } else {
-        packet_size(alloc, target, segments, octets, rooms)
+    if is_within(report) {
+        return push_packet(alloc, target, segments, layouts, octets, rooms, report);
     }
+    let (_, size) = packet_at(alloc, target, segments, octets, &mut rooms.fault)?;
+    Ok(size)
 }

@@ -6,7 +6,7 @@ ghost use Rattle.eds_cmd.specs.Split.{Splits, packets_line as line_of_packets};
 ghost use Rattle.eds_cmd.specs.Target.{IsKnown, type_in};
 
 use crate::limits::PACKETS_OCTETS;
-use crate::packet_line::{Rooms, take_packet};
+use crate::packet_line::{Rooms, take_packet, take_scalars};
 use crate::stop::{Stop, packet_fault};
 use crate::target::Target;
 use eds_base::Fail;
@@ -37,24 +37,36 @@ pub fn split(alloc: Global, target: &Target<'_>, octets: &[u8]) -> Result<String
     let mut packets = 0u32;
     let mut at = 0usize;
     while at < octets.len() {
-        match take_packet(
+        let rest = &octets[at..];
+        let taken = take_scalars(
             alloc,
             target,
             &segments,
             &layouts,
-            &octets[at..],
+            rest,
             &mut rooms,
             &mut report,
-        ) {
-            Ok(size) => {
-                packets += 1;
-                at += size;
-            }
-            Err(Fail::Named(fault)) => {
-                return Err(Fail::Named(packet_fault(alloc, target.table, packets + 1, fault)?));
-            }
-            Err(Fail::Memory) => return Err(Fail::Memory),
-        }
+        )?;
+        let size = match taken {
+            Some(size) => size,
+            None => match take_packet(
+                alloc,
+                target,
+                &segments,
+                &layouts,
+                rest,
+                &mut rooms,
+                &mut report,
+            ) {
+                Ok(size) => size,
+                Err(Fail::Named(fault)) => {
+                    return Err(Fail::Named(packet_fault(alloc, target.table, packets + 1, fault)?));
+                }
+                Err(Fail::Memory) => return Err(Fail::Memory),
+            },
+        };
+        packets += 1;
+        at += size;
     }
     let line = packets_line(alloc, packets, octets.len())?;
     report.push_str(line.as_str())?;

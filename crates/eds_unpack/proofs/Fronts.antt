@@ -1,7 +1,7 @@
 -- What the reading function gives is the one value that the bits begin with, or the one fault.
-use Rattle.std.proofs.Common.{◌≡◌, ℕ, ◌-◌, ◌<◌, ◌≤◌, List, [], ◌∷◌, ◌++◌, length, take, Result, Ok, Err, refl, sym, ap, subst, ◌∙◌, arith}
+use Rattle.std.proofs.Common.{◌-◌, ◌≡◌, ℕ, ◌<◌, ◌≤◌, List, [], ◌∷◌, ◌++◌, length, take, drop, Result, Ok, Err, refl, sym, ap, subst, ◌∙◌, arith, length-drop}
 use Rattle.std.specs.Prelude.{IfOk, IfErr}
-use Rattle.std.proofs.lemmas.List.{length-append}
+use Rattle.std.proofs.lemmas.List.{length-append, take-append-drop}
 use Rattle.eds_base.specs.declared.fail.Fail.{Fail}
 use Rattle.eds_base.specs.declared.fail.Fail.TheVariants.{Named, Memory}
 use Rattle.eds_base.specs.declared.fault.Fault.{Fault}
@@ -41,6 +41,12 @@ module _ (law : ReadingIsExact) (t : Table) (id : ℕ) (is : IsReadable t id) (b
   -- no more bits are left than there were
   pub no_longer : (v : Plain) (rest : Bits) → read_type t id b ≡ Ok (v, rest) → length rest ≤ length b
   no_longer v rest e = let h = read_is (Ok (v, rest)) e in omega (arith, ap length h.1, length-append h.0 rest)
+
+  -- the value that a front of the bits spells is read, with its size
+  pub sized_front : (v : Plain) (n : ℕ) → n ≤ length b → Spells t id v (take n b) → sized b (read_type t id b) ≡ Ok (v, n)
+  sized_front v n few spelled =
+      let size : length b - length (drop n b) ≡ n = omega (arith, length-drop n b) in
+      ap (sized b) (value_is v (take n b) (drop n b) (sym (take-append-drop n b)) spelled) ∙ ap (λ m. Ok (v, m)) size
 
   -- ---- a value and its size
 

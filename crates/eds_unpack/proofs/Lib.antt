@@ -17,6 +17,7 @@ pub mod Meanings
 pub mod SegmentReads
 pub mod ItemReads
 pub mod SegmentPasses
+pub mod Templates
 pub mod Filled
 pub mod Tails
 pub mod Fronts

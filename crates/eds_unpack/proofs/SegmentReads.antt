@@ -39,7 +39,7 @@ use Rattle.eds_unpack.proofs.StraightReads.{IsStraightSoFar, entry_is, parts_ste
 
 -- ---- scalars
 
-judged_bits : (value : Bits → Result Plain Fault) (m n : ℕ) (b : Bits) (v : Plain) → m ≡ n → n ≤ length b → value (take n b) ≡ Ok v → judge value (read_bits m b) ≡ Ok (v, drop n b)
+pub judged_bits : (value : Bits → Result Plain Fault) (m n : ℕ) (b : Bits) (v : Plain) → m ≡ n → n ≤ length b → value (take n b) ≡ Ok v → judge value (read_bits m b) ≡ Ok (v, drop n b)
 judged_bits value m n b v e h k = ap (λ i. judge value (read_bits i b)) e ∙ ap (judge value) (bits_enough n b h) ∙ ap (judged (drop n b)) k
 
 row_reads : (t : Table) (read : ℕ → Bits → Read Plain) (id : ℕ) (row : Option TypeRow) (n : ℕ) (b : Bits) (v : Plain) → bits_in row ≡ Some n → n ≤ length b → value_in row (take n b) ≡ Ok v → read_row t read id row b ≡ Ok (v, drop n b)

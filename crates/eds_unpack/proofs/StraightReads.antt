@@ -110,7 +110,7 @@ module _ (t : Table) (read : ℕ → Bits → Read Plain) (y : ℕ) (b : Bits) w
 
 -- ---- the container
 
-only_is : (x : ℕ) (ys : List ℕ) → is_only x ys ≡ true → ys ≡ x ∷ []
+pub only_is : (x : ℕ) (ys : List ℕ) → is_only x ys ≡ true → ys ≡ x ∷ []
 only_is x [] e = absurd (false≢true e)
 only_is x (y ∷ []) e = ap (λ z. z ∷ []) (eqb-true y x e)
 only_is x (y ∷ z ∷ ys) e = absurd (false≢true e)
@@ -119,7 +119,7 @@ none_is : {A : Type 0} (xs : List A) → (length xs == 0) ≡ true → xs ≡ []
 none_is [] e = refl
 none_is (x ∷ xs) e = let k : length (x ∷ xs) ≡ 0 = eqb-true (length (x ∷ xs)) 0 e in absurd (omega (arith, k))
 
-first_is_none : (p : ℕ → Bool) (x : ℕ) (ys : List ℕ) → ys ≡ x ∷ [] → p x ≡ false → first_of p ys ≡ None
+pub first_is_none : (p : ℕ → Bool) (x : ℕ) (ys : List ℕ) → ys ≡ x ∷ [] → p x ≡ false → first_of p ys ≡ None
 unfolding first_of
 first_is_none p x ys e f = ap (first_of p) e ∙ ap (λ c. cond c (Some x) None) f
 

@@ -18,6 +18,7 @@ pub mod Walks
 pub mod Programs
 pub mod Scalars
 pub mod Segments
+pub mod Templates
 pub mod Items
 pub mod Selectors
 pub mod Labels

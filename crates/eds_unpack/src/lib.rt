@@ -1,6 +1,7 @@
 //! Values read from bits.
 #![tactic(auto)]
 
+mod by_template;
 mod choice;
 mod chosen;
 mod constraint;
@@ -36,6 +37,7 @@ mod splitter;
 mod straight;
 mod sum;
 mod tail;
+mod template;
 mod told;
 mod values;
 mod walk;

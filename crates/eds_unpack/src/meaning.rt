@@ -1,6 +1,7 @@
 //! What the numbers of operations stand for.
 
-ghost use Rattle.std.specs.Prelude.{◌≡◌, ◌%◌, ◌^◌, ◌<◌, ◌≤◌, ℕ, Result, Ok, Some, true, slice_get, IfSome};
+ghost use Rattle.std.specs.Prelude.{◌+◌, ◌≡◌, ◌%◌, ◌^◌, ◌<◌, ◌≤◌, ℕ, Result, Ok, Some, true, slice_get, vec_len, vec_capacity, IfSome};
+ghost use Rattle.std.specs.Bool.{OnTrue};
 ghost use Rattle.eds_base.specs.declared.fault.Fault.{Fault};
 ghost use Rattle.eds_bits.specs.Bits.{Bits, low_bits};
 ghost use Rattle.eds_bits.specs.IntForms.{number_of};
@@ -8,7 +9,7 @@ ghost use Rattle.eds_types.specs.Plain.{Plain, label, num};
 ghost use Rattle.eds_types.specs.Reading.{named, ranged};
 ghost use Rattle.eds_types.specs.Rules.{KindKeeps};
 ghost use Rattle.eds_unpack.specs.Labels.{AreLabels};
-ghost use Rattle.eds_unpack.specs.Scalars.{plain_of};
+ghost use Rattle.eds_unpack.specs.Scalars.{IsPutLast, plain_of};
 ghost use Rattle.eds_unpack.specs.Segments.{AreNumbers, IsCoding, IsOperation, in_order, integer_of, made, scalar_bits, scalar_of, value_in};
 
 use crate::lookup::label_of;
@@ -83,6 +84,19 @@ fn integer_in(form: IntForm, spans: &Spans, number: u64) -> Option<i128>
     }
 }
 
+/// A number as a scalar, if it has at most 64 bits.
+fn scalar_of_number(number: i128) -> Option<Scalar<'static>>
+    ensures { IfSome result (λ s. plain_of s ≡ num number) }
+{
+    if let Ok(short) = i64::try_from(number) {
+        return Some(Scalar::Num(short));
+    }
+    match u64::try_from(number) {
+        Ok(large) => Some(Scalar::Large(large)),
+        Err(_) => None,
+    }
+}
+
 /// The label of an enumerated type, in which each label and number is listed once, if these bits have one.
 fn label_in(form: IntForm, listing: &Listing, number: u64) -> Option<&str>
     requires bound { number < 2 ^ form.bits }
@@ -101,7 +115,7 @@ fn told_scalar(kind: &Kind, number: u64) -> Option<Scalar<'_>>
     ensures { (n : ℕ) → scalar_bits kind.now ≡ Some n → IfSome result (λ s. scalar_of kind.now (low_bits n number) ≡ Ok (plain_of s)) }
 {
     match kind {
-        Kind::Int(form, spans) => Some(Scalar::Num(integer_in(*form, spans, number)?)),
+        Kind::Int(form, spans) => scalar_of_number(integer_in(*form, spans, number)?),
         Kind::Enum(form, listing) => Some(Scalar::Label(label_in(*form, listing, number)?)),
         _ => None,
     }
@@ -137,7 +151,7 @@ pub(crate) fn scalar_at<'a>(
     match operation.meaning {
         Meaning::Number(numbers) => {
             let found = number_in(numbers, operation.bits, number)?;
-            Some(Scalar::Num(i128::from(found)))
+            Some(Scalar::Num(found))
         }
         Meaning::Truth(zero_is_false) => Some(Scalar::Bool((number != 0) == zero_is_false)),
         Meaning::Label(coding) => {
@@ -153,5 +167,40 @@ pub(crate) fn scalar_at<'a>(
             table.keeps_rules();
             told_scalar(&table.row(operation.id).kind, number)
         }
+    }
+}
+
+/// Puts what the number of an operation's bits stands for last in a room, where there is place for it, if they have a value.
+#[inline(always)]
+pub(crate) fn put_scalar<'a>(
+    table: &'a TypeTable,
+    operation: &Operation,
+    number: u64,
+    room: &mut Vec<Scalar<'a>>,
+) -> bool
+    requires is { IsOperation table.now operation.now }
+    requires bound { number < 2 ^ operation.now.bits }
+    requires spare { vec_len room.old < vec_capacity room.old }
+    ensures put { OnTrue result (IsPutLast (value_in (slice_get table.now operation.now.id.0) (low_bits operation.now.bits number)) room.old.items room.new.items) }
+    ensures more { OnTrue result (vec_len room.new ≡ vec_len room.old + 1) }
+    ensures few { vec_len room.new ≤ vec_len room.old + 1 }
+    ensures room { vec_capacity room.new ≡ vec_capacity room.old }
+{
+    // a number is put with no choice of scalars between, as most of them are numbers
+    if let Meaning::Number(numbers) = operation.meaning {
+        return match number_in(numbers, operation.bits, number) {
+            Some(found) => {
+                room.push_reserved(Scalar::Num(found));
+                true
+            }
+            None => false,
+        };
+    }
+    match scalar_at(table, operation, number) {
+        Some(scalar) => {
+            room.push_reserved(scalar);
+            true
+        }
+        None => false,
     }
 }

@@ -19,7 +19,9 @@ use std::alloc::Global;
 /// A number, a label as its type lists it, or a truth value.
 #[derive(Clone, Copy)]
 pub enum Scalar<'a> {
-    Num(i128),
+    Num(i64),
+    /// A number that may be too large for the other kind.
+    Large(u64),
     Label(&'a str),
     Bool(bool),
 }
@@ -30,7 +32,8 @@ pub(crate) fn value_of(alloc: Global, scalar: Scalar<'_>) -> Result<Value, Memor
     ensures { IfOk result (λ v. plain v ≡ plain_of scalar.entry) }
 {
     match scalar {
-        Scalar::Num(number) => Ok(Value::Num(number)),
+        Scalar::Num(number) => Ok(Value::Num(i128::from(number))),
+        Scalar::Large(number) => Ok(Value::Num(i128::from(number))),
         Scalar::Label(label) => Ok(Value::Label(Text::of(alloc, label)?)),
         Scalar::Bool(truth) => Ok(Value::Bool(truth)),
     }

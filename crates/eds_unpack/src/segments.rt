@@ -2,14 +2,16 @@
 
 ghost use Rattle.std.specs.Prelude.{◌≡◌, Some, slice_get, IfOk, IfSome};
 ghost use Rattle.eds_types.specs.Sizes.{trailers_size};
-ghost use Rattle.eds_unpack.specs.Segments.{IsHeadOf, IsScalar, IsSegmentOf};
+ghost use Rattle.eds_unpack.specs.Segments.{IsHeadOf, IsOperation, IsScalar, IsSegmentOf};
 ghost use Rattle.eds_unpack.specs.Selectors.{IsSelectorOf};
 ghost use Rattle.eds_unpack.specs.Tails.{limited};
+ghost use Rattle.eds_unpack.specs.Templates.{IsTemplateOf};
 
 use crate::operations::{scalars_of_all, segment_of};
 use crate::segment::{Operation, Segment};
 use crate::selector::{Selector, selectors_of};
 use crate::tail::{trailers_along, trailers_of_all};
+use crate::template::{Template, keys_of_all, templates_of_all};
 use eds_base::{Memory, TypeId};
 use eds_types::TypeTable;
 use std::alloc::Global;
@@ -35,8 +37,8 @@ fn size_at(sizes: &[Option<u128>], id: TypeId) -> Option<u128>
 }
 
 /// The scalars that the containers of a table begin with as lists of operations, made ready to read many values of any of its
-/// types (`unpack_by`). With them are the operations of scalar types and the selectors of containers with large families. It
-/// refers to its table.
+/// types (`unpack_by`). With them are the operations of scalar types, the templates of containers that have scalars alone, and the
+/// selectors of containers with large families. It refers to its table.
 #[derive(Drop)]
 pub struct Segments<'a> {
     table: &'a TypeTable,
@@ -46,6 +48,10 @@ pub struct Segments<'a> {
     operations: Vec<Option<Operation>>,
     // each at the number of its container; not every one has one
     selectors: Vec<Option<Selector>>,
+    // each at the number of its container; not every one has one
+    templates: Vec<Option<Template>>,
+    // by which selectors choose, each at the number of its container; not every one has one
+    keys: Vec<Option<Operation>>,
     // in bits, each at the number of its container; only those that end with an open binary have one
     trailers: Vec<Option<u128>>,
 }
@@ -57,6 +63,7 @@ impl<'a> Model for Segments<'a> {
     ghost use Rattle.eds_unpack.specs.Segments.{AreScalars, AreSegments};
     ghost use Rattle.eds_unpack.specs.Selectors.{AreSelectors};
     ghost use Rattle.eds_unpack.specs.Tails.{AreBehind};
+    ghost use Rattle.eds_unpack.specs.Templates.{AreKeys, AreTemplates};
     ghost use Rattle.std.specs.Coded.{codes};
 
     ghost Value = { List TypeRow };
@@ -65,7 +72,7 @@ impl<'a> Model for Segments<'a> {
 
     ghost view = { λ s. s.table.now };
 
-    ghost invariant = { λ s. AreSegments s.table.now s.each.items × AreSelectors s.table.now s.selectors.items × AreBehind s.table.now s.trailers.items × AreScalars s.table.now s.operations.items };
+    ghost invariant = { λ s. AreSegments s.table.now s.each.items × AreSelectors s.table.now s.selectors.items × AreBehind s.table.now s.trailers.items × AreScalars s.table.now s.operations.items × AreTemplates s.table.now s.templates.items × AreKeys s.table.now s.keys.items };
 }
 
 impl<'a> Segments<'a> {
@@ -80,12 +87,16 @@ impl<'a> Segments<'a> {
         }
         let operations = scalars_of_all(alloc, table)?;
         let selectors = selectors_of(alloc, table)?;
+        let templates = templates_of_all(alloc, table)?;
+        let keys = keys_of_all(alloc, table, selectors.as_slice())?;
         let trailers = trailers_of_all(alloc, table)?;
         Ok(Segments {
             table,
             each,
             operations,
             selectors,
+            templates,
+            keys,
             trailers,
         })
     }
@@ -130,6 +141,22 @@ impl<'a> Segments<'a> {
         ensures { IfSome result (λ s. IsSelectorOf self.now id.0 s.now) }
     {
         found_at(self.selectors.as_slice(), id)
+    }
+
+    /// The template of a container, if it has one.
+    #[inline(always)]
+    pub(crate) fn template(&self, id: TypeId) -> Option<&Template>
+        ensures { IfSome result (λ m. IsTemplateOf self.now id.0 m.now) }
+    {
+        found_at(self.templates.as_slice(), id)
+    }
+
+    /// The operation of the entry by whose number the selector of a container chooses, if it stands at a fixed place.
+    #[inline(always)]
+    pub(crate) fn key(&self, id: TypeId) -> Option<&Operation>
+        ensures { IfSome result (λ o. IsOperation self.now o.now) }
+    {
+        found_at(self.keys.as_slice(), id)
     }
 
     /// The size of the trailers of a container's chain in bits, which is known beforehand where a tail stands before them.

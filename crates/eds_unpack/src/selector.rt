@@ -38,9 +38,6 @@ pub(crate) struct Selector {
     pub stretches: Items<Stretch>,
 }
 
-/// The most members of a family of which a choice asks one after another.
-const FEW: usize = 4;
-
 /// The most paths that are tried for a selector.
 const TRIED: usize = 16;
 
@@ -417,12 +414,12 @@ fn selector_by(
     Ok(best)
 }
 
-/// The selector of a container, if its family has more than a few members and a path tells them apart.
+/// The selector of a container, if its family has several members and a path tells them apart.
 fn selector_of(alloc: Global, table: &TypeTable, id: TypeId) -> Result<Option<Selector>, Memory>
     ensures { IfOk result (λ found. IfSome found (IsSelectorOf table.now id.0)) }
 {
     let family = table.family_of(id);
-    if family.len() <= FEW || weight(table, family) > MOST {
+    if family.len() < 2 || weight(table, family) > MOST {
         return Ok(None);
     }
     match model_of(table, family) {

@@ -11,7 +11,7 @@ use eds_base::TypeId;
 use eds_types::{Part, TypeTable};
 
 /// Whether a type, and no other, is listed.
-fn is_only(id: TypeId, ids: &[TypeId]) -> bool
+pub(crate) fn is_only(id: TypeId, ids: &[TypeId]) -> bool
     ensures { result ≡ is_only id.0 (numbers_of ids.now) }
 {
     match ids {

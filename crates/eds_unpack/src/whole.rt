@@ -1,7 +1,7 @@
 //! The value at the front of some bits.
 
 ghost use Rattle.eds_base.specs.declared.fault.Fault.{Fault};
-ghost use Rattle.std.specs.Prelude.{◌≡◌, ◌++◌, ◌<◌, ◌≤◌, [], Ok, length, take, IfErr, IfOk, IfSome, OnOk};
+ghost use Rattle.std.specs.Prelude.{◌≡◌, ◌++◌, ◌<◌, ◌≤◌, [], Ok, length, map, take, IfErr, IfOk, IfSome, OnOk};
 ghost use Rattle.eds_bits.specs.Bits.{Bits};
 ghost use Rattle.eds_bits.specs.Reader.{view_bits};
 ghost use Rattle.eds_overlap.specs.Laws.{read_type};
@@ -11,9 +11,12 @@ ghost use Rattle.eds_types.specs.Plain.{Plain, plain};
 ghost use Rattle.eds_types.specs.Spelling.{Spells};
 ghost use Rattle.eds_unpack.specs.Answers.{IsOfReading, IsValue, IsFault, IfFault};
 ghost use Rattle.eds_unpack.specs.Readers.{Gives, StopsReading, sized, with_path};
+ghost use Rattle.eds_unpack.specs.Scalars.{plain_of};
 
 use crate::fault::{FaultRoom, stop_in};
 use crate::read::{Level, read_value};
+use crate::room::fill_template;
+use crate::scalar::{Scalar, value_of};
 use crate::segments::Segments;
 use crate::values::read_segment;
 use eds_base::{Fail, Fault, Memory, Path, Reason, TypeId};
@@ -48,6 +51,41 @@ fn straight_front(
     }
 }
 
+/// The values of scalars.
+fn values_of(alloc: Global, room: &[Scalar<'_>]) -> Result<Vec<Value>, Memory>
+    ensures { IfOk result (λ vs. map plain vs.items ≡ map plain_of room.now) }
+{
+    let mut values = Vec::with_capacity(alloc, room.len())?;
+    for scalar in room {
+        values.push(value_of(alloc, *scalar)?)?;
+    }
+    Ok(values)
+}
+
+/// The value of a container that the bits of a view begin with, and how many bits it takes, by a template. None, where none
+/// tells.
+fn template_front(
+    alloc: Global,
+    segments: &Segments<'_>,
+    id: TypeId,
+    view: BitView,
+) -> Result<Option<(Value, u32)>, Memory>
+    requires known { id.0 < length segments.now }
+    requires clear { IsClear segments.now id.0 }
+    ensures { IfOk result (λ o. IfSome o (λ x. sized (view_bits view.entry) (read_type segments.now id.0 (view_bits view.entry)) ≡ Ok (plain x.0, x.1))) }
+{
+    let table = segments.table();
+    table.keeps_rules();
+    reading_is_exact();
+    let reader = BitReader::new(view);
+    let mut room = Vec::new(alloc);
+    let Some((found, bits)) = fill_template(table, segments, id, &reader, &mut room)? else {
+        return Ok(None);
+    };
+    let values = values_of(alloc, room.as_slice())?;
+    Ok(Some((Value::Fields(found, values), bits)))
+}
+
 /// The value that the bits of a view begin with, and how many bits it takes, or the reason for which reading fails, with the
 /// path to where it does.
 fn read_front(
@@ -70,6 +108,9 @@ fn read_front(
     table.keeps_rules();
     reading_is_exact();
     if let Some(found) = straight_front(alloc, table, segments, id, view)? {
+        return Ok(found);
+    }
+    if let Some(found) = template_front(alloc, segments, id, view)? {
         return Ok(found);
     }
     let mut reader = BitReader::new(view);

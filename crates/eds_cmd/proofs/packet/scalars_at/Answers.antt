@@ -25,9 +25,11 @@ pub returns-in-Some : goal.returns-in-Some
 returns-in-Some c =
     let type = type_in c.args.target.now in
     let judged = c.window.result.now in
-    let v = fields type.id (plains_of (map plain_of c.scalars_by.new.room.items)) in
-    let fits = subst (λ o. IfSome o (λ n. n ≤ length (view_bits c.new.result))) c.in-Some.is c.in_ok-size.ensures.size in
-    let few : c.in-Some.size ≤ length (bits_of judged) = omega (arith, fits, ap length c.new.ensures) in
-    let told = subst (λ o. IfSome o (λ n. Spells c.args.segments.now type.id v (take n (view_bits c.new.result)))) c.in-Some.is c.in_ok-size.ensures.value in
-    let spelled = subst (λ (t : Table). Spells t type.id v (take c.in-Some.size (bits_of judged))) c.requires.segments (subst (λ (b : Bits). Spells c.args.segments.now type.id v (take c.in-Some.size b)) c.new.ensures told) in
-    packet_is type (framing_for c.empty_types.ensures type c.keeps_rules.ensures c.requires.known) v c.args.octets.now judged c.in-Some.size c.octets_for.result c.window.ensures c.octets_for.ensures few spelled
+    let n = c.in-Some.size in
+    let vs = map plain_of c.scalars_by.new.room.items in
+    let v = fields c.in-Some.found.0 (plains_of vs) in
+    let fits = subst (λ o. IfSome o (λ x. x.1 ≤ length (view_bits c.new.result))) c.in-Some.is c.in_ok-found.ensures.size in
+    let few : n ≤ length (bits_of judged) = omega (arith, fits, ap length c.new.ensures) in
+    let told = subst (λ o. IfSome o (λ x. Spells c.args.segments.now type.id (fields (x.0).0 (plains_of vs)) (take x.1 (view_bits c.new.result)))) c.in-Some.is c.in_ok-found.ensures.value in
+    let spelled = subst (λ (t : Table). Spells t type.id v (take n (bits_of judged))) c.requires.segments (subst (λ (b : Bits). Spells c.args.segments.now type.id v (take n b)) c.new.ensures told) in
+    packet_is type (framing_for c.empty_types.ensures type c.keeps_rules.ensures c.requires.known) v c.args.octets.now judged n c.octets_for.result c.window.ensures c.octets_for.ensures few spelled

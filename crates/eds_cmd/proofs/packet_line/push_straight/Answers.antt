@@ -15,11 +15,12 @@ pub returns-clause-line : goal.returns-clause-line
 returns-clause-line c =
     let type = type_in c.args.target.now in
     let ss = c.scalars_at.new.room.items in
+    let k = c.in-Some.found.0 in
     let l = c.in-Some-find.layout.now in
-    let holds = subst (λ o. IfSome o (λ size. HoldsPacket type (fields type.id (plains_of (map plain_of ss))) c.args.octets.now size)) c.in-Some.is c.in_ok-size.ensures in
-    let is = subst (λ (t : Table). IsLayoutOf t type.id l) c.requires.layouts c.in-Some-find.ensures.layout in
+    let holds = subst (λ o. IfSome o (λ x. HoldsPacket type (fields (x.0).0 (plains_of (map plain_of ss))) c.args.octets.now x.1)) c.in-Some.is c.in_ok-found.ensures in
+    let is = subst (λ (t : Table). IsLayoutOf t k l) c.requires.layouts c.in-Some-find.ensures.layout in
     let long : length ss ≡ l.count = omega (arith, c.in-Some-find.ensures.count, c.len.ensures) in
     let newline : c.put_text.new.self ≡ codes "\n" ++ [] = search rules in
     let laid = subst (λ (xs : List Scalar). c.put_object.new.line ≡ laid_text (map (json_of_value type.table) (map plain_of xs)) l ++ c.put_text.new.self) c.as_slice.ensures.value (c.in_ok-put_object.ensures type.table) in
     let pushed : string_bytes c.push_str.new.self ≡ string_bytes c.args.report.now ++ c.put_object.new.line = search rules in
-    straight_put type l ss c.args.octets.now c.in-Some.size (string_bytes c.args.report.now) c.put_text.new.self c.put_object.new.line (string_bytes c.push_str.new.self) is long holds newline laid pushed
+    straight_put type k l ss c.args.octets.now c.in-Some.size (string_bytes c.args.report.now) c.put_text.new.self c.put_object.new.line (string_bytes c.push_str.new.self) is long holds newline laid pushed
