@@ -402,6 +402,16 @@ def recordings():
     number = ["IntegerDataType", {"name": "U7"}, ["IntegerDataEncoding", {"sizeInBits": "8", "encoding": "unsigned"}], ranged]
     files = {"r": bytes(PACKETS), "s": sheet(number, container("Tiny", entry("a", "U7")))}
     yield "8 million packets, whose lines are more than a report may be", "split P/Tiny r s", files, (7, "limit report 67108864\n")
+    flag = ["IntegerDataType", {"name": "U1"}, ["IntegerDataEncoding", {"sizeInBits": "1", "encoding": "unsigned"}]]
+    octet = ["IntegerDataType", {"name": "U8"}, ["IntegerDataEncoding", {"sizeInBits": "8", "encoding": "unsigned"}]]
+    kinds = [["ContainerDataType", {"name": "Any", "abstract": "true"}, ["EntryList", entry("a", "U8"), entry("b", "U8")]]]
+    for kind in range(4):
+        asked = [["ValueConstraint", {"entry": name, "value": str(value)}] for name, value in [("a", 0), ("b", kind)]]
+        own = [entry(f"e{n}", "U1") for n in range(1000)]
+        kinds.append(["ContainerDataType", {"name": f"Kind{kind}", "baseType": "Any"}, ["ConstraintSet", *asked], ["EntryList", *own]])
+    packets = (b"\0\3" + bytes(125)) * (4 * FILE // 127)
+    yield "132,000 packets of a thousand entries, of the last of four kinds", "split P/Any r s", {"r": packets, "s": sheet(flag, octet, *kinds)}, (
+        7, "limit report 67108864\n")  # fmt: skip
     yield "8 million packets, of which the last has no value", "split P/Tiny r s", {**files, "r": bytes(PACKETS - 1) + b"\xff"}, (
         3, f"fault OutOfRange at $.a in packet {PACKETS}\n")  # fmt: skip
 
