@@ -12,7 +12,8 @@ the most that a process was seen to hold, less that of one which reads a frame o
   list    a count of 16 bits, and 4,096 containers of a number of 8 and one of 16 bits
   scalars a packet of twenty scalars (packets.rs)
   numbers the packet of scalars, recognised without memory, beside a reader into an array of numbers by a table made at run time
-  kinds   a telemetry packet of one of 64 kinds, with a length and a check (split.py)
+  kinds   a telemetry packet of one of 64 kinds, with a length and a check (split.py), and a list
+  fixed   one of the same kinds without a list or a text, so that all of it stands at fixed places
   mixed   sixteen letters, a container of numbers of 32 and 16 bits, a mode, and a count of 8 bits with eight such containers
 """
 
@@ -67,6 +68,14 @@ def some_pairs(count):
     return b"".join(struct.pack(">BH", i % 256, 7919 * i % 65536) for i in range(count))
 
 
+def packet_of(body):
+    """The first packet of the recording of kinds that has such a body."""
+    recording, at = kinds_recording(64), 0
+    while recording[at + 1] % 4 != body:
+        at += 7 + int.from_bytes(recording[at + 4 : at + 6], "big")
+    return recording[at : at + 7 + int.from_bytes(recording[at + 4 : at + 6], "big")]
+
+
 # The first packet of packets.rs.
 SCALARS = bytes.fromhex("6c576fac826886b3a5fa4199620355cdcba276b4802181e60546013410bf51ed")
 
@@ -76,6 +85,7 @@ FRAMES = {
     "scalars": ("Bench/Housekeeping", scalars_sheet, SCALARS, 500_000),
     "numbers": ("Bench/Housekeeping", scalars_sheet, SCALARS, 500_000),
     "kinds": ("Kinds/Packet", kinds_sheet, kinds_recording(1), 1_000_000),
+    "fixed": ("Kinds/Packet", kinds_sheet, packet_of(0), 1_000_000),
     "mixed": ("Trees/Whole", mixed_sheet, b"ATTITUDE CONTROL" + struct.pack(">IHBB", 1_700_000_000, 9, 4, 8) + some_pairs(8), 500_000),
 }
 
@@ -122,7 +132,7 @@ def main():
             type_name, sheet, _, _ = FRAMES[kind]
             frame = kept("frame", octets)
             words = ["recognise"] if kind == "numbers" else []
-            return [[program, *words, type_name, frame, kept("sheet", sheet()), str(turns)], [hand, kind, frame, str(turns)]]
+            return [[program, *words, type_name, frame, kept("sheet", sheet()), str(turns)], [hand, "kinds" if kind == "fixed" else kind, frame, str(turns)]]
 
         empty = least(commands("list", b"\0\0", 10_000))
         for kind, (_, _, octets, turns) in FRAMES.items():
