@@ -7,7 +7,8 @@ PROGRAM is a built program (by default crates/eds_prog/out/eds_prog), or `-` for
 checked, and where it is accepted, frames and values of its types are read and packed, and packets are split. WORDS say what
 sheets may hold: `built`, `whole`, `scalars`, or words of `EVERYTHING` in bench/model/run_model.py with commas between them.
 With `runs` sheets have components, and where they are accepted, scripts are run over them. With `recordings` the
-containers of an accepted sheet split recordings of some hundred packets each. With `changed` a run is one of
+containers of an accepted sheet split recordings of some hundred packets each, with `templates` those of a sheet whose parts
+stand at fixed places. With `changed` a run is one of
 bench/fuzz.py: a command of the cases and examples, of whose files some are changed. Each difference is printed with its words
 and files. The last lines count the answers, of scripts what their runs show, the packets, and the differences. The same seed
 makes the same inputs.
@@ -33,6 +34,7 @@ import fuzz  # noqa: E402
 import gen  # noqa: E402
 import gen_components  # noqa: E402
 import gen_scripts  # noqa: E402
+import gen_templates  # noqa: E402
 import run_model  # noqa: E402
 import runs  # noqa: E402
 
@@ -117,7 +119,17 @@ def of_scripts(seed, stage):
 def of_recordings(seed, stage):
     """The words and files of one run: recordings of many packets of an accepted sheet's containers."""
     dice = random.Random(seed)
-    sheet = {f"sheet{at}": octets for at, octets in enumerate(gen.case(dice, stage))}
+    yield from recorded(dice, {f"sheet{at}": octets for at, octets in enumerate(gen.case(dice, stage))}, stage)
+
+
+def of_templates(seed, stage):
+    """The same of a sheet whose parts stand at fixed places."""
+    dice = random.Random(seed)
+    yield from recorded(dice, {"sheet": gen_templates.sheet(dice)}, stage)
+
+
+def recorded(dice, sheet, stage):
+    """The words and files of recordings of an accepted sheet's containers."""
     if not accepted(sheet, stage):
         return
     for word in [it.name for it in run_model.judged(list(sheet.values()), None, stage).types if it.kind == "Container"]:
@@ -138,7 +150,7 @@ def of_changed(seed, _):
     yield fuzz.Maker(seeds(), seed).made()
 
 
-OTHER = {"runs": of_scripts, "recordings": of_recordings, "changed": of_changed}
+OTHER = {"runs": of_scripts, "recordings": of_recordings, "templates": of_templates, "changed": of_changed}
 
 
 def shown_by(words, status, report):

@@ -1,10 +1,10 @@
 //! The packet at the front of octets.
 
-ghost use Rattle.std.specs.Prelude.{◌≡◌, IfErr, IfOk, IfSome, map, take};
+ghost use Rattle.std.specs.Prelude.{◌≡◌, IfErr, IfOk, IfSome, List, Some, map, take};
 ghost use Rattle.eds_bits.specs.Bits.{octets_for as octets_filled};
 ghost use Rattle.eds_cmd.specs.Split.{FailsFor, HoldsPacket, packet_failure};
 ghost use Rattle.eds_cmd.specs.Target.{IsKnown, type_in};
-ghost use Rattle.eds_types.specs.Plain.{fields, plain, plains_of};
+ghost use Rattle.eds_types.specs.Plain.{Plain, fields, plain, plains_of};
 ghost use Rattle.eds_unpack.specs.Scalars.{plain_of};
 
 use crate::limits::PACKET_OCTETS;
@@ -13,7 +13,9 @@ use eds_base::{Fail, Fault, Memory, Path, Reason, TypeId};
 use eds_bits::BitView;
 use eds_overlap::law::empty_types;
 use eds_types::Value;
-use eds_unpack::{FaultRoom, Scalar, Segments, scalars_by, unpack_in};
+use eds_unpack::{
+    Entries, FaultRoom, Scalar, Segments, entries_by, scalars_by, unpack_in, value_by,
+};
 use std::alloc::Global;
 
 // As many octets as a packet may have, or all where there are fewer.
@@ -77,12 +79,34 @@ pub fn packet_at(
     }
 }
 
+/// The value of the packet at the front of octets, and how many octets it has. None, where `value_by` gives none. The room is that
+/// of `packet_at`.
+pub fn value_at(
+    alloc: Global,
+    target: &Target<'_>,
+    segments: &Segments<'_>,
+    octets: &[u8],
+    room: &mut FaultRoom,
+) -> Result<Option<(Value, usize)>, Memory>
+    requires segments { segments.now ≡ target.now.table.now }
+    requires known { IsKnown (type_in target.now) }
+    ensures { IfOk result (λ o. IfSome o (λ x. HoldsPacket (type_in target.now) (plain x.0) octets.now x.1)) }
+{
+    target.table.keeps_rules();
+    empty_types();
+    let view = BitView::new(window(octets));
+    match value_by(alloc, target.table, segments, target.id, view, room)? {
+        Some((value, size)) => Ok(Some((value, octets_for(size)))),
+        None => Ok(None),
+    }
+}
+
 /// The scalars of the packet at the front of octets, put into a room, with the container that it is, and how many octets it has.
 /// None, where `scalars_by` doesn't tell them.
 pub fn scalars_at<'a>(
     target: &Target<'_>,
     segments: &Segments<'a>,
-    octets: &[u8],
+    octets: &'a [u8],
     room: &mut Vec<Scalar<'a>>,
 ) -> Result<Option<(TypeId, usize)>, Memory>
     requires segments { segments.now ≡ target.now.table.now }
@@ -94,5 +118,25 @@ pub fn scalars_at<'a>(
     match scalars_by(segments, target.id, BitView::new(window(octets)), room)? {
         Some((found, size)) => Ok(Some((found, octets_for(size)))),
         None => Ok(None),
+    }
+}
+
+/// The entries of the packet at the front of octets, and how many octets it has where the bits of each entry say something. None,
+/// where `entries_by` doesn't give them.
+#[inline(always)]
+pub fn entries_at<'v, 'a>(
+    target: &Target<'_>,
+    segments: &'v Segments<'a>,
+    octets: &'v [u8],
+) -> Option<(Entries<'v, 'a>, usize)>
+    requires segments { segments.now ≡ target.now.table.now }
+    requires known { IsKnown (type_in target.now) }
+    ensures { (vs : List Plain) → IfSome result (λ x. x.0 ≡ map Some vs → HoldsPacket (type_in target.now) (fields target.now.id.0 (plains_of vs)) octets.now x.1) }
+{
+    target.table.keeps_rules();
+    empty_types();
+    match entries_by(segments, target.id, BitView::new(window(octets))) {
+        Some((entries, size)) => Some((entries, octets_for(size))),
+        None => None,
     }
 }

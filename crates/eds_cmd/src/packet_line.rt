@@ -1,31 +1,32 @@
 //! The line of the packet at the front of octets.
 
-ghost use Rattle.std.specs.Prelude.{◌≡◌, ◌<◌, ◌++◌, All, IfErr, IfNone, IfOk, IfSome, OnOk, codes, length, map, nat_le, string_bytes};
+ghost use Rattle.std.specs.Prelude.{◌≡◌, ◌<◌, ◌++◌, ℕ, All, IfErr, IfNone, IfOk, IfSome, List, OnOk, Some, codes, length, map, nat_le, slice_get, string_bytes};
+ghost use Rattle.std.specs.Bool.{OnTrue};
 ghost use Rattle.eds_bits.specs.Bits.{Bits};
 ghost use Rattle.eds_cmd.specs.Limits.{report_octets};
-ghost use Rattle.eds_cmd.specs.Split.{FailsFor, PutsLine, TakesPacket};
+ghost use Rattle.eds_cmd.specs.Split.{FailsFor, HoldsPacket, PutsLine, TakesPacket};
 ghost use Rattle.eds_cmd.specs.Target.{IsKnown, type_in};
-ghost use Rattle.eds_types.specs.Plain.{plain};
+ghost use Rattle.eds_types.specs.Plain.{Plain, plain};
 ghost use Rattle.eds_types.specs.Rows.{Table};
 ghost use Rattle.eds_types.specs.Spelling.{Spells};
 ghost use Rattle.eds_unpack.specs.Scalars.{plain_of};
 ghost use Rattle.eds_value.specs.JsonOfValue.{json_of_value, json_text};
-ghost use Rattle.eds_value.specs.Layouts.{laid_text};
+ghost use Rattle.eds_value.specs.Layouts.{HasPosition, laid_text};
 
 use crate::limits::REPORT_OCTETS;
-use crate::packet::{packet_at, scalars_at};
+use crate::packet::{entries_at, packet_at, scalars_at, value_at};
 use crate::target::Target;
 use eds_base::{Fail, Fault, Memory};
 use eds_overlap::law::canonical_spelling;
 use eds_types::Value;
-use eds_unpack::{FaultRoom, Scalar, Segments};
+use eds_unpack::{Entries, FaultRoom, Scalar, Segments};
 use eds_value::{Layout, Layouts, Line, put_json};
 use std::alloc::Global;
 
 /// What serves for one packet after another.
 #[derive(Drop)]
 pub struct Rooms<'a> {
-    /// The scalars of a packet that has nothing else.
+    /// The scalars and texts of a packet that has nothing else.
     pub scalars: Vec<Scalar<'a>>,
     /// The text of its line.
     pub line: Line,
@@ -54,6 +55,7 @@ fn put_scalar(alloc: Global, scalar: Scalar<'_>, line: &mut Line) -> Result<(), 
         Scalar::Large(number) => Ok(line.put_number(i128::from(number))?),
         Scalar::Label(label) => line.put_quoted(alloc, label),
         Scalar::Bool(truth) => Ok(line.put_truth(truth)?),
+        Scalar::Text(text) => line.put_quoted(alloc, text),
     }
 }
 
@@ -79,14 +81,97 @@ fn put_object(
     Ok(())
 }
 
-// Puts the line of a packet of scalars last, straight from its bits, and gives how many octets the packet has. None, and nothing
-// is put, where the packet isn't read so, or its container has no layout.
-fn push_straight<'a>(
+// Puts the JSON text of an entry first onto a line, straight from its bits. Whether these have a value: otherwise nothing is put.
+#[inline(always)]
+fn put_entry(
+    alloc: Global,
+    entries: &Entries<'_, '_>,
+    position: usize,
+    line: &mut Line,
+) -> Result<bool, Memory>
+    ensures { IfOk result (λ put. OnTrue put ((v : Plain) × (slice_get entries.now position ≡ Some (Some v)) × ((t : Table) → line.new ≡ json_text t v ++ line.old))) }
+{
+    // most entries are numbers, and these are put with no choice of scalars between
+    if let Some(number) = entries.number(position) {
+        line.put_short(number)?;
+        return Ok(true);
+    }
+    match entries.get(position) {
+        Some(scalar) => {
+            put_scalar(alloc, scalar, line)?;
+            Ok(true)
+        }
+        None => Ok(false),
+    }
+}
+
+// Puts the JSON text of a container first onto a line, each entry straight from its bits, by its layout. Whether the bits of each
+// have a value: otherwise what stands on the line means nothing.
+#[inline(always)]
+fn put_entries(
+    alloc: Global,
+    layout: &Layout,
+    entries: &Entries<'_, '_>,
+    line: &mut Line,
+) -> Result<bool, Memory>
+    requires { (i : ℕ) → i < length entries.now → HasPosition layout.now.pieces.items i }
+    ensures { IfOk result (λ all. OnTrue all ((vs : List Plain) × (entries.now ≡ map Some vs) × ((t : Table) → line.new ≡ laid_text (map (json_of_value t) vs) layout.now ++ line.old))) }
+{
+    line.put_text(layout.end.as_str())?;
+    let pieces = layout.pieces.as_slice();
+    let mut at = pieces.len();
+    while at > 0 {
+        at -= 1;
+        let piece = &pieces[at];
+        if !put_entry(alloc, entries, piece.position, line)? {
+            return Ok(false);
+        }
+        line.put_padded(&piece.text)?;
+    }
+    Ok(true)
+}
+
+// Puts the line of a packet whose entries are scalars at fixed places last, and gives how many octets the packet has: each entry
+// goes straight from its bits into the line. None, and nothing is put, where the packet isn't read so, or its container has no
+// layout.
+fn push_entries(
+    alloc: Global,
+    target: &Target<'_>,
+    segments: &Segments<'_>,
+    layouts: &Layouts<'_>,
+    octets: &[u8],
+    line: &mut Line,
+    report: &mut String,
+) -> Result<Option<usize>, Memory>
+    requires segments { segments.now ≡ target.now.table.now }
+    requires layouts { layouts.now ≡ target.now.table.now }
+    requires known { IsKnown (type_in target.now) }
+    ensures line { IfOk result (λ o. IfSome o (λ size. PutsLine (type_in target.now) octets.now size (string_bytes report.old) (string_bytes report.new))) }
+    ensures none { IfOk result (λ o. IfNone o (string_bytes report.new ≡ string_bytes report.old)) }
+{
+    let Some((entries, size)) = entries_at(target, segments, octets) else {
+        return Ok(None);
+    };
+    let Some(layout) = layouts.find(target.id, entries.len()) else {
+        return Ok(None);
+    };
+    line.clear();
+    line.put_text("\n")?;
+    if !put_entries(alloc, layout, &entries, line)? {
+        return Ok(None);
+    }
+    report.push_str(line.as_str())?;
+    Ok(Some(size))
+}
+
+// Puts the line of a packet that a template tells last, from its scalars, and gives how many octets the packet has. None, and
+// nothing is put, where the packet isn't read so, or its container has no layout.
+fn push_scalars<'a>(
     alloc: Global,
     target: &Target<'_>,
     segments: &Segments<'a>,
     layouts: &Layouts<'_>,
-    octets: &[u8],
+    octets: &'a [u8],
     rooms: &mut Rooms<'a>,
     report: &mut String,
 ) -> Result<Option<usize>, Memory>
@@ -139,15 +224,88 @@ fn is_within(report: &str) -> bool
     report.len() as u64 <= REPORT_OCTETS
 }
 
-/// Takes the packet at the front of octets, as `take_packet` does, where it has nothing but scalars. None, and nothing is put,
-/// where the packet isn't read so. What this answers is small: the answer of `take_packet` has room for the path of a fault, which
-/// is cleared and moved for each packet.
-pub fn take_scalars<'a>(
+// Puts the line of a packet last from the packet's value, and gives how many octets the packet has. None, and nothing is put, where
+// it can't be read.
+fn push_value(
+    alloc: Global,
+    target: &Target<'_>,
+    segments: &Segments<'_>,
+    layouts: &Layouts<'_>,
+    octets: &[u8],
+    rooms: &mut Rooms<'_>,
+    report: &mut String,
+) -> Result<Option<usize>, Memory>
+    requires segments { segments.now ≡ target.now.table.now }
+    requires layouts { layouts.now ≡ target.now.table.now }
+    requires known { IsKnown (type_in target.now) }
+    ensures line { IfOk result (λ o. IfSome o (λ size. PutsLine (type_in target.now) octets.now size (string_bytes report.old) (string_bytes report.new))) }
+    ensures none { IfOk result (λ o. IfNone o (string_bytes report.new ≡ string_bytes report.old)) }
+{
+    match value_at(alloc, target, segments, octets, &mut rooms.fault)? {
+        Some((value, size)) => {
+            push_line(alloc, target, layouts, &value, &mut rooms.line, report)?;
+            Ok(Some(size))
+        }
+        None => Ok(None),
+    }
+}
+
+// Puts the line of a packet last, straight from its bits or from its scalars where that can be, and else from its value.
+fn push_read<'a>(
     alloc: Global,
     target: &Target<'_>,
     segments: &Segments<'a>,
     layouts: &Layouts<'_>,
-    octets: &[u8],
+    octets: &'a [u8],
+    rooms: &mut Rooms<'a>,
+    report: &mut String,
+) -> Result<Option<usize>, Memory>
+    requires segments { segments.now ≡ target.now.table.now }
+    requires layouts { layouts.now ≡ target.now.table.now }
+    requires known { IsKnown (type_in target.now) }
+    ensures line { IfOk result (λ o. IfSome o (λ size. PutsLine (type_in target.now) octets.now size (string_bytes report.old) (string_bytes report.new))) }
+    ensures none { IfOk result (λ o. IfNone o (string_bytes report.new ≡ string_bytes report.old)) }
+{
+    let line = &mut rooms.line;
+    if let Some(size) = push_entries(alloc, target, segments, layouts, octets, line, report)? {
+        return Ok(Some(size));
+    }
+    if let Some(size) = push_scalars(alloc, target, segments, layouts, octets, rooms, report)? {
+        return Ok(Some(size));
+    }
+    push_value(alloc, target, segments, layouts, octets, rooms, report)
+}
+
+// How many octets the packet at the front of octets has. None, where it can't be read.
+fn size_at<'a>(
+    alloc: Global,
+    target: &Target<'_>,
+    segments: &Segments<'a>,
+    octets: &'a [u8],
+    rooms: &mut Rooms<'a>,
+) -> Result<Option<usize>, Memory>
+    requires segments { segments.now ≡ target.now.table.now }
+    requires known { IsKnown (type_in target.now) }
+    ensures { IfOk result (λ o. IfSome o (λ size. (v : Plain) × HoldsPacket (type_in target.now) v octets.now size)) }
+{
+    if let Some((_, size)) = scalars_at(target, segments, octets, &mut rooms.scalars)? {
+        return Ok(Some(size));
+    }
+    match value_at(alloc, target, segments, octets, &mut rooms.fault)? {
+        Some((_value, size)) => Ok(Some(size)),
+        None => Ok(None),
+    }
+}
+
+/// Takes the packet at the front of octets, as `take_packet` does, where it can be read. None, and nothing is put, where it isn't:
+/// then `take_packet` tells why. What this answers is small: the answer of `take_packet` has room for the path of a fault, which is
+/// cleared and moved for each packet.
+pub fn take_value<'a>(
+    alloc: Global,
+    target: &Target<'_>,
+    segments: &Segments<'a>,
+    layouts: &Layouts<'_>,
+    octets: &'a [u8],
     rooms: &mut Rooms<'a>,
     report: &mut String,
 ) -> Result<Option<usize>, Memory>
@@ -158,11 +316,9 @@ pub fn take_scalars<'a>(
     ensures none { IfOk result (λ o. IfNone o (string_bytes report.new ≡ string_bytes report.old)) }
 {
     if is_within(report) {
-        return push_straight(alloc, target, segments, layouts, octets, rooms, report);
-    }
-    match scalars_at(target, segments, octets, &mut rooms.scalars)? {
-        Some((_, size)) => Ok(Some(size)),
-        None => Ok(None),
+        push_read(alloc, target, segments, layouts, octets, rooms, report)
+    } else {
+        size_at(alloc, target, segments, octets, rooms)
     }
 }
 

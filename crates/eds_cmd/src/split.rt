@@ -6,7 +6,7 @@ ghost use Rattle.eds_cmd.specs.Split.{Splits, packets_line as line_of_packets};
 ghost use Rattle.eds_cmd.specs.Target.{IsKnown, type_in};
 
 use crate::limits::PACKETS_OCTETS;
-use crate::packet_line::{Rooms, take_packet, take_scalars};
+use crate::packet_line::{Rooms, take_packet, take_value};
 use crate::stop::{Stop, packet_fault};
 use crate::target::Target;
 use eds_base::Fail;
@@ -25,7 +25,7 @@ fn packets_line(alloc: Global, packets: u32, octets: usize) -> Result<String, Al
 /// octets there are. Each packet begins at an octet, and up to 7 bits fill its last one. The first packet that can't be read is
 /// told with its number. Where the report gets longer than a report may be, packets are read on, but their lines are left out: the
 /// packet that fails comes before the limit.
-pub fn split(alloc: Global, target: &Target<'_>, octets: &[u8]) -> Result<String, Fail<Stop>>
+pub fn split<'a>(alloc: Global, target: &Target<'a>, octets: &'a [u8]) -> Result<String, Fail<Stop>>
     requires known { IsKnown (type_in target.now) }
     requires few { length octets.now ≤ PACKETS_OCTETS }
     ensures { EndsAs string_bytes (UpToLimit (Splits (type_in target.now) octets.now)) result }
@@ -38,7 +38,7 @@ pub fn split(alloc: Global, target: &Target<'_>, octets: &[u8]) -> Result<String
     let mut at = 0usize;
     while at < octets.len() {
         let rest = &octets[at..];
-        let taken = take_scalars(
+        let taken = take_value(
             alloc,
             target,
             &segments,

@@ -18,7 +18,8 @@ pub mod SegmentReads
 pub mod ItemReads
 pub mod SegmentPasses
 pub mod Templates
-pub mod Filled
+pub mod EntriesSay
+pub mod TextParts
 pub mod Tails
 pub mod Fronts
 pub mod Cutting

@@ -1,5 +1,5 @@
 -- What operations make of bits is what the kinds of their types say.
-use Rattle.std.proofs.Common.{◌≡◌, ℕ, ◌+◌, ◌-◌, ◌/◌, ◌%◌, ◌^◌, ◌<◌, ◌≤◌, ℤ, pos, ◌-ℤ◌, ◌+ℤ◌, Bool, true, false, cond, eqb, not, List, [], ◌∷◌, ◌++◌, length, map, Option, Some, None, Ok, Err, refl, sym, ap, subst, ◌∙◌, arith, inl, inr}
+use Rattle.std.proofs.Common.{◌≡◌, ℕ, ◌+◌, ◌-◌, ◌*◌, ◌/◌, ◌%◌, ◌^◌, ◌<◌, ◌≤◌, ℤ, pos, ◌-ℤ◌, ◌+ℤ◌, Bool, true, false, cond, eqb, not, List, [], ◌∷◌, ◌++◌, length, map, Option, Some, None, Ok, Err, refl, sym, ap, subst, ◌∙◌, arith, inl, inr}
 use Rattle.std.specs.Prelude.{◌≤ℤ◌, Result, IfSome, slice_get, is_none, is_some}
 use Rattle.std.specs.Bool.{OnTrue}
 use Rattle.std.proofs.lemmas.Bool.{cases_lt, le-ltb, lt-ltb}
@@ -37,11 +37,12 @@ use Rattle.eds_types.specs.Fields.{type_by}
 use Rattle.eds_types.specs.Rows.{Table}
 use Rattle.eds_types.specs.Sizes.{open_by, open_in}
 use Rattle.eds_unpack.specs.declared.segment.Coding.{Coding}
+use Rattle.eds_unpack.specs.declared.segment.Digits.{Digits}
 use Rattle.eds_unpack.specs.declared.segment.Meaning.{Meaning}
 use Rattle.eds_unpack.specs.declared.segment.Meaning.TheVariants as meaning
 use Rattle.eds_unpack.specs.declared.segment.Numbers.{Numbers}
 use Rattle.eds_unpack.specs.declared.segment.Operation.{Operation}
-use Rattle.eds_unpack.specs.Segments.{scalar_bits, scalar_of, bits_in, value_in, in_order, from_half, signed, made, truth_by, Agrees, AgreesIn, AreNumbers, IsCoding, IsInDomain, IsOperation, IsOperationOf, IsPut, IsScalar, IsSure}
+use Rattle.eds_unpack.specs.Segments.{scalar_bits, scalar_of, bits_in, value_in, in_order, from_half, signed, made, truth_by, decimal_by, Agrees, AgreesIn, AreDigits, AreNumbers, IsCoding, IsInDomain, IsOperation, IsOperationOf, IsPut, IsScalar, IsSure}
 use Rattle.eds_unpack.specs.Straight.{is_straight_entry}
 
 -- ---- numbers
@@ -135,10 +136,21 @@ number_agrees form spans r is within = record {
   numbers = λ x h domain. ranged_is spans (number_of form (low_bits form.bits x)) (made r.coding form.bits x) (is.numbers x h) (within (made r.coding form.bits x) domain.low domain.high);
 }
 
+pub digits_agree : (form : IntForm) (spans : List Span) (r : Digits) → form.bits ≡ r.digit_bits * r.digits → ((c : Bits) → number_of form c ≡ decimal_by r.digit_bits c) → ((n : ℤ) → r.low ≤ℤ n → n ≤ℤ r.high → is_within spans n ≡ true) → AreDigits (λ c. ranged spans (number_of form c)) form.bits r
+digits_agree form spans r size numbers within = record {
+  size = size;
+  numbers = λ x d h is low high. ranged_is spans (number_of form (low_bits form.bits x)) d (numbers (low_bits form.bits x) ∙ is) (within d low high);
+}
+
 -- the numbers of an operation, whose row is there
 pub in_row : (row : Option TypeRow) (n : ℕ) (r : Numbers) → AgreesIn row n (meaning.Number r) → AreNumbers (value_in row) n r
 in_row None n r h = absurd h
 in_row (Some row) n r h = h
+
+-- and its decimal digits
+pub digits_in_row : (row : Option TypeRow) (n : ℕ) (r : Digits) → AgreesIn row n (meaning.Digits r) → AreDigits (value_in row) n r
+digits_in_row None n r h = absurd h
+digits_in_row (Some row) n r h = h
 
 -- ---- truth values
 

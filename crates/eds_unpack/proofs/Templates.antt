@@ -1,5 +1,5 @@
 -- What a template fills a room with is the value that the bits spell.
-use Rattle.std.proofs.Common.{◌-◌, ◌+◌, ◌≡◌, ℕ, zero, suc, ◌<◌, ◌≤◌, ℤ, pos, ◌+ℤ◌, ◌*ℤ◌, Bool, true, false, not, cond, List, [], ◌∷◌, ◌++◌, length, map, get_or, take, drop, Option, Some, None, Ok, refl, sym, ap, ap₂, subst, ◌∙◌, arith, append_assoc, append-nil, length-drop}
+use Rattle.std.proofs.Common.{◌-◌, ◌+◌, ◌≡◌, ℕ, zero, suc, ◌<◌, ◌≤◌, pos, ◌+ℤ◌, ◌*ℤ◌, Bool, true, false, not, cond, List, [], ◌∷◌, ◌++◌, length, map, get_or, take, drop, Option, Some, None, Ok, refl, sym, ap, ap₂, subst, ◌∙◌, arith, append_assoc, append-nil, length-drop}
 use Rattle.std.specs.Prelude.{slice_get, ◌==◌, ◌&&◌, IfSome}
 use Rattle.std.specs.Bool.{OnTrue}
 use Rattle.std.specs.List.{All, AllByRecursion, list_all}
@@ -10,7 +10,7 @@ use Rattle.eds_base.specs.declared.fault.Fault.{Fault}
 use Rattle.eds_base.specs.declared.ids.TypeId.{TypeId}
 use Rattle.eds_bits.specs.Bits.{Bits, octets_for}
 use Rattle.eds_bits.specs.IntForms.{number_of}
-use Rattle.eds_bits.specs.Scalars.{check_of}
+use Rattle.eds_bits.specs.Scalars.{IsText, check_of}
 use Rattle.eds_bits.specs.Style.{any}
 use Rattle.eds_types.specs.declared.row.Container.{Container}
 use Rattle.eds_types.specs.declared.row.Kind.{Kind}
@@ -22,7 +22,7 @@ use Rattle.eds_types.specs.Choices.{meets, fits_choice}
 use Rattle.eds_types.specs.Failing.{FailsWithin}
 use Rattle.eds_types.specs.Families.{first_of}
 use Rattle.eds_types.specs.Fields.{Field, type_by, part_at, value_at, values_of, Holds, IsAtOrUnder, constraints_along}
-use Rattle.eds_types.specs.Plain.{Plain, num, truth, fields, plains_of, list_of}
+use Rattle.eds_types.specs.Plain.{Plain, num, text, truth, fields, plains_of, list_of}
 use Rattle.eds_types.specs.Reading.{Read, judge, read_bits, ranged, named, truth_of, read_within, candidate_under}
 use Rattle.eds_types.specs.Rows.{Table, Placed, address, family, id_of, sequence, container_by, container_in, container_of}
 use Rattle.eds_types.specs.Rules.{KeepsRules}
@@ -40,25 +40,27 @@ use Rattle.eds_unpack.specs.declared.template.Role.{Role}
 use Rattle.eds_unpack.specs.declared.template.Role.TheVariants as role
 use Rattle.eds_unpack.specs.declared.template.Template.{Template}
 use Rattle.eds_unpack.specs.declared.template.TemplatePart.{TemplatePart}
+use Rattle.eds_unpack.specs.declared.template.TemplatePart.TheVariants as template
+use Rattle.eds_unpack.specs.declared.template.TextPart.{TextPart}
 use Rattle.eds_unpack.specs.declared.scalar.Scalar.{Scalar}
 use Rattle.eds_unpack.specs.Courses.{fields_at}
 use Rattle.eds_unpack.specs.Scalars.{plain_of}
 use Rattle.eds_unpack.specs.Segments.{IsOperation, Says, bits_in, scalar_bits, scalar_of, value_in}
-use Rattle.eds_unpack.specs.Templates.{AreKeys, AreTemplateParts, IsNear, IsPartAt, IsTemplateOf, IsTemplatePart, PartsSay, RoleSays, kept, role_of}
+use Rattle.eds_unpack.specs.Templates.{AreKeys, AreTemplateParts, IsSmall, IsOfType, IsPartAt, IsTemplateOf, IsTemplatePart, IsTextPart, PartSays, PartsSay, RoleSays, TextSays, begin_of, kept, role_of, size_of, use_of}
 use Rattle.eds_unpack.proofs.SegmentReads.{judged_bits}
 use Rattle.eds_unpack.proofs.StraightReads.{first_is_none, only_is}
 
 -- ---- making templates
 
 -- one part more
-pub parts_more : (t : Table) (at last : ℕ) (ps : List (TypeId × ℕ)) (xs : List TemplatePart) (qs : List (TypeId × ℕ)) (p : TypeId × ℕ) (x : TemplatePart) → AreTemplateParts t at last ps xs qs → x.operation.at ≡ last → IsPartAt t (part_at t p) x
-    → AreTemplateParts t at (last + x.operation.bits) (ps ++ p ∷ []) (xs ++ x ∷ []) (qs ++ kept x.role p)
-parts_more t at last [] [] qs p x h e is = (e ∙ sym h.0, is, ([], ap (λ z. z ++ kept x.role p) h.1 ∙ sym (append-nil (kept x.role p)), (ap (λ k. k + x.operation.bits) h.0, refl)))
+pub parts_more : (t : Table) (at last : ℕ) (ps : List (TypeId × ℕ)) (xs : List TemplatePart) (qs : List (TypeId × ℕ)) (p : TypeId × ℕ) (x : TemplatePart) → AreTemplateParts t at last ps xs qs → begin_of x ≡ last → IsPartAt t (part_at t p) x
+    → AreTemplateParts t at (last + size_of x) (ps ++ p ∷ []) (xs ++ x ∷ []) (qs ++ kept (use_of x) p)
+parts_more t at last [] [] qs p x h e is = (e ∙ sym h.0, is, ([], ap (λ z. z ++ kept (use_of x) p) h.1 ∙ sym (append-nil (kept (use_of x) p)), (ap (λ k. k + size_of x) h.0, refl)))
 parts_more t at last [] (y ∷ xs) qs p x h e is = absurd h
 parts_more t at last (q ∷ ps) [] qs p x h e is = absurd h
 parts_more t at last (q ∷ ps) (y ∷ xs) qs p x h e is =
     let more = h.2.0 in
-    (h.0, h.1, (more ++ kept x.role p, ap (λ z. z ++ kept x.role p) h.2.1 ∙ append_assoc (kept y.role q) more (kept x.role p), parts_more t (at + y.operation.bits) last ps xs more p x h.2.2 e is))
+    (h.0, h.1, (more ++ kept (use_of x) p, ap (λ z. z ++ kept (use_of x) p) h.2.1 ∙ append_assoc (kept (use_of y) q) more (kept (use_of x) p), parts_more t (at + size_of y) last ps xs more p x h.2.2 e is))
 
 -- ---- what holds of each part
 
@@ -66,22 +68,22 @@ pub ends_behind : (t : Table) (at last : ℕ) (ps : List (TypeId × ℕ)) (xs : 
 ends_behind t at last [] [] qs h = let e = h.0 in omega arith
 ends_behind t at last [] (x ∷ xs) qs h = absurd h
 ends_behind t at last (p ∷ ps) [] qs h = absurd h
-ends_behind t at last (p ∷ ps) (x ∷ xs) qs h = let more = ends_behind t (at + x.operation.bits) last ps xs h.2.0 h.2.2 in omega arith
+ends_behind t at last (p ∷ ps) (x ∷ xs) qs h = let more = ends_behind t (at + size_of x) last ps xs h.2.0 h.2.2 in omega arith
 
-part_is : (t : Table) (o : Option Part) (x : TemplatePart) → IsPartAt t o x → IsOperation t x.operation × IsNear x.role
+part_is : (t : Table) (o : Option Part) (x : TemplatePart) → IsPartAt t o x → IsOfType t x × IsSmall (use_of x)
 part_is t None x h = absurd h
 part_is t (Some p) x h = (h.is, h.near)
 
 are_parts : (t : Table) (at last m : ℕ) (ps : List (TypeId × ℕ)) (xs : List TemplatePart) (qs : List (TypeId × ℕ)) → last ≤ m → AreTemplateParts t at last ps xs qs
-    → AllByRecursion (λ (x : TemplatePart). IsOperation t x.operation × IsNear x.role × (x.operation.at + x.operation.bits ≤ m)) xs
+    → AllByRecursion (λ (x : TemplatePart). IsOfType t x × IsSmall (use_of x) × (begin_of x + size_of x ≤ m)) xs
 are_parts t at last m [] [] qs few h = tt
 are_parts t at last m [] (x ∷ xs) qs few h = absurd h
 are_parts t at last m (p ∷ ps) [] qs few h = absurd h
 are_parts t at last m (p ∷ ps) (x ∷ xs) qs few h =
     let place = h.0 in
-    let more = ends_behind t (at + x.operation.bits) last ps xs h.2.0 h.2.2 in
+    let more = ends_behind t (at + size_of x) last ps xs h.2.0 h.2.2 in
     let is = part_is t (part_at t p) x h.1 in
-    ((is.0, is.1, omega arith), are_parts t (at + x.operation.bits) last m ps xs h.2.0 few h.2.2)
+    ((is.0, is.1, omega arith), are_parts t (at + size_of x) last m ps xs h.2.0 few h.2.2)
 
 -- ---- scalars
 
@@ -136,6 +138,15 @@ spells_within : (t : Table) → KeepsRules t → (n : ℕ) → 0 < n → (id m :
 spells_within t rules zero some id m v c l e k = absurd (omega arith)
 spells_within t rules (suc n) some id m v c l e k = scalar_spells t rules n id m v c l e k
 
+-- the bits of a text spell it
+text_spells : (t : Table) (n : ℕ) (x : TextPart) (s : List ℕ) (c : Bits) → IsTextPart t x → IsText any x.form s c → SpellsWithin (suc n) any t x.id.0 (text s) c
+unfolding SpellsWithin
+text_spells t n x s c is h = (is.row, is.there, subst (λ q. KindSpells any t (SpellsWithin n any t) x.id.0 q (text s) c) (sym is.kind) (s, refl, h))
+
+text_within : (t : Table) (n : ℕ) → 0 < n → (x : TextPart) (s : List ℕ) (c : Bits) → IsTextPart t x → IsText any x.form s c → SpellsWithin n any t x.id.0 (text s) c
+text_within t zero some x s c is h = absurd (omega arith)
+text_within t (suc n) some x s c is h = text_spells t n x s c is h
+
 -- ---- parts
 
 nothing : {A : Type 0} (n : ℕ) → ◌≡◌ {A = List A} (take n []) []
@@ -155,6 +166,10 @@ module _ (t : Table) (rules : KeepsRules t) (n : ℕ) (some : 0 < n) (b : Bits) 
   abbrev piece : Operation → Bits
   piece o = take o.bits (drop o.at b)
 
+  -- those of a part
+  abbrev piece_of : TemplatePart → Bits
+  piece_of x = take (size_of x) (drop (begin_of x) b)
+
   piece_size : (o : Operation) → o.at + o.bits ≤ length b → length (piece o) ≡ o.bits
   piece_size o few = length-take-le o.bits (drop o.at b) (omega (arith, length-drop o.at b))
 
@@ -166,18 +181,18 @@ module _ (t : Table) (rules : KeepsRules t) (n : ℕ) (some : 0 < n) (b : Bits) 
   IsTold s = IfSome s.octets (λ k. k ≡ pos octets)
 
   -- a part leads from one state to another
-  record Passed (s u : Progress) (p : Placed) (q : Part) (o : Operation) (r : Role) (us : List Plain) : Type 0 where
-    passes : PartPasses any t Inner s p q u (piece o)
-    fields : u.fields ≡ s.fields ++ fields_at (kept r (address p)) us
-    before : u.before ≡ s.before ++ piece o
+  record Passed (s u : Progress) (p : Placed) (q : Part) (x : TemplatePart) (us : List Plain) : Type 0 where
+    passes : PartPasses any t Inner s p q u (piece_of x)
+    fields : u.fields ≡ s.fields ++ fields_at (kept (use_of x) (address p)) us
+    before : u.before ≡ s.before ++ piece_of x
     told : IsTold u
 
   no_field : (fs : List Field) (p : Placed) (r q : Role) (us : List Plain) → kept q (address p) ≡ [] → q ≡ r → us ≡ [] → fs ≡ fs ++ fields_at (kept r (address p)) us
   no_field fs p r q us none e f = sym (append-nil fs) ∙ ap₂ (λ qs vs. fs ++ fields_at qs vs) (sym none ∙ ap (λ x. kept x (address p)) e) (sym f)
 
-  part_passes : (s : Progress) (p : Placed) (q : Part) (o : Operation) (r : Role) (us : List Plain) → role_of q ≡ Some r → type_by (Some q) ≡ Some o.id.0 → IsOperation t o → o.at + o.bits ≤ length b
-      → s.before ≡ take o.at b → IsTold s → RoleSays t b octets o r us → (u : Progress) × Passed s u p q o r us
-  part_passes s p (part.Plain name id) o r us e y is few before told says =
+  scalar_passes : (s : Progress) (p : Placed) (q : Part) (o : Operation) (r : Role) (us : List Plain) → role_of q ≡ Some r → type_by (Some q) ≡ Some o.id.0 → IsOperation t o → o.at + o.bits ≤ length b
+      → s.before ≡ take o.at b → IsTold s → RoleSays t b octets o r us → (u : Progress) × Passed s u p q (template.Scalar o r) us
+  scalar_passes s p (part.Plain name id) o r us e y is few before told says =
       let same : role.Field ≡ r = cc in
       let typed : id.0 ≡ o.id.0 = cc in
       let so = subst (λ r. RoleSays t b octets o r us) (sym same) says in (
@@ -189,10 +204,10 @@ module _ (t : Table) (rules : KeepsRules t) (n : ℕ) (some : 0 < n) (b : Bits) 
           told = told;
         },
       )
-  part_passes s p (part.Fixed name id v) o r us e y is few before told says = absurd cc
-  part_passes s p (part.Pad m) o r us e y is few before told says = absurd cc
-  part_passes s p (part.List name id z i) o r us e y is few before told says = absurd cc
-  part_passes s p (part.Length name id c0 c1) o r us e y is few before told says =
+  scalar_passes s p (part.Fixed name id v) o r us e y is few before told says = absurd cc
+  scalar_passes s p (part.Pad m) o r us e y is few before told says = absurd cc
+  scalar_passes s p (part.List name id z i) o r us e y is few before told says = absurd cc
+  scalar_passes s p (part.Length name id c0 c1) o r us e y is few before told says =
       let same : role.Length c0 c1 ≡ r = cc in
       let typed : id.0 ≡ o.id.0 = cc in
       let so = subst (λ r. RoleSays t b octets o r us) (sym same) says in (
@@ -204,7 +219,7 @@ module _ (t : Table) (rules : KeepsRules t) (n : ℕ) (some : 0 < n) (b : Bits) 
           told = so.2;
         },
       )
-  part_passes s p (part.Check name id k) o r us e y is few before told says =
+  scalar_passes s p (part.Check name id k) o r us e y is few before told says =
       let same : role.Check k ≡ r = cc in
       let typed : id.0 ≡ o.id.0 = cc in
       let so = subst (λ r. RoleSays t b octets o r us) (sym same) says in
@@ -218,10 +233,37 @@ module _ (t : Table) (rules : KeepsRules t) (n : ℕ) (some : 0 < n) (b : Bits) 
         },
       )
 
+  text_passes : (s : Progress) (p : Placed) (q : Part) (x : TextPart) (us : List Plain) → role_of q ≡ Some role.Field → type_by (Some q) ≡ Some x.id.0 → IsTextPart t x → IsTold s → TextSays b x us → (u : Progress) × Passed s u p q (template.Text x) us
+  text_passes s p (part.Plain name id) x us e y is told says =
+      let typed : id.0 ≡ x.id.0 = cc in
+      let c = piece_of (template.Text x) in
+      let v = text says.0 in (
+        with_value s p v c,
+        record {
+          passes = (v, subst (λ i. Inner i v c) (sym typed) (text_within t n some x says.0 c is says.1), refl);
+          fields = ap (λ vs. s.fields ++ fields_at (address p ∷ []) vs) (sym says.2);
+          before = refl;
+          told = told;
+        },
+      )
+  text_passes s p (part.Fixed name id v) x us e y is told says = absurd cc
+  text_passes s p (part.Pad m) x us e y is told says = absurd cc
+  text_passes s p (part.List name id z i) x us e y is told says = absurd cc
+  text_passes s p (part.Length name id c0 c1) x us e y is told says = absurd cc
+  text_passes s p (part.Check name id k) x us e y is told says = absurd cc
+
+  part_passes : (s : Progress) (p : Placed) (q : Part) (x : TemplatePart) (us : List Plain) → IsTemplatePart t q x → begin_of x + size_of x ≤ length b → s.before ≡ take (begin_of x) b → IsTold s → PartSays t b octets x us → (u : Progress) × Passed s u p q x us
+  part_passes s p q (template.Scalar o r) us is few before told says = scalar_passes s p q o r us is.role is.typed is.is few before told says
+  part_passes s p q (template.Text x) us is few before told says = text_passes s p q x us is.role is.typed is.is told says
+
   fields_split : (r : Role) (o : Operation) (p : TypeId × ℕ) (us ws : List Plain) (qs : List (TypeId × ℕ)) → RoleSays t b octets o r us → fields_at (kept r p ++ qs) (us ++ ws) ≡ fields_at (kept r p) us ++ fields_at qs ws
   fields_split role.Field o p us ws qs h = ap (λ vs. fields_at (p ∷ qs) (vs ++ ws)) h.2 ∙ sym (ap (λ vs. fields_at (p ∷ []) vs ++ fields_at qs ws) h.2)
   fields_split (role.Length c0 c1) o p us ws qs h = ap (λ vs. fields_at qs (vs ++ ws)) h.3 ∙ sym (ap (λ vs. fields_at [] vs ++ fields_at qs ws) h.3)
   fields_split (role.Check k) o p us ws qs h = ap (λ vs. fields_at qs (vs ++ ws)) h.1 ∙ sym (ap (λ vs. fields_at [] vs ++ fields_at qs ws) h.1)
+
+  part_split : (x : TemplatePart) (p : TypeId × ℕ) (us ws : List Plain) (qs : List (TypeId × ℕ)) → PartSays t b octets x us → fields_at (kept (use_of x) p ++ qs) (us ++ ws) ≡ fields_at (kept (use_of x) p) us ++ fields_at qs ws
+  part_split (template.Scalar o r) p us ws qs h = fields_split r o p us ws qs h
+  part_split (template.Text x) p us ws qs h = ap (λ vs. fields_at (p ∷ qs) (vs ++ ws)) h.2 ∙ sym (ap (λ vs. fields_at (p ∷ []) vs ++ fields_at qs ws) h.2)
 
   -- parts lead from one state to another, through their bits
   record Went (s u : Progress) (at last : ℕ) (ps : List Placed) (qs : List (TypeId × ℕ)) (vs : List Plain) : Type 0 where
@@ -245,23 +287,23 @@ module _ (t : Table) (rules : KeepsRules t) (n : ℕ) (some : 0 < n) (b : Bits) 
   parts_pass at last [] (x ∷ xs) qs vs s a h k few before told = absurd h
   parts_pass at last (p ∷ ps) [] qs vs s a h k few before told = absurd h
   parts_pass at last (p ∷ ps) (x ∷ xs) qs vs s a h k few before told =
-      let o = x.operation in
+      let size = size_of x in
       let is : IsTemplatePart t p.part x = subst (λ q. IsPartAt t q x) a.0 h.1 in
       let place = h.0 in
-      let end = ends_behind t (at + o.bits) last (map address ps) xs h.2.0 h.2.2 in
-      let one = part_passes s p p.part o x.role k.0 is.role is.typed is.is (omega arith) (before ∙ ap (λ m. take m b) (sym place)) told k.3 in
+      let end = ends_behind t (at + size) last (map address ps) xs h.2.0 h.2.2 in
+      let one = part_passes s p p.part x k.0 is (omega arith) (before ∙ ap (λ m. take m b) (sym place)) told k.3 in
       let m = one.0 in
-      let here : piece o ≡ take o.bits (drop at b) = ap (λ i. take o.bits (drop i b)) place in
-      let come : m.before ≡ take (at + o.bits) b = one.1.before ∙ ap₂ (λ y z. y ++ z) before here ∙ sym (take_add at o.bits b) in
-      let rest = parts_pass (at + o.bits) last ps xs h.2.0 k.1 m a.1 h.2.2 k.4 few come one.1.told in
-      let size : last - at ≡ o.bits + (last - (at + o.bits)) = omega arith in
-      let bits : take (last - at) (drop at b) ≡ piece o ++ take (last - (at + o.bits)) (drop (at + o.bits) b) =
-      ap (λ i. take i (drop at b)) size ∙ take_add o.bits (last - (at + o.bits)) (drop at b) ∙ ap₂ (λ y z. y ++ take (last - (at + o.bits)) z) (sym here) (drop-drop o.bits at b ∙ ap (λ i. drop i b) (omega arith)) in (
+      let here : piece_of x ≡ take size (drop at b) = ap (λ i. take size (drop i b)) place in
+      let come : m.before ≡ take (at + size) b = one.1.before ∙ ap₂ (λ y z. y ++ z) before here ∙ sym (take_add at size b) in
+      let rest = parts_pass (at + size) last ps xs h.2.0 k.1 m a.1 h.2.2 k.4 few come one.1.told in
+      let left : last - at ≡ size + (last - (at + size)) = omega arith in
+      let bits : take (last - at) (drop at b) ≡ piece_of x ++ take (last - (at + size)) (drop (at + size) b) =
+      ap (λ i. take i (drop at b)) left ∙ take_add size (last - (at + size)) (drop at b) ∙ ap₂ (λ y z. y ++ take (last - (at + size)) z) (sym here) (drop-drop size at b ∙ ap (λ i. drop i b) (omega arith)) in (
         rest.0,
         record {
-          passes = (m, piece o, take (last - (at + o.bits)) (drop (at + o.bits) b), bits, one.1.passes, rest.1.passes);
-          fields = rest.1.fields ∙ ap (λ fs. fs ++ fields_at h.2.0 k.1) one.1.fields ∙ append_assoc s.fields (fields_at (kept x.role (address p)) k.0) (fields_at h.2.0 k.1)
-              ∙ ap (λ fs. s.fields ++ fs) (sym (ap₂ fields_at h.2.1 k.2 ∙ fields_split x.role o (address p) k.0 k.1 h.2.0 k.3));
+          passes = (m, piece_of x, take (last - (at + size)) (drop (at + size) b), bits, one.1.passes, rest.1.passes);
+          fields = rest.1.fields ∙ ap (λ fs. fs ++ fields_at h.2.0 k.1) one.1.fields ∙ append_assoc s.fields (fields_at (kept (use_of x) (address p)) k.0) (fields_at h.2.0 k.1)
+              ∙ ap (λ fs. s.fields ++ fs) (sym (ap₂ fields_at h.2.1 k.2 ∙ part_split x (address p) k.0 k.1 h.2.0 k.3));
           before = rest.1.before;
           told = rest.1.told;
         },
@@ -277,15 +319,19 @@ one_each t b octets role.Field o p us h = sym (ap length h.2)
 one_each t b octets (role.Length c0 c1) o p us h = sym (ap length h.3)
 one_each t b octets (role.Check k) o p us h = sym (ap length h.1)
 
+one_for_part : (t : Table) (b : Bits) (octets : ℕ) (x : TemplatePart) (p : TypeId × ℕ) (us : List Plain) → PartSays t b octets x us → as_many (kept (use_of x) p) us
+one_for_part t b octets (template.Scalar o r) p us h = one_each t b octets r o p us h
+one_for_part t b octets (template.Text x) p us h = sym (ap length h.2)
+
 -- there is a value for each field
 pub each_place : (t : Table) (b : Bits) (octets at last : ℕ) (ps : List (TypeId × ℕ)) (xs : List TemplatePart) (qs : List (TypeId × ℕ)) (vs : List Plain) → AreTemplateParts t at last ps xs qs → PartsSay t b octets xs vs → length qs ≡ length vs
 each_place t b octets at last [] [] qs vs h k = ap length h.1 ∙ sym (ap length k)
 each_place t b octets at last [] (x ∷ xs) qs vs h k = absurd h
 each_place t b octets at last (p ∷ ps) [] qs vs h k = absurd h
 each_place t b octets at last (p ∷ ps) (x ∷ xs) qs vs h k =
-    let one = one_each t b octets x.role x.operation p k.0 k.3 in
-    let rest = each_place t b octets (at + x.operation.bits) last ps xs h.2.0 k.1 h.2.2 k.4 in
-    ap length h.2.1 ∙ length-append (kept x.role p) h.2.0 ∙ ap₂ (λ i j. i + j) one rest ∙ sym (ap length k.2 ∙ length-append k.0 k.1)
+    let one = one_for_part t b octets x p k.0 k.3 in
+    let rest = each_place t b octets (at + size_of x) last ps xs h.2.0 k.1 h.2.2 k.4 in
+    ap length h.2.1 ∙ length-append (kept (use_of x) p) h.2.0 ∙ ap₂ (λ i j. i + j) one rest ∙ sym (ap length k.2 ∙ length-append k.0 k.1)
 
 values_at : (qs : List (TypeId × ℕ)) (vs : List Plain) → length qs ≡ length vs → values_of (fields_at qs vs) ≡ vs
 values_at [] [] e = refl
@@ -355,7 +401,7 @@ say_nothing : (t : Table) (b : Bits) (octets : ℕ) (vs : List Plain) → vs ≡
 say_nothing t b octets vs e = e
 
 -- one part more says its value
-pub say_more_parts : (t : Table) (b : Bits) (octets : ℕ) (xs : List TemplatePart) (x : TemplatePart) (vs us : List Plain) → PartsSay t b octets xs vs → RoleSays t b octets x.operation x.role us → PartsSay t b octets (xs ++ x ∷ []) (vs ++ us)
+pub say_more_parts : (t : Table) (b : Bits) (octets : ℕ) (xs : List TemplatePart) (x : TemplatePart) (vs us : List Plain) → PartsSay t b octets xs vs → PartSays t b octets x us → PartsSay t b octets (xs ++ x ∷ []) (vs ++ us)
 say_more_parts t b octets [] x vs us h r = (us, [], ap (λ z. z ++ us) h ∙ sym (append-nil us), r, refl)
 say_more_parts t b octets (y ∷ xs) x vs us h r = (h.0, h.1 ++ us, ap (λ z. z ++ us) h.2 ∙ append_assoc h.0 h.1 us, h.3, say_more_parts t b octets xs x h.1 us h.4 r)
 
@@ -392,5 +438,5 @@ one_key_more t each o are is = λ id k e. go each (λ i k e. are i k e) id k e
 -- ---- reading by a template
 
 -- each part of a template is as it should be, and within so many bits
-pub parts_are : (t : Table) (k n : ℕ) (m : Template) → IsTemplateOf t k m → m.bits ≤ n → All (λ (x : TemplatePart). IsOperation t x.operation × IsNear x.role × (x.operation.at + x.operation.bits ≤ n)) m.parts.items
-parts_are t k n m is few = All-from_recursion (λ (x : TemplatePart). IsOperation t x.operation × IsNear x.role × (x.operation.at + x.operation.bits ≤ n)) m.parts.items (are_parts t 0 m.bits n (map address (sequence t k)) m.parts.items m.places.items few is.parts)
+pub parts_are : (t : Table) (k n : ℕ) (m : Template) → IsTemplateOf t k m → m.bits ≤ n → All (λ (x : TemplatePart). IsOfType t x × IsSmall (use_of x) × (begin_of x + size_of x ≤ n)) m.parts.items
+parts_are t k n m is few = All-from_recursion (λ (x : TemplatePart). IsOfType t x × IsSmall (use_of x) × (begin_of x + size_of x ≤ n)) m.parts.items (are_parts t 0 m.bits n (map address (sequence t k)) m.parts.items m.places.items few is.parts)

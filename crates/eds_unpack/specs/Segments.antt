@@ -1,11 +1,12 @@
 -- Containers as operations: entries at fixed places, which are read one after another.
-use Rattle.std.specs.Prelude.{◌≡◌, ℕ, ◌+◌, ◌%◌, ◌^◌, ◌<◌, ◌≤◌, ℤ, pos, ◌-ℤ◌, ◌≤ℤ◌, List, [], ◌∷◌, ◌++◌, length, map, Bool, true, not, ◌==◌, Option, Some, None, Result, Ok, Err, slice_get, nat_lt, take, drop, if◌then◌else◌}
+use Rattle.std.specs.Prelude.{◌≡◌, ℕ, ◌+◌, ◌*◌, ◌%◌, ◌^◌, ◌<◌, ◌≤◌, ℤ, pos, ◌-ℤ◌, ◌≤ℤ◌, List, [], ◌∷◌, ◌++◌, length, map, Bool, true, not, ◌==◌, Option, Some, None, Result, Ok, Err, slice_get, nat_lt, take, drop, if◌then◌else◌}
 use Rattle.std.specs.List.{AllZip}
+use Rattle.std.specs.Result.{result_ok}
 use Rattle.eds_base.specs.declared.fault.Fault.{Fault}
 use Rattle.eds_base.specs.declared.fault.Reason.TheVariants.{Short}
 use Rattle.eds_bits.specs.declared.forms.ByteOrder.TheVariants.{Little}
-use Rattle.eds_bits.specs.Bits.{Bits, low_bits, unsigned_of}
-use Rattle.eds_bits.specs.Encodings.{ordered}
+use Rattle.eds_bits.specs.Bits.{Bits, low_bits, pieces, unsigned_of}
+use Rattle.eds_bits.specs.Encodings.{decimal_of, ordered}
 use Rattle.eds_bits.specs.IntForms.{number_of}
 use Rattle.eds_types.specs.declared.row.Kind.{Kind}
 use Rattle.eds_types.specs.declared.row.Kind.TheVariants as kind
@@ -19,6 +20,7 @@ use Rattle.eds_types.specs.Reading.{ranged, named, truth_of, front, read_within,
 use Rattle.eds_types.specs.Rows.{Table, entries_of, placed_from}
 use Rattle.eds_types.specs.Spelling.{Progress}
 use Rattle.eds_unpack.specs.declared.segment.Coding.{Coding}
+use Rattle.eds_unpack.specs.declared.segment.Digits.{Digits}
 use Rattle.eds_unpack.specs.declared.segment.Meaning.{Meaning}
 use Rattle.eds_unpack.specs.declared.segment.Meaning.TheVariants as meaning
 use Rattle.eds_unpack.specs.declared.segment.Numbers.{Numbers}
@@ -104,6 +106,15 @@ pub record AreNumbers (value : Bits → Result Plain Fault) (n : ℕ) (r : Numbe
   pub whole : r.coding.little ≡ true → n % 8 ≡ 0
   pub numbers : (x : ℕ) → x < 2 ^ n → IsInDomain r (made r.coding n x) → value (low_bits n x) ≡ Ok (num (made r.coding n x))
 
+-- the number of decimal digits of k bits each, if none is above 9
+abbrev pub decimal_by : ℕ → Bits → Option ℤ
+decimal_by k c = decimal_of (map unsigned_of (pieces k c))
+
+-- the values of n bits are the numbers of their decimal digits, where these are of the domain
+pub record AreDigits (value : Bits → Result Plain Fault) (n : ℕ) (r : Digits) : Type 0 where
+  pub size : n ≡ r.digit_bits * r.digits
+  pub numbers : (x : ℕ) (d : ℤ) → x < 2 ^ n → decimal_by r.digit_bits (low_bits n x) ≡ Some d → r.low ≤ℤ d → d ≤ℤ r.high → value (low_bits n x) ≡ Ok (num d)
+
 -- the truth value that the number x stands for
 abbrev pub truth_by : Bool → ℕ → Bool
 truth_by zero_is_false x = if x == 0 then not zero_is_false else zero_is_false
@@ -111,6 +122,7 @@ truth_by zero_is_false x = if x == 0 then not zero_is_false else zero_is_false
 -- what an operation makes of n bits is what they stand for
 abbrev pub Agrees : Kind → ℕ → Meaning → Type 0
 Agrees k n (meaning.Number r) = AreNumbers (scalar_of k) n r
+Agrees k n (meaning.Digits r) = AreDigits (scalar_of k) n r
 Agrees k n (meaning.Label r) = IsCoding (integer_of k) n r
 Agrees k n (meaning.Truth zero_is_false) = (x : ℕ) → x < 2 ^ n → scalar_of k (low_bits n x) ≡ Ok (truth (truth_by zero_is_false x))
 Agrees k n meaning.Told = Unit {0}
@@ -179,6 +191,10 @@ AreSegments t each = (id : ℕ) (s : Segment) → slice_get each id ≡ Some (So
 -- the value of an operation, in the bits of its container
 abbrev pub Says : Table → Bits → Operation → Plain → Type 0
 Says t b o v = value_in (slice_get t o.id.0) (take o.bits (drop o.at b)) ≡ Ok v
+
+-- what the bits of an operation say, if they say something
+abbrev pub said : Table → Bits → Operation → Option Plain
+said t b o = result_ok (value_in (slice_get t o.id.0) (take o.bits (drop o.at b)))
 
 -- the fields of a container with these values, the first at a place
 abbrev pub fields_from : ℕ → ℕ → List Plain → List Field

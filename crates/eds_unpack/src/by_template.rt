@@ -1,11 +1,12 @@
-//! Reading scalars by a template.
+//! Reading scalars and texts by a template.
 
-ghost use Rattle.std.specs.Prelude.{◌+◌, ◌≡◌, slice_get, nat_abs, ◌^◌, ◌++◌, ◌<◌, ◌≤◌, ℤ, pos, ◌+ℤ◌, ◌*ℤ◌, List, Option, Some, length, map, take, vec_len, vec_capacity, IfOk, IfSome};
+ghost use Rattle.std.specs.Prelude.{◌+◌, ◌≡◌, slice_get, nat_abs, ◌^◌, ◌++◌, ◌<◌, ◌≤◌, ℤ, pos, ◌+ℤ◌, ◌*ℤ◌, List, Option, Some, length, map, take, true, vec_len, vec_capacity, IfOk, IfSome, IsAscii};
 ghost use Rattle.std.specs.Bool.{OnTrue};
 ghost use Rattle.std.specs.List.{All, AllByRecursion, flat_map};
-ghost use Rattle.eds_bits.specs.Bits.{bits_of, octets_for};
+ghost use Rattle.eds_bits.specs.Bits.{Bits, bits_of, octets_for};
 ghost use Rattle.eds_bits.specs.Reader.{bits_left};
-ghost use Rattle.eds_bits.specs.Scalars.{check_of};
+ghost use Rattle.eds_bits.specs.Scalars.{IsText, before_stop, check_of};
+ghost use Rattle.eds_bits.specs.Style.{any};
 ghost use Rattle.eds_types.specs.declared.row.TypeRow.{TypeRow};
 ghost use Rattle.eds_types.specs.Fields.{Holds, number_by, number_on, value_at};
 ghost use Rattle.eds_types.specs.Plain.{Plain, num};
@@ -14,17 +15,19 @@ ghost use Rattle.eds_unpack.specs.Courses.{fields_at};
 ghost use Rattle.eds_unpack.specs.Scalars.{plain_of};
 ghost use Rattle.eds_unpack.specs.Segments.{IsOperation};
 ghost use Rattle.eds_unpack.specs.declared.template.Role.TheVariants as role;
-ghost use Rattle.eds_unpack.specs.Templates.{IsNear, PartsSay, RoleSays};
+ghost use Rattle.eds_unpack.specs.Templates.{IsSmall, IsOfType, PartSays, PartsSay, RoleSays, TextSays, begin_of, size_of, use_of};
 
 use crate::meaning::{put_scalar, scalar_at};
 use crate::scalar::Scalar;
-use crate::template::{Role, Template, TemplatePart, is_step};
+use crate::segment::Operation;
+use crate::template::{Role, Template, TemplatePart, TextPart, is_step};
 use crate::told::told_octets;
 use crate::values::{number_of_bits, octets_left};
 use eds_base::{Memory, TypeId};
-use eds_bits::{BitReader, CheckKind};
+use eds_bits::{BitReader, CheckKind, TextForm};
 use eds_codec::check_next;
 use eds_types::{Constraint, TypeTable};
+use std::str;
 
 // ---- parts
 
@@ -36,13 +39,13 @@ fn whole_of(scalar: Scalar<'_>) -> Option<i128>
     match scalar {
         Scalar::Num(number) => Some(i128::from(number)),
         Scalar::Large(number) => Some(i128::from(number)),
-        Scalar::Label(_) | Scalar::Bool(_) => None,
+        Scalar::Label(_) | Scalar::Bool(_) | Scalar::Text(_) => None,
     }
 }
 
 /// Whether a length entry of this value tells so many octets.
 fn tells(c0: &i64, c1: &i64, scalar: Scalar<'_>, octets: u32) -> bool
-    requires { IsNear (role.Length c0.now c1.now) }
+    requires { IsSmall (role.Length c0.now c1.now) }
     ensures { OnTrue result ((n : ℤ) × (plain_of scalar.entry ≡ num n) × ((c0.now +ℤ (c1.now *ℤ n)) ≡ pos octets)) }
 {
     let offset = *c0;
@@ -64,36 +67,115 @@ fn is_check(kind: CheckKind, bits: u32, scalar: Scalar<'_>, reader: &BitReader<'
     }
 }
 
+/// Puts the value of a scalar last in a room, if it is a field, and otherwise judges it. Whether the bits have it, and it is right.
+#[inline(always)]
+fn put_role<'a>(
+    table: &'a TypeTable,
+    operation: &Operation,
+    role: &Role,
+    all: u32,
+    octets: &[u8],
+    reader: &BitReader<'_>,
+    room: &mut Vec<Scalar<'a>>,
+) -> bool
+    requires is { IsOperation table.now operation.now }
+    requires near { IsSmall role.now }
+    requires within { operation.now.at + operation.now.bits ≤ length (bits_left reader.now) }
+    requires octets { 1 ≤ length octets.now → bits_left reader.now ≡ bits_of octets.now }
+    requires spare { vec_len room.old < vec_capacity room.old }
+    ensures says { OnTrue result ((vs : List Plain) × (map plain_of room.new.items ≡ map plain_of room.old.items ++ vs) × RoleSays table.now (bits_left reader.now) all operation.now role.now vs) }
+    ensures few { vec_len room.new ≤ vec_len room.old + 1 }
+    ensures room { vec_capacity room.new ≡ vec_capacity room.old }
+{
+    let number = number_of_bits(operation, octets, reader);
+    match role {
+        Role::Field => put_scalar(table, operation, number, room),
+        Role::Length(c0, c1) => match scalar_at(table, operation, number) {
+            Some(scalar) => tells(c0, c1, scalar, all),
+            None => false,
+        },
+        Role::Check(kind) => match scalar_at(table, operation, number) {
+            Some(scalar) => is_check(*kind, operation.at, scalar, reader),
+            None => false,
+        },
+    }
+}
+
+/// How many octets stand before the first termination octet, or in all where there is none, if each of them is one of ASCII.
+fn text_size(stop: u8, octets: &[u8]) -> Option<usize>
+    ensures within { IfSome result (λ n. n ≤ length octets.now) }
+    ensures text { IfSome result (λ n. take n octets.now ≡ before_stop stop octets.now) }
+    ensures ascii { IfSome result (λ n. IsAscii (take n octets.now)) }
+{
+    for size in 0..octets.len() {
+        let octet = octets[size];
+        if octet == stop {
+            return Some(size);
+        }
+        if octet > 127 {
+            return None;
+        }
+    }
+    Some(octets.len())
+}
+
+/// The text of so many octets as its form tells, lent from them, if it is one of ASCII.
+fn ascii_text(form: TextForm, octets: &[u8]) -> Option<&str>
+    requires fixed { form.fixed ≡ true }
+    requires size { length octets.now ≡ form.length }
+    ensures { IfSome result (λ s. IsText any form s.now (bits_of octets.now)) }
+{
+    let size = text_size(form.stop, octets)?;
+    // SAFETY: octets of ASCII are UTF-8.
+    Some(unsafe { str::from_utf8_unchecked(&octets[..size]) })
+}
+
+/// Puts a text last in a room, lent from the octets that hold it, if they are there and it is one of ASCII. Another one isn't told.
+fn put_text<'a>(part: &TextPart, octets: &'a [u8], room: &mut Vec<Scalar<'a>>) -> bool
+    requires fixed { part.now.form.fixed ≡ true }
+    requires spare { vec_len room.old < vec_capacity room.old }
+    ensures says { (b : Bits) → (1 ≤ length octets.now → b ≡ bits_of octets.now) → OnTrue result ((vs : List Plain) × (map plain_of room.new.items ≡ map plain_of room.old.items ++ vs) × TextSays b part.now vs) }
+    ensures few { vec_len room.new ≤ vec_len room.old + 1 }
+    ensures room { vec_capacity room.new ≡ vec_capacity room.old }
+{
+    let first = part.first as usize;
+    let last = first + part.form.length as usize;
+    if last > octets.len() {
+        return false;
+    }
+    match ascii_text(part.form, &octets[first..last]) {
+        Some(text) => {
+            room.push_reserved(Scalar::Text(text));
+            true
+        }
+        None => false,
+    }
+}
+
 /// Puts the value of a part last in a room, if it is a field, and otherwise judges it. Whether the bits have it, and it is right.
 #[inline(always)]
 fn put_part<'a>(
     table: &'a TypeTable,
     part: &TemplatePart,
     all: u32,
-    octets: &[u8],
+    octets: &'a [u8],
     reader: &BitReader<'_>,
     room: &mut Vec<Scalar<'a>>,
 ) -> bool
-    requires is { IsOperation table.now part.now.operation }
-    requires near { IsNear part.now.role }
-    requires within { part.now.operation.at + part.now.operation.bits ≤ length (bits_left reader.now) }
-    requires octets { 8 ≤ length octets.now → bits_left reader.now ≡ bits_of octets.now }
+    requires is { IsOfType table.now part.now }
+    requires near { IsSmall (use_of part.now) }
+    requires within { begin_of part.now + size_of part.now ≤ length (bits_left reader.now) }
+    requires octets { 1 ≤ length octets.now → bits_left reader.now ≡ bits_of octets.now }
     requires spare { vec_len room.old < vec_capacity room.old }
-    ensures says { OnTrue result ((vs : List Plain) × (map plain_of room.new.items ≡ map plain_of room.old.items ++ vs) × RoleSays table.now (bits_left reader.now) all part.now.operation part.now.role vs) }
+    ensures says { OnTrue result ((vs : List Plain) × (map plain_of room.new.items ≡ map plain_of room.old.items ++ vs) × PartSays table.now (bits_left reader.now) all part.now vs) }
     ensures few { vec_len room.new ≤ vec_len room.old + 1 }
     ensures room { vec_capacity room.new ≡ vec_capacity room.old }
 {
-    let number = number_of_bits(&part.operation, octets, reader);
-    match &part.role {
-        Role::Field => put_scalar(table, &part.operation, number, room),
-        Role::Length(c0, c1) => match scalar_at(table, &part.operation, number) {
-            Some(scalar) => tells(c0, c1, scalar, all),
-            None => false,
-        },
-        Role::Check(kind) => match scalar_at(table, &part.operation, number) {
-            Some(scalar) => is_check(*kind, part.operation.at, scalar, reader),
-            None => false,
-        },
+    match part {
+        TemplatePart::Scalar(operation, role) => {
+            put_role(table, operation, role, all, octets, reader, room)
+        }
+        TemplatePart::Text(text) => put_text(text, octets, room),
     }
 }
 
@@ -102,12 +184,12 @@ fn put_part<'a>(
 pub(crate) fn fill_by<'a>(
     table: &'a TypeTable,
     template: &Template,
-    reader: &BitReader<'_>,
+    reader: &BitReader<'a>,
     room: &mut Vec<Scalar<'a>>,
 ) -> Result<bool, Memory>
-    requires are { All (λ x. IsOperation table.now x.operation) template.now.parts.items }
-    requires near { All (λ x. IsNear x.role) template.now.parts.items }
-    requires within { All (λ x. x.operation.at + x.operation.bits ≤ length (bits_left reader.now)) template.now.parts.items }
+    requires are { All (λ x. IsOfType table.now x) template.now.parts.items }
+    requires near { All (λ x. IsSmall (use_of x)) template.now.parts.items }
+    requires within { All (λ x. begin_of x + size_of x ≤ length (bits_left reader.now)) template.now.parts.items }
     ensures { IfOk result (λ all. OnTrue all (PartsSay table.now (bits_left reader.now) (octets_for template.now.bits) template.now.parts.items (map plain_of room.new.items))) }
 {
     let octets = octets_left(reader);
@@ -125,7 +207,7 @@ pub(crate) fn fill_by<'a>(
 
 // ---- constraints
 
-/// The number of a scalar; that of a label, which its listing tells, isn't looked for.
+/// The number of a scalar; that of a label, which its listing tells, isn't looked for, and a text has none.
 pub(crate) fn number_of(scalar: Scalar<'_>) -> Option<i128>
     ensures { (row : Option TypeRow) → IfSome result (λ n. number_by row (Some (plain_of scalar.entry)) ≡ Some n) }
 {
@@ -133,7 +215,7 @@ pub(crate) fn number_of(scalar: Scalar<'_>) -> Option<i128>
         Scalar::Num(number) => Some(i128::from(number)),
         Scalar::Large(number) => Some(i128::from(number)),
         Scalar::Bool(truth) => Some(i128::from(truth)),
-        Scalar::Label(_) => None,
+        Scalar::Label(_) | Scalar::Text(_) => None,
     }
 }
 

@@ -50,3 +50,12 @@ pub(crate) fn stop_in(path: &mut Path, stop: Fail<Reason>) -> Fail<Fault>
 {
     stop_at(mem::replace(path, Path::root()), stop)
 }
+
+/// Makes a path that of the root, after reading stopped.
+#[cold]
+#[inline(never)]
+pub(crate) fn forget(path: &mut Path)
+    ensures { path.new ≡ [] }
+{
+    *path = Path::root();
+}

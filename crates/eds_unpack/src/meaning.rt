@@ -1,6 +1,6 @@
 //! What the numbers of operations stand for.
 
-ghost use Rattle.std.specs.Prelude.{◌+◌, ◌≡◌, ◌%◌, ◌^◌, ◌<◌, ◌≤◌, ℕ, Result, Ok, Some, true, slice_get, vec_len, vec_capacity, IfSome};
+ghost use Rattle.std.specs.Prelude.{◌+◌, ◌≡◌, ◌*◌, ◌%◌, ◌^◌, ◌<◌, ◌≤◌, ℕ, Result, Ok, Some, true, slice_get, vec_len, vec_capacity, IfSome};
 ghost use Rattle.std.specs.Bool.{OnTrue};
 ghost use Rattle.eds_base.specs.declared.fault.Fault.{Fault};
 ghost use Rattle.eds_bits.specs.Bits.{Bits, low_bits};
@@ -10,11 +10,11 @@ ghost use Rattle.eds_types.specs.Reading.{named, ranged};
 ghost use Rattle.eds_types.specs.Rules.{KindKeeps};
 ghost use Rattle.eds_unpack.specs.Labels.{AreLabels};
 ghost use Rattle.eds_unpack.specs.Scalars.{IsPutLast, plain_of};
-ghost use Rattle.eds_unpack.specs.Segments.{AreNumbers, IsCoding, IsOperation, in_order, integer_of, made, scalar_bits, scalar_of, value_in};
+ghost use Rattle.eds_unpack.specs.Segments.{AreDigits, AreNumbers, IsCoding, IsOperation, decimal_by, in_order, integer_of, made, scalar_bits, scalar_of, value_in};
 
 use crate::lookup::label_of;
 use crate::scalar::Scalar;
-use crate::segment::{Coding, Meaning, Numbers, Operation};
+use crate::segment::{Coding, Digits, Meaning, Numbers, Operation};
 use eds_base::Spans;
 use eds_bits::{IntForm, decode_int};
 use eds_types::{Kind, Listing, TypeTable};
@@ -66,6 +66,37 @@ pub(crate) fn number_in(numbers: Numbers, bits: u32, number: u64) -> Option<i64>
 {
     let found = made(numbers.coding, bits, number);
     if found < numbers.low || numbers.high < found {
+        return None;
+    }
+    Some(found)
+}
+
+/// The number of these decimal digits, if none is above 9.
+fn decimal_in(digits: Digits, number: u64) -> Option<i64>
+    ensures { IfSome result (λ n. decimal_by digits.digit_bits (low_bits (digits.digit_bits * digits.digits) number) ≡ Some n) }
+{
+    let mut found = 0u64;
+    let mut worth = 1u64;
+    let mut left = number;
+    for _ in 0..digits.digits {
+        let digit = left % (1 << digits.digit_bits);
+        if digit > 9 {
+            return None;
+        }
+        found += digit * worth;
+        worth *= 10;
+        left >>= digits.digit_bits;
+    }
+    Some(found as i64)
+}
+
+/// The number of these decimal digits, if none is above 9 and it is of the domain.
+#[inline(always)]
+fn digits_in(digits: Digits, number: u64) -> Option<i64>
+    ensures { (value : Bits → Result Plain Fault) (n : ℕ) → AreDigits value n digits → number < 2 ^ n → IfSome result (λ d. value (low_bits n number) ≡ Ok (num d)) }
+{
+    let found = decimal_in(digits, number)?;
+    if found < digits.low || digits.high < found {
         return None;
     }
     Some(found)
@@ -137,6 +168,20 @@ fn label_by(kind: &Kind, coding: Coding, bits: u32, number: u64) -> Option<Scala
     Some(Scalar::Label(label.as_str()))
 }
 
+/// The number that the number of an operation's bits stands for, where these are a number of the domain. None, too, where the
+/// row of the type tells it.
+#[inline(always)]
+pub(crate) fn whole_number(table: &TypeTable, operation: &Operation, number: u64) -> Option<i64>
+    requires is { IsOperation table.now operation.now }
+    requires bound { number < 2 ^ operation.now.bits }
+    ensures { IfSome result (λ n. value_in (slice_get table.now operation.now.id.0) (low_bits operation.now.bits number) ≡ Ok (num n)) }
+{
+    match operation.meaning {
+        Meaning::Number(numbers) => number_in(numbers, operation.bits, number),
+        _ => None,
+    }
+}
+
 /// What the number of an operation's bits stands for, if they have a value.
 #[inline(always)]
 pub(crate) fn scalar_at<'a>(
@@ -151,6 +196,10 @@ pub(crate) fn scalar_at<'a>(
     match operation.meaning {
         Meaning::Number(numbers) => {
             let found = number_in(numbers, operation.bits, number)?;
+            Some(Scalar::Num(found))
+        }
+        Meaning::Digits(digits) => {
+            let found = digits_in(digits, number)?;
             Some(Scalar::Num(found))
         }
         Meaning::Truth(zero_is_false) => Some(Scalar::Bool((number != 0) == zero_is_false)),

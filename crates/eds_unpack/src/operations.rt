@@ -1,16 +1,16 @@
 //! Making the segments of the containers of a table.
 
 ghost use Rattle.std.specs.Prelude.{◌≡◌, ◌+◌, ◌*◌, ◌^◌, ◌<◌, ◌≤◌, ◌≤ℤ◌, ℕ, ℤ, pos, ◌+ℤ◌, ◌-ℤ◌, List, Some, Bool, true, false, length, take, IfOk, IfSome};
-ghost use Rattle.eds_bits.specs.Bits.{low_bits};
+ghost use Rattle.eds_bits.specs.Bits.{Bits, low_bits};
 ghost use Rattle.eds_bits.specs.Encodings.{number_by};
 ghost use Rattle.eds_bits.specs.IntForms.{number_of};
 ghost use Rattle.eds_bits.specs.declared.forms.ByteOrder.TheVariants.{Big, Little};
 ghost use Rattle.eds_types.specs.declared.row.Kind.{Kind as Shape};
 ghost use Rattle.eds_types.specs.declared.row.Kind.TheVariants.{Int, Enum};
 ghost use Rattle.eds_types.specs.Reading.{is_within};
-ghost use Rattle.eds_unpack.specs.Segments.{Agrees, AreOperationsOf, AreScalars, IsCoding, IsHeadOf, IsOperation, IsOperationOf, IsSure, scalar_bits, scalar_of, signed};
+ghost use Rattle.eds_unpack.specs.Segments.{Agrees, AreOperationsOf, AreScalars, IsCoding, IsHeadOf, IsOperation, IsOperationOf, IsSure, decimal_by, scalar_bits, scalar_of, signed};
 
-use crate::segment::{Coding, Meaning, Numbers, Operation, Segment};
+use crate::segment::{Coding, Digits, Meaning, Numbers, Operation, Segment};
 use crate::straight::is_straight;
 use eds_base::{Memory, Spans, TypeId};
 use eds_bits::{ByteOrder, Encoding, IntForm};
@@ -124,7 +124,25 @@ fn is_sure(bits: u32, meaning: Meaning) -> bool
     match meaning {
         Meaning::Number(numbers) => are_in_domain(bits, numbers),
         Meaning::Truth(_) => true,
-        Meaning::Label(_) | Meaning::Told => false,
+        Meaning::Digits(_) | Meaning::Label(_) | Meaning::Told => false,
+    }
+}
+
+/// How many bits each decimal digit of an integer type has, and how many digits there are. None, where the encoding has no
+/// decimal digits, or the octet that counts least comes first.
+fn digits_of(form: IntForm) -> Option<(u32, u32)>
+    ensures wide { IfSome result (λ d. 4 ≤ d.0) }
+    ensures narrow { IfSome result (λ d. d.0 ≤ 8) }
+    ensures size { IfSome result (λ d. form.bits ≡ d.0 * d.1) }
+    ensures numbers { IfSome result (λ d. (c : Bits) → number_of form c ≡ decimal_by d.0 c) }
+{
+    if is_little(form.order) {
+        return None;
+    }
+    match form.encoding {
+        Encoding::PackedBcd => Some((4, form.bits / 4)),
+        Encoding::Bcd => Some((8, form.bits / 8)),
+        _ => None,
     }
 }
 
@@ -132,13 +150,21 @@ fn is_sure(bits: u32, meaning: Meaning) -> bool
 fn number_meaning(form: IntForm, spans: &Spans) -> Meaning
     ensures { Agrees (Int form spans.now) form.bits result }
 {
-    let Some(coding) = coding_of(form) else {
-        return Meaning::Told;
-    };
     let Some((low, high)) = ends_of(spans) else {
         return Meaning::Told;
     };
-    Meaning::Number(Numbers { coding, low, high })
+    if let Some(coding) = coding_of(form) {
+        return Meaning::Number(Numbers { coding, low, high });
+    }
+    match digits_of(form) {
+        Some((digit_bits, digits)) => Meaning::Digits(Digits {
+            digit_bits,
+            digits,
+            low,
+            high,
+        }),
+        None => Meaning::Told,
+    }
 }
 
 /// How the bits of an enumerated type make its value.

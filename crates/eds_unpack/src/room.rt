@@ -1,8 +1,7 @@
-//! Reading the scalars of a container into a room that serves for many of them.
+//! Reading the scalars and texts of a container into a room that serves for many of them.
 
 ghost use Rattle.std.specs.Prelude.{◌≡◌, ◌+◌, ◌<◌, ◌≤◌, Some, length, map, take, IfOk, IfSome};
 ghost use Rattle.std.specs.Bool.{OnTrue};
-ghost use Rattle.std.specs.List.{All, AllZip};
 ghost use Rattle.eds_bits.specs.Reader.{bits_left, view_bits};
 ghost use Rattle.eds_types.specs.declared.row.Container.{Container as Shape};
 ghost use Rattle.eds_types.specs.Overlap.{IsClear};
@@ -10,20 +9,18 @@ ghost use Rattle.eds_types.specs.Plain.{fields, plains_of};
 ghost use Rattle.eds_types.specs.Rows.{container_of};
 ghost use Rattle.eds_types.specs.Spelling.{Spells};
 ghost use Rattle.eds_unpack.specs.Scalars.{plain_of};
-ghost use Rattle.eds_unpack.specs.Segments.{IsOperation, Says};
 ghost use Rattle.eds_unpack.specs.Templates.{IsTemplateOf};
 
 use crate::by_template::{fill_by, hold_along, number_of};
-use crate::meaning::{put_scalar, scalar_at};
+use crate::entries::{Entries, entries_by};
+use crate::meaning::scalar_at;
 use crate::scalar::Scalar;
-use crate::segment::Operation;
 use crate::segments::Segments;
 use crate::selector::stretch_at;
 use crate::template::Template;
 use crate::values::{number_of_bits, octets_left};
 use eds_base::{Memory, TypeId};
 use eds_bits::{BitReader, BitView};
-use eds_overlap::law::reading_is_exact;
 use eds_types::{TypeTable, is_among};
 
 /// The most containers of which each one is tried.
@@ -31,54 +28,39 @@ const FEW: usize = 4;
 
 // ---- containers of scalars alone, from which none derives and which derive from none
 
-/// Puts the scalars of operations into a room, in place of what is there, if the bits of each have one.
-fn fill<'a>(
-    table: &'a TypeTable,
-    operations: &[Operation],
-    reader: &BitReader<'_>,
-    room: &mut Vec<Scalar<'a>>,
-) -> Result<bool, Memory>
-    requires are { All (IsOperation table.now) operations.now }
-    requires within { All (λ o. o.at + o.bits ≤ length (bits_left reader.now)) operations.now }
-    ensures { IfOk result (λ all. OnTrue all (AllZip (Says table.now (bits_left reader.now)) operations.now (map plain_of room.new.items))) }
+/// Puts the scalars of entries into a room, in place of what is there, if the bits of each have one.
+fn fill<'a>(entries: &Entries<'_, 'a>, room: &mut Vec<Scalar<'a>>) -> Result<bool, Memory>
+    ensures { IfOk result (λ all. OnTrue all (entries.now ≡ map Some (map plain_of room.new.items))) }
 {
-    let octets = octets_left(reader);
     room.clear();
-    room.reserve(operations.len())?;
-    for operation in operations {
-        let number = number_of_bits(operation, octets, reader);
-        if !put_scalar(table, operation, number, room) {
-            return Ok(false);
+    room.reserve(entries.len())?;
+    for position in 0..entries.len() {
+        match entries.get(position) {
+            Some(scalar) => room.push_reserved(scalar),
+            None => return Ok(false),
         }
     }
     Ok(true)
 }
 
-/// Reads the entries of a container by its segment, which gives how many bits they have. None, where it has none, or the segment
-/// doesn't tell.
-fn fill_segment<'a>(
-    table: &'a TypeTable,
+/// Reads the entries of a container, and gives how many bits they have. None, where it isn't made of scalars alone, or the bits
+/// of one have no value.
+fn fill_entries<'a>(
     segments: &Segments<'a>,
     id: TypeId,
-    reader: &BitReader<'_>,
+    view: BitView<'_>,
     room: &mut Vec<Scalar<'a>>,
 ) -> Result<Option<u32>, Memory>
-    requires segments { segments.now ≡ table.now }
-    requires known { id.0 < length table.now }
-    requires clear { IsClear table.now id.0 }
-    ensures size { IfOk result (λ o. IfSome o (λ n. n ≤ length (bits_left reader.now))) }
-    ensures value { IfOk result (λ o. IfSome o (λ n. Spells table.now id.0 (fields id.0 (plains_of (map plain_of room.new.items))) (take n (bits_left reader.now)))) }
+    requires known { id.0 < length segments.now }
+    requires clear { IsClear segments.now id.0 }
+    ensures size { IfOk result (λ o. IfSome o (λ n. n ≤ length (view_bits view.entry))) }
+    ensures value { IfOk result (λ o. IfSome o (λ n. Spells segments.now id.0 (fields id.0 (plains_of (map plain_of room.new.items))) (take n (view_bits view.entry)))) }
 {
-    table.keeps_rules();
-    reading_is_exact();
-    let Some(segment) = segments.find(id) else {
+    let Some((entries, bits)) = entries_by(segments, id, view) else {
         return Ok(None);
     };
-    if reader.left() < u64::from(segment.bits) {
-        return Ok(None);
-    }
-    if fill(table, segment.operations.as_slice(), reader, room)? {
-        Ok(Some(segment.bits))
+    if fill(&entries, room)? {
+        Ok(Some(bits))
     } else {
         Ok(None)
     }
@@ -132,7 +114,7 @@ fn fits<'a>(
     template: &Template,
     id: TypeId,
     member: TypeId,
-    reader: &BitReader<'_>,
+    reader: &BitReader<'a>,
     room: &mut Vec<Scalar<'a>>,
 ) -> Result<bool, Memory>
     requires template { IsTemplateOf table.now member.0 template.now }
@@ -157,7 +139,7 @@ pub(crate) fn fill_template<'a>(
     table: &'a TypeTable,
     segments: &Segments<'a>,
     id: TypeId,
-    reader: &BitReader<'_>,
+    reader: &BitReader<'a>,
     room: &mut Vec<Scalar<'a>>,
 ) -> Result<Option<(TypeId, u32)>, Memory>
     requires segments { segments.now ≡ table.now }
@@ -179,12 +161,13 @@ pub(crate) fn fill_template<'a>(
 
 /// Reads the value of a container that the bits of a view begin with into a room, one scalar for each entry, in place of what
 /// is there, and gives which container it is, at or under the type, and its size in bits. None, where the container isn't made of
-/// scalars at fixed places alone, or the bits aren't those of such a value: then what is in the room means nothing, and `unpack_by`
-/// tells. The room grows to the most entries of a container that is read into it, and takes no memory after that.
+/// scalars and texts of fixed size at fixed places alone, the bits aren't those of such a value, or one of its texts has octets
+/// above 127: then what is in the room means nothing, and `unpack_by` tells. The room grows to the most entries of a container that
+/// is read into it, and takes no memory after that. Texts stand in it as they stand in the view, up to their termination octets.
 pub fn scalars_by<'a>(
     segments: &Segments<'a>,
     id: TypeId,
-    view: BitView,
+    view: BitView<'a>,
     room: &mut Vec<Scalar<'a>>,
 ) -> Result<Option<(TypeId, u32)>, Memory>
     requires known { id.0 < length segments.now }
@@ -194,7 +177,7 @@ pub fn scalars_by<'a>(
 {
     let table = segments.table();
     let reader = BitReader::new(view);
-    match fill_segment(table, segments, id, &reader, room)? {
+    match fill_entries(segments, id, view, room)? {
         Some(bits) => Ok(Some((id, bits))),
         None => fill_template(table, segments, id, &reader, room),
     }

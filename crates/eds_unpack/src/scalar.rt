@@ -1,4 +1,4 @@
-//! Numbers, labels and truth values, and reading them.
+//! Numbers, labels, truth values and texts, and reading them.
 
 ghost use Rattle.std.specs.Prelude.{◌≡◌, [], Ok, IfErr, IfOk};
 ghost use Rattle.eds_bits.specs.IntForms.{number_of};
@@ -16,7 +16,7 @@ use eds_bits::{BitReader, BoolForm, IntForm};
 use eds_types::{Listing, Value};
 use std::alloc::Global;
 
-/// A number, a label as its type lists it, or a truth value.
+/// A number, a label as its type lists it, a truth value or a text.
 #[derive(Clone, Copy)]
 pub enum Scalar<'a> {
     Num(i64),
@@ -24,6 +24,8 @@ pub enum Scalar<'a> {
     Large(u64),
     Label(&'a str),
     Bool(bool),
+    /// A text, lent from the octets that hold it.
+    Text(&'a str),
 }
 
 /// The value of a scalar.
@@ -36,6 +38,7 @@ pub(crate) fn value_of(alloc: Global, scalar: Scalar<'_>) -> Result<Value, Memor
         Scalar::Large(number) => Ok(Value::Num(i128::from(number))),
         Scalar::Label(label) => Ok(Value::Label(Text::of(alloc, label)?)),
         Scalar::Bool(truth) => Ok(Value::Bool(truth)),
+        Scalar::Text(text) => Ok(Value::Text(Text::of(alloc, text)?)),
     }
 }
 

@@ -23,11 +23,26 @@ pub(crate) struct Numbers {
     pub high: i64,
 }
 
+/// So many decimal digits of so many bits each, the first one first, where their numbers from `low` to `high` are of the
+/// domain.
+#[derive(Clone, Copy)]
+pub(crate) struct Digits {
+    pub digit_bits: u32,
+    pub digits: u32,
+    pub low: i64,
+    pub high: i64,
+    pub ghost wide: { 4 ≤ digit_bits },
+    pub ghost narrow: { digit_bits ≤ 8 },
+    pub ghost few: { digit_bits * digits ≤ 64 },
+}
+
 /// How the bits of an entry make its value.
 #[derive(Clone, Copy)]
 pub(crate) enum Meaning {
     /// They are a number.
     Number(Numbers),
+    /// They are the decimal digits of a number.
+    Digits(Digits),
     /// They are the number of a label, which the row of the type lists.
     Label(Coding),
     /// They are a truth value: whether all bits zero are false.

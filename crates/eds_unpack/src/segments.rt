@@ -37,8 +37,8 @@ fn size_at(sizes: &[Option<u128>], id: TypeId) -> Option<u128>
 }
 
 /// The scalars that the containers of a table begin with as lists of operations, made ready to read many values of any of its
-/// types (`unpack_by`). With them are the operations of scalar types, the templates of containers that have scalars alone, and the
-/// selectors of containers with large families. It refers to its table.
+/// types (`unpack_by`). With them are the operations of scalar types, the templates of containers that have scalars and texts of
+/// fixed size alone, and the selectors of containers with large families. It refers to its table.
 #[derive(Drop)]
 pub struct Segments<'a> {
     table: &'a TypeTable,

@@ -1,19 +1,19 @@
-//! Templates: containers all of whose parts are scalars, which so stand at fixed places.
+//! Templates: containers all of whose parts are scalars and texts of fixed size, which so stand at fixed places.
 
-ghost use Rattle.std.specs.Prelude.{◌≡◌, ◌==◌, ◌&&◌, ◌^◌, ◌≤◌, ◌++◌, Some, length, nat_abs, true, IfOk, IfSome, OnOk};
+ghost use Rattle.std.specs.Prelude.{◌≡◌, ◌==◌, ◌&&◌, ◌^◌, ◌≤◌, ◌++◌, Some, nat_abs, true, IfOk, IfSome, OnOk};
 ghost use Rattle.eds_types.specs.Fields.{part_at};
-ghost use Rattle.eds_types.specs.Rows.{family, is_concrete};
+ghost use Rattle.eds_types.specs.Rows.{Table, family, is_concrete};
 ghost use Rattle.eds_unpack.specs.Straight.{is_only};
 ghost use Rattle.eds_unpack.specs.Segments.{IsOperation};
-ghost use Rattle.eds_unpack.specs.Templates.{AreKeys, AreTemplateParts, AreTemplates, IsNear, IsPartAt, IsTemplateOf, IsTemplatePart, kept, role_of};
+ghost use Rattle.eds_unpack.specs.Templates.{AreKeys, AreTemplateParts, AreTemplates, IsSmall, IsOfType, IsPartAt, IsTemplateOf, IsTemplatePart, begin_of, kept, role_of, size_of, use_of};
 
 use crate::operations::operation_of_type;
 use crate::segment::Operation;
 use crate::selector::Selector;
 use crate::straight::is_only;
 use eds_base::{Memory, TypeId};
-use eds_bits::CheckKind;
-use eds_types::{Chain, Part, TypeTable};
+use eds_bits::{CheckKind, TextForm};
+use eds_types::{Chain, Kind, Part, TypeTable};
 use std::alloc::Global;
 
 /// What is done with the value of a part.
@@ -27,11 +27,53 @@ pub(crate) enum Role {
     Check(CheckKind),
 }
 
-/// A part at a fixed place, and what is done with its value.
+/// An entry of a text of fixed size that begins with an octet: its type, that octet of the container, and the form of the text.
 #[derive(Clone, Copy)]
-pub(crate) struct TemplatePart {
-    pub operation: Operation,
-    pub role: Role,
+pub(crate) struct TextPart {
+    pub id: TypeId,
+    pub first: u32,
+    pub form: TextForm,
+}
+
+/// A part at a fixed place.
+#[derive(Clone, Copy)]
+pub(crate) enum TemplatePart {
+    /// A scalar, and what is done with its value.
+    Scalar(Operation, Role),
+    /// A text, which is the value of a field.
+    Text(TextPart),
+}
+
+impl TemplatePart {
+    /// How many bits it has.
+    fn bits(&self) -> u32
+        ensures { result ≡ size_of self.now }
+    {
+        match self {
+            TemplatePart::Scalar(operation, _) => operation.bits,
+            TemplatePart::Text(text) => 8 * text.form.length,
+        }
+    }
+
+    /// What is done with its value.
+    fn role(&self) -> Role
+        ensures { result ≡ use_of self.now }
+    {
+        match self {
+            TemplatePart::Scalar(_, role) => *role,
+            TemplatePart::Text(_) => Role::Field,
+        }
+    }
+
+    /// The operation of a scalar.
+    fn operation(&self) -> Option<Operation>
+        ensures { (t : Table) → IsOfType t self.now → IfSome result (IsOperation t) }
+    {
+        match self {
+            TemplatePart::Scalar(operation, _) => Some(*operation),
+            TemplatePart::Text(_) => None,
+        }
+    }
 }
 
 /// A container from which no other one derives: its chain, all parts in the order of their bits, where those of them stand that
@@ -51,6 +93,9 @@ const MOST_PARTS: usize = 1024;
 /// of many parts.
 const MOST_IN_ALL: usize = 65_536;
 
+/// The most bits that a container with a template has, which are the most that a value has.
+const MOST_BITS: u32 = 524_288;
+
 /// Whether a number by which a length entry tells octets is small.
 fn is_near(number: i64) -> bool
     ensures { result ≡ true → nat_abs number ≤ 2 ^ 32 }
@@ -61,7 +106,7 @@ fn is_near(number: i64) -> bool
 /// What is done with the value of a part, where a template can do it.
 fn role_of(part: &Part) -> Option<Role>
     ensures role { IfSome result (λ r. role_of part.now ≡ Some r) }
-    ensures near { IfSome result IsNear }
+    ensures near { IfSome result IsSmall }
 {
     match part {
         Part::Plain(..) => Some(Role::Field),
@@ -71,23 +116,48 @@ fn role_of(part: &Part) -> Option<Role>
     }
 }
 
-/// The part of a template, from one bit on, that is a part of a container, if that is a scalar and eight octets hold it.
+/// The part of a template that is an entry, from one bit on, if that is a text of fixed size and begins with an octet.
+fn text_part(table: &TypeTable, at: u32, part: &Part) -> Option<TemplatePart>
+    ensures place { IfSome result (λ x. begin_of x ≡ at) }
+    ensures few { IfSome result (λ x. size_of x ≤ MOST_BITS) }
+    ensures is { IfSome result (IsTemplatePart table.now part.now) }
+{
+    let Part::Plain(_, id) = part else {
+        return None;
+    };
+    if at % 8 != 0 || id.0 >= table.len() {
+        return None;
+    }
+    match &table.row(*id).kind {
+        Kind::Str(form) if form.fixed => Some(TemplatePart::Text(TextPart {
+            id: *id,
+            first: at / 8,
+            form: *form,
+        })),
+        _ => None,
+    }
+}
+
+/// The part of a template, from one bit on, that is a part of a container, if that is a scalar and eight octets hold it, or such
+/// a text.
 fn template_part(table: &TypeTable, at: u32, part: &Part) -> Option<TemplatePart>
     requires { at ≤ 2 ^ 24 }
-    ensures place { IfSome result (λ x. x.operation.at ≡ at) }
-    ensures few { IfSome result (λ x. x.operation.bits ≤ 64) }
+    ensures place { IfSome result (λ x. begin_of x ≡ at) }
+    ensures few { IfSome result (λ x. size_of x ≤ MOST_BITS) }
     ensures is { IfSome result (IsTemplatePart table.now part.now) }
 {
     let role = role_of(part)?;
-    let operation = operation_of_type(table, at, part.type_id()?)?;
-    Some(TemplatePart { operation, role })
+    match operation_of_type(table, at, part.type_id()?) {
+        Some(operation) => Some(TemplatePart::Scalar(operation, role)),
+        None => text_part(table, at, part),
+    }
 }
 
 /// The same of the part at a place, if it is there.
 fn template_part_at(table: &TypeTable, at: u32, place: (TypeId, u16)) -> Option<TemplatePart>
     requires { at ≤ 2 ^ 24 }
-    ensures place { IfSome result (λ x. x.operation.at ≡ at) }
-    ensures few { IfSome result (λ x. x.operation.bits ≤ 64) }
+    ensures place { IfSome result (λ x. begin_of x ≡ at) }
+    ensures few { IfSome result (λ x. size_of x ≤ MOST_BITS) }
     ensures is { IfSome result (IsPartAt table.now (part_at table.now place)) }
 {
     template_part(table, at, table.part_at(place.0, place.1)?)
@@ -107,14 +177,14 @@ fn put_place(
     }
 }
 
-/// A template of a chain with the parts at some places, if each of them is a scalar that eight octets hold.
+/// A template of a chain with the parts at some places, if each of them is a scalar that eight octets hold, or a text of fixed size
+/// that begins with an octet, and they have no more bits than a value has.
 fn template_by(
     alloc: Global,
     table: &TypeTable,
     chain: Chain,
     all: &[(TypeId, u16)],
 ) -> Result<Option<Template>, Memory>
-    requires { length all.now ≤ 1024 }
     ensures chain { IfOk result (λ o. IfSome o (λ m. m.chain ≡ chain)) }
     ensures parts { IfOk result (λ o. IfSome o (λ m. AreTemplateParts table.now 0 m.bits all.now m.parts.items m.places.items)) }
 {
@@ -125,8 +195,11 @@ fn template_by(
         let Some(part) = template_part_at(table, bits, *place) else {
             return Ok(None);
         };
-        put_place(&mut places, part.role, *place)?;
-        bits += part.operation.bits;
+        put_place(&mut places, part.role(), *place)?;
+        bits += part.bits();
+        if bits > MOST_BITS {
+            return Ok(None);
+        }
         parts.push(part)?;
     }
     Ok(Some(Template {
@@ -228,7 +301,8 @@ pub(crate) fn is_step(place: (TypeId, u16), step: (TypeId, u16)) -> bool
 /// How far behind a container's first bit the entry of a key ends at most, in bits.
 const FAR: u32 = 1024;
 
-/// The operation of the entry to which a step leads, if all entries of some containers before it are scalars.
+/// The operation of the entry to which a step leads, if it is a scalar and all entries of some containers before it are parts of
+/// templates.
 fn entry_operation(
     table: &TypeTable,
     containers: &[TypeId],
@@ -240,11 +314,11 @@ fn entry_operation(
     for id in containers {
         let mut place = 0;
         for part in table.entries_of(*id) {
-            let operation = template_part(table, bits, part)?.operation;
+            let part = template_part(table, bits, part)?;
             if is_step((*id, place), step) {
-                return Some(operation);
+                return part.operation();
             }
-            bits += operation.bits;
+            bits += part.bits();
             if bits > FAR {
                 return None;
             }

@@ -56,10 +56,10 @@ pub(crate) fn number_ahead(at: u64, bits: u32, reader: &BitReader<'_>) -> u64
     }
 }
 
-/// The octets that are left, or fewer than eight where the reader stands within an octet.
+/// The octets that are left, or none where the reader stands within an octet.
 #[inline(always)]
 pub(crate) fn octets_left<'a>(reader: &BitReader<'a>) -> &'a [u8]
-    ensures { 8 ≤ length result.now → bits_left reader.now ≡ bits_of result.now }
+    ensures { 1 ≤ length result.now → bits_left reader.now ≡ bits_of result.now }
 {
     match reader.octets() {
         Some(octets) => octets,

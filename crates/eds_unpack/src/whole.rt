@@ -13,7 +13,7 @@ ghost use Rattle.eds_unpack.specs.Answers.{IsOfReading, IsValue, IsFault, IfFaul
 ghost use Rattle.eds_unpack.specs.Readers.{Gives, StopsReading, sized, with_path};
 ghost use Rattle.eds_unpack.specs.Scalars.{plain_of};
 
-use crate::fault::{FaultRoom, stop_in};
+use crate::fault::{FaultRoom, forget, stop_in};
 use crate::read::{Level, read_value};
 use crate::room::fill_template;
 use crate::scalar::{Scalar, value_of};
@@ -64,11 +64,11 @@ fn values_of(alloc: Global, room: &[Scalar<'_>]) -> Result<Vec<Value>, Memory>
 
 /// The value of a container that the bits of a view begin with, and how many bits it takes, by a template. None, where none
 /// tells.
-fn template_front(
+fn template_front<'a>(
     alloc: Global,
-    segments: &Segments<'_>,
+    segments: &Segments<'a>,
     id: TypeId,
-    view: BitView,
+    view: BitView<'a>,
 ) -> Result<Option<(Value, u32)>, Memory>
     requires known { id.0 < length segments.now }
     requires clear { IsClear segments.now id.0 }
@@ -87,8 +87,8 @@ fn template_front(
 }
 
 /// The value that the bits of a view begin with, and how many bits it takes, or the reason for which reading fails, with the
-/// path to where it does.
-fn read_front(
+/// path to where it does, by the reader that knows both.
+fn read_exactly(
     alloc: Global,
     table: &TypeTable,
     segments: &Segments<'_>,
@@ -107,12 +107,6 @@ fn read_front(
 {
     table.keeps_rules();
     reading_is_exact();
-    if let Some(found) = straight_front(alloc, table, segments, id, view)? {
-        return Ok(found);
-    }
-    if let Some(found) = template_front(alloc, segments, id, view)? {
-        return Ok(found);
-    }
     let mut reader = BitReader::new(view);
     let all = reader.left();
     let level = Level {
@@ -125,6 +119,65 @@ fn read_front(
     let left = reader.left();
     let bits = (all - left) as u32;
     Ok((value, bits))
+}
+
+/// The same, by a segment or a template where one tells.
+fn read_front(
+    alloc: Global,
+    table: &TypeTable,
+    segments: &Segments<'_>,
+    id: TypeId,
+    view: BitView,
+    path: &mut Path,
+) -> Result<(Value, u32), Fail<Reason>>
+    requires segments { segments.now ≡ table.now }
+    requires known { id.0 < length table.now }
+    requires clear { IsClear table.now id.0 }
+    requires most { length (view_bits view) ≤ 524288 }
+    requires root { path.old ≡ [] }
+    ensures gives { Gives (λ x. (plain x.0, x.1)) (with_path path.new result) (sized (view_bits view.entry) (read_type table.now id.0 (view_bits view.entry))) }
+    ensures calm { OnOk result (path.new ≡ []) }
+    ensures reason { IfErr result StopsReading }
+{
+    if let Some(found) = straight_front(alloc, table, segments, id, view)? {
+        return Ok(found);
+    }
+    if let Some(found) = template_front(alloc, segments, id, view)? {
+        return Ok(found);
+    }
+    read_exactly(alloc, table, segments, id, view, path)
+}
+
+/// The value of a type that the bits of a view begin with, and how many bits it takes, exactly as `unpack` gives them, for a caller
+/// who has asked `scalars_by` before. None, where the bits spell none: then `unpack_in` tells why. What this answers is small, where
+/// an answer with a fault has room for its path, which is cleared and moved for each value. The room is that of `unpack_in`.
+pub fn value_by(
+    alloc: Global,
+    table: &TypeTable,
+    segments: &Segments<'_>,
+    id: TypeId,
+    view: BitView,
+    room: &mut FaultRoom,
+) -> Result<Option<(Value, u32)>, Memory>
+    requires segments { segments.now ≡ table.now }
+    requires known { id.0 < length table.now }
+    requires clear { IsClear table.now id.0 }
+    requires most { length (view_bits view) ≤ 524288 }
+    ensures size { IfOk result (λ o. IfSome o (λ x. x.1 ≤ length (view_bits view.entry))) }
+    ensures value { IfOk result (λ o. IfSome o (λ x. Spells table.now id.0 (plain x.0) (take x.1 (view_bits view.entry)))) }
+{
+    table.keeps_rules();
+    reading_is_exact();
+    match read_exactly(alloc, table, segments, id, view, &mut room.path) {
+        Ok(found) => Ok(Some(found)),
+        Err(stop) => {
+            forget(&mut room.path);
+            match stop {
+                Fail::Named(_) => Ok(None),
+                Fail::Memory => Err(Memory),
+            }
+        }
+    }
 }
 
 /// The value of a type that the bits of a view begin with, and how many bits it takes, exactly as `unpack` gives them, read by

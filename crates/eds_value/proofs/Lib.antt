@@ -12,6 +12,7 @@ pub mod Depths
 pub mod Near
 pub mod Levels
 pub mod Plains
+pub mod Positions
 pub mod Tokens
 pub mod Merged
 pub mod Sound

@@ -1,5 +1,5 @@
 -- Layouts: the texts between the values of a container's object.
-use Rattle.std.specs.Prelude.{◌≡◌, ◌<◌, ℕ, List, [], ◌∷◌, ◌++◌, length, get_or, All, Option, Some, None, slice_get}
+use Rattle.std.specs.Prelude.{◌≡◌, ◌<◌, ℕ, List, [], ◌∷◌, ◌++◌, length, map, get_or, All, Contains, Option, Some, None, slice_get}
 use Rattle.serde_json.specs.Data.{Data, null, string}
 use Rattle.serde_json.specs.Written.{compact_text}
 use Rattle.eds_types.specs.Rows.{Table}
@@ -22,9 +22,15 @@ pieces_text ds (p ∷ ps) = p.text ++ (compact_text (get_or ds p.position null) 
 abbrev pub laid_text : List Data → Layout → List ℕ
 laid_text ds l = pieces_text ds l.pieces.items ++ l.end
 
--- it is that of a container: with any values, one for each entry, it has the text of the container's object
+-- the value at the position is one of those that stand in the text
+abbrev pub HasPosition : List Piece → ℕ → Type 0
+HasPosition ps i = Contains (map (λ (p : Piece). p.position) ps) i
+
+-- it is that of a container: with any values, one for each entry, it has the text of the container's object, in which each value
+-- stands
 pub record IsLayoutOf (t : Table) (id : ℕ) (l : Layout) : Type 0 where
   pub within : All (λ (p : Piece). p.position < l.count) l.pieces.items
+  pub each : (i : ℕ) → i < l.count → HasPosition l.pieces.items i
   pub text : (ds : List Data) → length ds ≡ l.count → laid_text ds l ≡ compact_text (fields_data (type_name t id) (entries_along t id) ds)
 
 -- each layout is that of the container whose number is its place

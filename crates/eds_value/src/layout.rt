@@ -1,11 +1,11 @@
 //! How the object of a container is written: its names in order, and the texts between its values.
 
-ghost use Rattle.std.specs.Prelude.{◌≡◌, ◌<◌, ◌++◌, ◌∷◌, ℕ, List, [], All, IfOk, IfSome, OnOk, codes, length, map, string_bytes};
+ghost use Rattle.std.specs.Prelude.{◌≡◌, ◌<◌, ◌++◌, ◌∷◌, ◌⊎◌, ℕ, List, [], All, Contains, Some, IfOk, IfSome, OnOk, codes, length, map, string_bytes};
 ghost use Rattle.json.specs.Print.{quoted};
 ghost use Rattle.serde_json.specs.Data.{Data, no_members, object, put, string};
 ghost use Rattle.serde_json.specs.Written.{comma_if, compact_text};
 ghost use Rattle.eds_value.specs.JsonOfValue.{with_values};
-ghost use Rattle.eds_value.specs.Layouts.{IsLayoutOf, content_at, laid_text, pieces_text};
+ghost use Rattle.eds_value.specs.Layouts.{HasPosition, IsLayoutOf, content_at, laid_text, pieces_text};
 ghost use Rattle.eds_value.specs.Members.{in_order_by, put_all_by};
 ghost use Rattle.eds_value.specs.Seen.{seen};
 
@@ -43,6 +43,7 @@ type Slot<'a> = Member<'a, Option<usize>>;
 // The names of a container's object, in the order of the entries.
 fn slots_of<'a>(alloc: Global, entries: &[Entry<'a>]) -> Result<Vec<Slot<'a>>, Memory>
     ensures within { IfOk result (λ ms. All (λ m. IfSome m.content (λ i. i < length entries.now)) ms.items) }
+    ensures each { IfOk result (λ ms. (i : ℕ) → i < length entries.now → Contains (map (λ m. m.content) ms.items) (Some i)) }
     ensures put { IfOk result (λ ms. (name : List ℕ) (ds : List Data) → length ds ≡ length entries.now → put_all_by (content_at name ds) ms.items no_members ≡ with_values (map seen entries.now) ds (put (codes "$type") (string name) no_members)) }
 {
     let mut slots = Vec::with_capacity(alloc, entries.len().saturating_add(1))?;
@@ -70,6 +71,7 @@ fn push_slot(
     text: &mut String,
 ) -> Result<(), Memory>
     ensures within { OnOk result ((n : ℕ) → IfSome slot.now.content (λ i. i < n) → All (λ p. p.position < n) pieces.old.items → All (λ p. p.position < n) pieces.new.items) }
+    ensures each { OnOk result ((i : ℕ) → HasPosition pieces.old.items i ⊎ (slot.now.content ≡ Some i) → HasPosition pieces.new.items i) }
     ensures text { OnOk result ((ds : List Data) (rest : List ℕ) → pieces_text ds pieces.new.items ++ (string_bytes text.new ++ rest) ≡ pieces_text ds pieces.old.items ++ (string_bytes text.old ++ (comma_if later ++ (quoted slot.now.name.now ++ 58 ∷ (compact_text (content_at own_name.now ds slot.now.content) ++ rest))))) }
 {
     push_comma(later, text)?;
@@ -98,6 +100,7 @@ fn laid_out(
     requires { All (λ m. IfSome m.content (λ i. i < count)) slots.now }
     ensures count { IfOk result (λ l. l.count ≡ count) }
     ensures within { IfOk result (λ l. All (λ p. p.position < count) l.pieces.items) }
+    ensures each { IfOk result (λ l. (i : ℕ) → Contains (map (λ m. m.content) slots.now) (Some i) → HasPosition l.pieces.items i) }
     ensures text { IfOk result (λ l. (ds : List Data) → laid_text ds l ≡ compact_text (object (in_order_by (content_at own_name.now ds) slots.now))) }
 {
     let mut pieces = Vec::with_capacity(alloc, slots.len())?;

@@ -14,11 +14,11 @@ loop-at-preserved c =
     let at = c.loop-at.at in
     let old = string_bytes c.loop-at.report in
     let got : TakesPacket type (drop at octets) c.match-taken.size old (string_bytes c.match-taken.report) = elim c.match-taken.branch [
-      | in-Some w ↦ rw (w.size-is, w.report-is) (subst (λ x. TakesPacket type x w.in-Some.size old (string_bytes c.take_scalars.new.report)) (take-rest octets at) (rw w.in-Some.is at c.in_ok-taken.ensures.line))
+      | in-Some w ↦ rw (w.size-is, w.report-is) (subst (λ x. TakesPacket type x w.in-Some.size old (string_bytes c.take_value.new.report)) (take-rest octets at) (rw w.in-Some.is at c.in_ok-taken.ensures.line))
       | in-None+in-Ok w ↦
-          let same : string_bytes c.take_scalars.new.report ≡ old = rw w.in-None.is at c.in_ok-taken.ensures.none in
+          let same : string_bytes c.take_value.new.report ≡ old = rw w.in-None.is at c.in_ok-taken.ensures.none in
           rw (w.size-is, w.report-is) (subst (λ o. TakesPacket type (drop at octets) w.in-Ok.size o (string_bytes w.take_packet.new.report)) same
-          (subst (λ x. TakesPacket type x w.in-Ok.size (string_bytes c.take_scalars.new.report) (string_bytes w.take_packet.new.report)) (take-rest octets at) w.in-Ok.ensures.line))
+          (subst (λ x. TakesPacket type x w.in-Ok.size (string_bytes c.take_value.new.report) (string_bytes w.take_packet.new.report)) (take-rest octets at) w.in-Ok.ensures.line))
     ] in
     cut_to_more type octets at c.loop-at.packets c.match-taken.size old (string_bytes c.match-taken.report) c.loop-at.invariant got
 

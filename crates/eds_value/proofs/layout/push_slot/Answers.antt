@@ -4,6 +4,7 @@ use Rattle.serde_json.specs.Data.{null}
 use Rattle.serde_json.specs.Written.{comma_if, compact_text}
 use Rattle.eds_value.specs.Layouts.{content_at, pieces_text}
 use Rattle.eds_value.proofs.Pieces.{joined, piece_put, three_put}
+use Rattle.eds_value.proofs.Positions.{position_put}
 use Rattle.eds_value.proofs.layout.push_slot.Goals as goal
 
 pub returns-in_ok-push-in-Some-clause-text : goal.returns-in_ok-push-in-Some-clause-text
@@ -23,3 +24,6 @@ returns-in_ok-push-in-Some-clause-text c ds rest =
     let at : compact_text (get_or ds c.in-Some.position null) ≡ compact_text (content_at own ds slot.content) = ap (λ o. compact_text (content_at own ds o)) (sym c.in-Some.is) in
     ap (λ (s : List ℕ). pieces_text ds c.push.new.self.items ++ (s ++ rest)) empty ∙ piece_put ds ps c.push.new.self.items _ rest c.in_ok-push-in-Some.ensures.items
     ∙ joined (pieces_text ds ps) c.in_ok-before-in-Some.before (string_bytes c.args.text.now) (comma_if c.args.later) (quoted slot.name.now) _ _ rest text at
+
+pub returns-in_ok-push-in-Some-clause-each : goal.returns-in_ok-push-in-Some-clause-each
+returns-in_ok-push-in-Some-clause-each c i h = position_put c.args.pieces.now.items c.push.new.self.items _ c.args.slot.now.content i c.in_ok-push-in-Some.ensures.items c.in-Some.is h

@@ -1,7 +1,7 @@
 use Rattle.std.proofs.Common.{arith}
 use Rattle.eds_bits.specs.Reader.{bits_left}
 use Rattle.eds_unpack.proofs.Fronts.{readable, no_longer}
-use Rattle.eds_unpack.proofs.whole.read_front.Goals as goal
+use Rattle.eds_unpack.proofs.whole.read_exactly.Goals as goal
 
 pub overflow_sub-bits : goal.overflow_sub-bits
 overflow_sub-bits c =
