@@ -9,7 +9,7 @@ ghost use Rattle.eds_unpack.specs.Scalars.{plain_of};
 
 use crate::meaning::{scalar_at, whole_number};
 use crate::scalar::Scalar;
-use crate::segment::Operation;
+use crate::segment::{Meaning, Operation};
 use crate::segments::Segments;
 use crate::values::{number_of_bits, octets_left};
 use eds_base::TypeId;
@@ -62,6 +62,10 @@ impl<'v, 'a> Entries<'v, 'a> {
         ensures { IfSome result (λ n. slice_get self.now position ≡ Some (Some (num n))) }
     {
         let operation = self.operations.get(position)?;
+        // the bits of an entry of another encoding are loaded once, by `get`
+        let Meaning::Number(_) = operation.meaning else {
+            return None;
+        };
         let number = number_of_bits(operation, self.octets, &self.reader);
         whole_number(self.table, operation, number)
     }

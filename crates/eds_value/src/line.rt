@@ -281,6 +281,7 @@ impl Line {
     }
 
     /// Puts a text first as a string of JSON.
+    #[inline(always)]
     pub fn put_quoted(&mut self, alloc: Global, text: &str) -> Result<(), Memory>
         ensures { OnOk result (self.new ≡ quoted text.now ++ self.old) }
     {
