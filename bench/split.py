@@ -1,11 +1,12 @@
 #!/usr/bin/env python3
 """Measures `split` on recordings, beside programs written by hand in Rust that print the same lines.
 
-  bench/split.py [PROGRAM]
+  bench/split.py [--turns N] [PROGRAM]
 
 PROGRAM (by default crates/eds_prog/out/eds_prog) and the programs of packets.rs and kinds.rs, built here by `rustc -O`, split
-the same recording; what they print has to agree octet by octet. The time is the least processor time of some turns, in which
-the programs take turns, and the memory the most that a process was seen to hold.
+the same recording; what they print has to agree octet by octet. The time is the least processor time of N turns (by default 5),
+in which the programs take turns, with the ratio of the medians beside it, and the memory the most that a process was seen to
+hold. On a machine that shares its processors with others, five turns are too few.
 
   scalars    packets of twenty scalars (packets.rs), as many as a report takes: with `write!`, and with digits put one by one
   kinds      telemetry packets of 64 kinds, with a length and a check (below)
@@ -18,11 +19,13 @@ CRC16_CCITT. The bodies: 0, a number of 16 bits and one in two's complement; 1, 
 complement; 2, a mode of 8 bits and a number of 32; 3, eight letters and a number of 8 bits.
 """
 
+import argparse
 import binascii
 import json
 import os
 import random
 import re
+import statistics
 import struct
 import subprocess
 import sys
@@ -30,7 +33,6 @@ import tempfile
 import time
 
 HERE = os.path.dirname(os.path.abspath(__file__))
-TURNS = 5
 SCALARS, KINDS, OCTETS = 193_000, 400_000, 16_777_216
 
 
@@ -135,10 +137,10 @@ def run(words, folder):
     return seconds, most / 1024, status, printed
 
 
-def measure(title, folder, commands, status=0):
+def measure(title, folder, turns, commands, status=0):
     """Prints the least time and the most memory of each command, and the ratio of the first one to each."""
     times, memory = {name: [] for name in commands}, {}
-    for _ in range(TURNS):
+    for _ in range(turns):
         printed = set()
         for name, words in commands.items():
             seconds, most, ended, text = run(words, folder)
@@ -150,13 +152,18 @@ def measure(title, folder, commands, status=0):
         if len(printed) != 1:
             sys.exit(f"{title}: what is printed differs")
     print(f"{title}: {len(printed.pop()):,} octets printed")
-    ours = min(times["eds"])
+    least, middle = min(times["eds"]), statistics.median(times["eds"])
     for name, taken in times.items():
-        print(f"  {name}: {min(taken) * 1000:.0f} ms, {memory[name]:.1f} MiB; eds takes {ours / min(taken):.2f} times as long")
+        ratios = f"{least / min(taken):.2f} times as long, by the medians {middle / statistics.median(taken):.2f}"
+        print(f"  {name}: {min(taken) * 1000:.0f} ms, {memory[name]:.1f} MiB; eds takes {ratios}")
 
 
 def main():
-    ours = sys.argv[1] if sys.argv[1:] else "crates/eds_prog/out/eds_prog"
+    words = argparse.ArgumentParser()
+    words.add_argument("--turns", type=int, default=5)
+    words.add_argument("program", nargs="?", default="crates/eds_prog/out/eds_prog")
+    asked = words.parse_args()
+    ours, turns = asked.program, asked.turns
     with tempfile.TemporaryDirectory() as folder:
 
         def kept(name, content):
@@ -168,20 +175,20 @@ def main():
         packets, kinds = build(folder, "packets"), build(folder, "kinds")
         recording = os.path.join(folder, "scalars.bin")
         subprocess.run([packets, "make", str(SCALARS), recording], check=True)
-        measure("scalars", folder, {
+        measure("scalars", folder, turns, {
             "eds": [ours, "split", "Bench/Housekeeping", recording, kept("scalars.json", scalars_sheet())],
             "by hand with write!": [packets, "split", recording],
             "by hand with digits": [packets, "split-digits", recording],
         })
         recording = kept("kinds.bin", kinds_recording(KINDS))
-        measure("kinds", folder, {
+        measure("kinds", folder, turns, {
             "eds": [ours, "split", "Kinds/Packet", recording, kept("kinds.json", kinds_sheet())],
             "by hand with write!": [kinds, recording],
         })
         recording = kept("octets.bin", bytes(range(256)) * (OCTETS // 256))
         sheet = kept("octets.json", package("One", integer("U8", 8), ["ContainerDataType", {"name": "Octet"}, ["EntryList", entry("n", "U8")]]))
-        measure("octets", folder, {"eds": [ours, "split", "One/U8", recording, sheet]})
-        measure("past", folder, {"eds": [ours, "split", "One/Octet", recording, sheet]}, status=7)
+        measure("octets", folder, turns, {"eds": [ours, "split", "One/U8", recording, sheet]})
+        measure("past", folder, turns, {"eds": [ours, "split", "One/Octet", recording, sheet]}, status=7)
 
 
 if __name__ == "__main__":

@@ -10,6 +10,7 @@ mod limits;
 mod pack;
 mod packet;
 mod packet_line;
+mod packet_type;
 mod perform;
 mod report;
 mod run;

@@ -5,7 +5,7 @@ ghost use Rattle.std.specs.Bool.{OnTrue};
 ghost use Rattle.eds_bits.specs.Bits.{Bits};
 ghost use Rattle.eds_cmd.specs.Limits.{report_octets};
 ghost use Rattle.eds_cmd.specs.Split.{FailsFor, HoldsPacket, PutsLine, TakesPacket};
-ghost use Rattle.eds_cmd.specs.Target.{IsKnown, type_in};
+ghost use Rattle.eds_cmd.specs.Target.{type_in};
 ghost use Rattle.eds_types.specs.Plain.{Plain, plain};
 ghost use Rattle.eds_types.specs.Rows.{Table};
 ghost use Rattle.eds_types.specs.Spelling.{Spells};
@@ -15,12 +15,12 @@ ghost use Rattle.eds_value.specs.Layouts.{HasPosition, laid_text};
 
 use crate::limits::REPORT_OCTETS;
 use crate::packet::{entries_at, packet_at, scalars_at, value_at};
-use crate::target::Target;
+use crate::packet_type::PacketType;
 use eds_base::{Fail, Fault, Memory};
 use eds_overlap::law::canonical_spelling;
 use eds_types::Value;
-use eds_unpack::{Entries, FaultRoom, Scalar, Segments};
-use eds_value::{Layout, Layouts, Line, put_json};
+use eds_unpack::{Entries, FaultRoom, Scalar};
+use eds_value::{Layout, Line, put_json};
 use std::alloc::Global;
 
 /// What serves for one packet after another.
@@ -136,23 +136,21 @@ fn put_entries(
 // layout.
 fn push_entries(
     alloc: Global,
-    target: &Target<'_>,
-    segments: &Segments<'_>,
-    layouts: &Layouts<'_>,
+    packet_type: &PacketType<'_, '_>,
     octets: &[u8],
     line: &mut Line,
     report: &mut String,
 ) -> Result<Option<usize>, Memory>
-    requires segments { segments.now ≡ target.now.table.now }
-    requires layouts { layouts.now ≡ target.now.table.now }
-    requires known { IsKnown (type_in target.now) }
-    ensures line { IfOk result (λ o. IfSome o (λ size. PutsLine (type_in target.now) octets.now size (string_bytes report.old) (string_bytes report.new))) }
+    ensures line { IfOk result (λ o. IfSome o (λ size. PutsLine (type_in packet_type.now.target) octets.now size (string_bytes report.old) (string_bytes report.new))) }
     ensures none { IfOk result (λ o. IfNone o (string_bytes report.new ≡ string_bytes report.old)) }
 {
-    let Some((entries, size)) = entries_at(target, segments, octets) else {
+    let Some((entries, size)) = entries_at(packet_type, octets) else {
         return Ok(None);
     };
-    let Some(layout) = layouts.find(target.id, entries.len()) else {
+    let Some(layout) = packet_type
+        .layouts
+        .find(packet_type.target.id, entries.len())
+    else {
         return Ok(None);
     };
     line.clear();
@@ -168,23 +166,18 @@ fn push_entries(
 // nothing is put, where the packet isn't read so, or its container has no layout.
 fn push_scalars<'a>(
     alloc: Global,
-    target: &Target<'_>,
-    segments: &Segments<'a>,
-    layouts: &Layouts<'_>,
+    packet_type: &PacketType<'_, 'a>,
     octets: &'a [u8],
     rooms: &mut Rooms<'a>,
     report: &mut String,
 ) -> Result<Option<usize>, Memory>
-    requires segments { segments.now ≡ target.now.table.now }
-    requires layouts { layouts.now ≡ target.now.table.now }
-    requires known { IsKnown (type_in target.now) }
-    ensures line { IfOk result (λ o. IfSome o (λ size. PutsLine (type_in target.now) octets.now size (string_bytes report.old) (string_bytes report.new))) }
+    ensures line { IfOk result (λ o. IfSome o (λ size. PutsLine (type_in packet_type.now.target) octets.now size (string_bytes report.old) (string_bytes report.new))) }
     ensures none { IfOk result (λ o. IfNone o (string_bytes report.new ≡ string_bytes report.old)) }
 {
-    let Some((found, size)) = scalars_at(target, segments, octets, &mut rooms.scalars)? else {
+    let Some((found, size)) = scalars_at(packet_type, octets, &mut rooms.scalars)? else {
         return Ok(None);
     };
-    let Some(layout) = layouts.find(found, rooms.scalars.len()) else {
+    let Some(layout) = packet_type.layouts.find(found, rooms.scalars.len()) else {
         return Ok(None);
     };
     rooms.line.clear();
@@ -197,22 +190,20 @@ fn push_scalars<'a>(
 // Puts the line of a packet's value last.
 fn push_line(
     alloc: Global,
-    target: &Target<'_>,
-    layouts: &Layouts<'_>,
+    packet_type: &PacketType<'_, '_>,
     value: &Value,
     line: &mut Line,
     report: &mut String,
 ) -> Result<(), Memory>
-    requires layouts { layouts.now ≡ target.now.table.now }
-    requires known { IsKnown (type_in target.now) }
-    requires spelled { (bits : Bits) × Spells target.now.table.now target.now.id.0 (plain value.now) bits }
-    ensures { OnOk result (string_bytes report.new ≡ string_bytes report.old ++ (json_text target.now.table.now (plain value.now) ++ codes "\n")) }
+    requires spelled { (bits : Bits) × Spells packet_type.now.target.table.now packet_type.now.target.id.0 (plain value.now) bits }
+    ensures { OnOk result (string_bytes report.new ≡ string_bytes report.old ++ (json_text packet_type.now.target.table.now (plain value.now) ++ codes "\n")) }
 {
+    let target = packet_type.target;
     target.table.keeps_rules();
     canonical_spelling();
     line.clear();
     line.put_text("\n")?;
-    put_json(alloc, layouts, target.id, value, line)?;
+    put_json(alloc, packet_type.layouts, target.id, value, line)?;
     report.push_str(line.as_str())?;
     Ok(())
 }
@@ -228,22 +219,17 @@ fn is_within(report: &str) -> bool
 // it can't be read.
 fn push_value(
     alloc: Global,
-    target: &Target<'_>,
-    segments: &Segments<'_>,
-    layouts: &Layouts<'_>,
+    packet_type: &PacketType<'_, '_>,
     octets: &[u8],
     rooms: &mut Rooms<'_>,
     report: &mut String,
 ) -> Result<Option<usize>, Memory>
-    requires segments { segments.now ≡ target.now.table.now }
-    requires layouts { layouts.now ≡ target.now.table.now }
-    requires known { IsKnown (type_in target.now) }
-    ensures line { IfOk result (λ o. IfSome o (λ size. PutsLine (type_in target.now) octets.now size (string_bytes report.old) (string_bytes report.new))) }
+    ensures line { IfOk result (λ o. IfSome o (λ size. PutsLine (type_in packet_type.now.target) octets.now size (string_bytes report.old) (string_bytes report.new))) }
     ensures none { IfOk result (λ o. IfNone o (string_bytes report.new ≡ string_bytes report.old)) }
 {
-    match value_at(alloc, target, segments, octets, &mut rooms.fault)? {
+    match value_at(alloc, packet_type, octets, &mut rooms.fault)? {
         Some((value, size)) => {
-            push_line(alloc, target, layouts, &value, &mut rooms.line, report)?;
+            push_line(alloc, packet_type, &value, &mut rooms.line, report)?;
             Ok(Some(size))
         }
         None => Ok(None),
@@ -253,45 +239,37 @@ fn push_value(
 // Puts the line of a packet last, straight from its bits or from its scalars where that can be, and else from its value.
 fn push_read<'a>(
     alloc: Global,
-    target: &Target<'_>,
-    segments: &Segments<'a>,
-    layouts: &Layouts<'_>,
+    packet_type: &PacketType<'_, 'a>,
     octets: &'a [u8],
     rooms: &mut Rooms<'a>,
     report: &mut String,
 ) -> Result<Option<usize>, Memory>
-    requires segments { segments.now ≡ target.now.table.now }
-    requires layouts { layouts.now ≡ target.now.table.now }
-    requires known { IsKnown (type_in target.now) }
-    ensures line { IfOk result (λ o. IfSome o (λ size. PutsLine (type_in target.now) octets.now size (string_bytes report.old) (string_bytes report.new))) }
+    ensures line { IfOk result (λ o. IfSome o (λ size. PutsLine (type_in packet_type.now.target) octets.now size (string_bytes report.old) (string_bytes report.new))) }
     ensures none { IfOk result (λ o. IfNone o (string_bytes report.new ≡ string_bytes report.old)) }
 {
     let line = &mut rooms.line;
-    if let Some(size) = push_entries(alloc, target, segments, layouts, octets, line, report)? {
+    if let Some(size) = push_entries(alloc, packet_type, octets, line, report)? {
         return Ok(Some(size));
     }
-    if let Some(size) = push_scalars(alloc, target, segments, layouts, octets, rooms, report)? {
+    if let Some(size) = push_scalars(alloc, packet_type, octets, rooms, report)? {
         return Ok(Some(size));
     }
-    push_value(alloc, target, segments, layouts, octets, rooms, report)
+    push_value(alloc, packet_type, octets, rooms, report)
 }
 
 // How many octets the packet at the front of octets has. None, where it can't be read.
 fn size_at<'a>(
     alloc: Global,
-    target: &Target<'_>,
-    segments: &Segments<'a>,
+    packet_type: &PacketType<'_, 'a>,
     octets: &'a [u8],
     rooms: &mut Rooms<'a>,
 ) -> Result<Option<usize>, Memory>
-    requires segments { segments.now ≡ target.now.table.now }
-    requires known { IsKnown (type_in target.now) }
-    ensures { IfOk result (λ o. IfSome o (λ size. (v : Plain) × HoldsPacket (type_in target.now) v octets.now size)) }
+    ensures { IfOk result (λ o. IfSome o (λ size. (v : Plain) × HoldsPacket (type_in packet_type.now.target) v octets.now size)) }
 {
-    if let Some((_, size)) = scalars_at(target, segments, octets, &mut rooms.scalars)? {
+    if let Some((_, size)) = scalars_at(packet_type, octets, &mut rooms.scalars)? {
         return Ok(Some(size));
     }
-    match value_at(alloc, target, segments, octets, &mut rooms.fault)? {
+    match value_at(alloc, packet_type, octets, &mut rooms.fault)? {
         Some((_value, size)) => Ok(Some(size)),
         None => Ok(None),
     }
@@ -302,44 +280,34 @@ fn size_at<'a>(
 /// cleared and moved for each packet.
 pub fn take_value<'a>(
     alloc: Global,
-    target: &Target<'_>,
-    segments: &Segments<'a>,
-    layouts: &Layouts<'_>,
+    packet_type: &PacketType<'_, 'a>,
     octets: &'a [u8],
     rooms: &mut Rooms<'a>,
     report: &mut String,
 ) -> Result<Option<usize>, Memory>
-    requires segments { segments.now ≡ target.now.table.now }
-    requires layouts { layouts.now ≡ target.now.table.now }
-    requires known { IsKnown (type_in target.now) }
-    ensures line { IfOk result (λ o. IfSome o (λ size. TakesPacket (type_in target.now) octets.now size (string_bytes report.old) (string_bytes report.new))) }
+    ensures line { IfOk result (λ o. IfSome o (λ size. TakesPacket (type_in packet_type.now.target) octets.now size (string_bytes report.old) (string_bytes report.new))) }
     ensures none { IfOk result (λ o. IfNone o (string_bytes report.new ≡ string_bytes report.old)) }
 {
     if is_within(report) {
-        push_read(alloc, target, segments, layouts, octets, rooms, report)
+        push_read(alloc, packet_type, octets, rooms, report)
     } else {
-        size_at(alloc, target, segments, octets, rooms)
+        size_at(alloc, packet_type, octets, rooms)
     }
 }
 
 // Puts the line of JSON of the packet at the front of octets last, and gives how many octets the packet has.
 fn push_packet(
     alloc: Global,
-    target: &Target<'_>,
-    segments: &Segments<'_>,
-    layouts: &Layouts<'_>,
+    packet_type: &PacketType<'_, '_>,
     octets: &[u8],
     rooms: &mut Rooms<'_>,
     report: &mut String,
 ) -> Result<usize, Fail<Fault>>
-    requires segments { segments.now ≡ target.now.table.now }
-    requires layouts { layouts.now ≡ target.now.table.now }
-    requires known { IsKnown (type_in target.now) }
-    ensures line { IfOk result (λ size. PutsLine (type_in target.now) octets.now size (string_bytes report.old) (string_bytes report.new)) }
-    ensures fault { IfErr result (FailsFor (type_in target.now) octets.now) }
+    ensures line { IfOk result (λ size. PutsLine (type_in packet_type.now.target) octets.now size (string_bytes report.old) (string_bytes report.new)) }
+    ensures fault { IfErr result (FailsFor (type_in packet_type.now.target) octets.now) }
 {
-    let (value, size) = packet_at(alloc, target, segments, octets, &mut rooms.fault)?;
-    push_line(alloc, target, layouts, &value, &mut rooms.line, report)?;
+    let (value, size) = packet_at(alloc, packet_type, octets, &mut rooms.fault)?;
+    push_line(alloc, packet_type, &value, &mut rooms.line, report)?;
     Ok(size)
 }
 
@@ -347,22 +315,17 @@ fn push_packet(
 /// where the report is already longer than a report may be. The rooms serve for one packet after another.
 pub fn take_packet(
     alloc: Global,
-    target: &Target<'_>,
-    segments: &Segments<'_>,
-    layouts: &Layouts<'_>,
+    packet_type: &PacketType<'_, '_>,
     octets: &[u8],
     rooms: &mut Rooms<'_>,
     report: &mut String,
 ) -> Result<usize, Fail<Fault>>
-    requires segments { segments.now ≡ target.now.table.now }
-    requires layouts { layouts.now ≡ target.now.table.now }
-    requires known { IsKnown (type_in target.now) }
-    ensures line { IfOk result (λ size. TakesPacket (type_in target.now) octets.now size (string_bytes report.old) (string_bytes report.new)) }
-    ensures fault { IfErr result (FailsFor (type_in target.now) octets.now) }
+    ensures line { IfOk result (λ size. TakesPacket (type_in packet_type.now.target) octets.now size (string_bytes report.old) (string_bytes report.new)) }
+    ensures fault { IfErr result (FailsFor (type_in packet_type.now.target) octets.now) }
 {
     if is_within(report) {
-        return push_packet(alloc, target, segments, layouts, octets, rooms, report);
+        return push_packet(alloc, packet_type, octets, rooms, report);
     }
-    let (_, size) = packet_at(alloc, target, segments, octets, &mut rooms.fault)?;
+    let (_, size) = packet_at(alloc, packet_type, octets, &mut rooms.fault)?;
     Ok(size)
 }

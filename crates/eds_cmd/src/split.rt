@@ -7,6 +7,7 @@ ghost use Rattle.eds_cmd.specs.Target.{IsKnown, type_in};
 
 use crate::limits::PACKETS_OCTETS;
 use crate::packet_line::{Rooms, take_packet, take_value};
+use crate::packet_type::PacketType;
 use crate::stop::{Stop, packet_fault};
 use crate::target::Target;
 use eds_base::Fail;
@@ -32,32 +33,21 @@ pub fn split<'a>(alloc: Global, target: &Target<'a>, octets: &'a [u8]) -> Result
 {
     let segments = Segments::of(alloc, target.table)?;
     let layouts = Layouts::of(alloc, target.table)?;
+    let packet_type = PacketType {
+        target: *target,
+        segments: &segments,
+        layouts: &layouts,
+    };
     let mut rooms = Rooms::new(alloc);
     let mut report = String::new(alloc);
     let mut packets = 0u32;
     let mut at = 0usize;
     while at < octets.len() {
         let rest = &octets[at..];
-        let taken = take_value(
-            alloc,
-            target,
-            &segments,
-            &layouts,
-            rest,
-            &mut rooms,
-            &mut report,
-        )?;
+        let taken = take_value(alloc, &packet_type, rest, &mut rooms, &mut report)?;
         let size = match taken {
             Some(size) => size,
-            None => match take_packet(
-                alloc,
-                target,
-                &segments,
-                &layouts,
-                rest,
-                &mut rooms,
-                &mut report,
-            ) {
+            None => match take_packet(alloc, &packet_type, rest, &mut rooms, &mut report) {
                 Ok(size) => size,
                 Err(Fail::Named(fault)) => {
                     return Err(Fail::Named(packet_fault(alloc, target.table, packets + 1, fault)?));

@@ -11,23 +11,23 @@ use Rattle.eds_cmd.specs.Target.{type_in}
 use Rattle.eds_cmd.proofs.Splitting.{framing_for, packet_is}
 use Rattle.eds_cmd.proofs.packet.entries_at.Goals as goal
 
-pub new-requires : goal.new-requires
-new-requires c = let few = ap length c.window.ensures in omega (arith, few, length-take 65536 c.args.octets.now)
+pub new-view-requires : goal.new-view-requires
+new-view-requires c = let few = ap length c.window.ensures in omega (arith, few, length-take 65536 c.args.octets.now)
 
 pub entries_by-requires-clause-known : goal.entries_by-requires-clause-known
-entries_by-requires-clause-known c = subst (λ (t : Table). c.args.target.now.id.0 < length t) (sym c.requires.segments) c.requires.known.there
+entries_by-requires-clause-known c = subst (λ (t : Table). c.args.packet_type.now.target.id.0 < length t) (sym c.args.packet_type.now.read_by) c.args.packet_type.now.known.there
 
 pub entries_by-requires-clause-clear : goal.entries_by-requires-clause-clear
-entries_by-requires-clause-clear c = subst (λ (t : Table). IsClear t c.args.target.now.id.0) (sym c.requires.segments) c.requires.known.clear
+entries_by-requires-clause-clear c = subst (λ (t : Table). IsClear t c.args.packet_type.now.target.id.0) (sym c.args.packet_type.now.read_by) c.args.packet_type.now.known.clear
 
 pub returns-in-Some : goal.returns-in-Some
 returns-in-Some c vs e =
-    let type = type_in c.args.target.now in
+    let type = type_in c.args.packet_type.now.target in
     let judged = c.window.result.now in
     let n = c.in-Some.size in
     let v = fields type.id (plains_of vs) in
-    let fits = subst (λ o. IfSome o (λ x. x.1 ≤ length (view_bits c.new.result))) c.in-Some.is c.entries_by.ensures.size in
-    let few : n ≤ length (bits_of judged) = omega (arith, fits, ap length c.new.ensures) in
-    let told = subst (λ o. IfSome o (λ x. x.0 ≡ map Some vs → Spells c.args.segments.now type.id v (take x.1 (view_bits c.new.result)))) c.in-Some.is (c.entries_by.ensures.value vs) e in
-    let spelled = subst (λ (t : Table). Spells t type.id v (take n (bits_of judged))) c.requires.segments (subst (λ (b : Bits). Spells c.args.segments.now type.id v (take n b)) c.new.ensures told) in
-    packet_is type (framing_for c.empty_types.ensures type c.keeps_rules.ensures c.requires.known) v c.args.octets.now judged n c.octets_for.result c.window.ensures c.octets_for.ensures few spelled
+    let fits = subst (λ o. IfSome o (λ x. x.1 ≤ length (view_bits c.new-view.result))) c.in-Some.is c.entries_by.ensures.size in
+    let few : n ≤ length (bits_of judged) = omega (arith, fits, ap length c.new-view.ensures) in
+    let told = subst (λ o. IfSome o (λ x. x.0 ≡ map Some vs → Spells c.args.packet_type.now.segments.now type.id v (take x.1 (view_bits c.new-view.result)))) c.in-Some.is (c.entries_by.ensures.value vs) e in
+    let spelled = subst (λ (t : Table). Spells t type.id v (take n (bits_of judged))) c.args.packet_type.now.read_by (subst (λ (b : Bits). Spells c.args.packet_type.now.segments.now type.id v (take n b)) c.new-view.ensures told) in
+    packet_is type (framing_for c.empty_types.ensures type c.keeps_rules.ensures c.args.packet_type.now.known) v c.args.octets.now judged n c.octets_for.result c.window.ensures c.octets_for.ensures few spelled

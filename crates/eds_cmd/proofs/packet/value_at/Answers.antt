@@ -21,7 +21,7 @@ value_by-requires-clause-most c =
 
 pub returns-in-Some : goal.returns-in-Some
 returns-in-Some c =
-    let type = type_in c.args.target.now in
+    let type = type_in c.args.packet_type.now.target in
     let judged = c.window.result.now in
     let n = c.in-Some.size in
     let v = plain c.in-Some.value in
@@ -29,4 +29,4 @@ returns-in-Some c =
     let few : n ≤ length (bits_of judged) = omega (arith, fits, ap length c.new-view.ensures) in
     let told = subst (λ o. IfSome o (λ x. Spells type.table type.id (plain x.0) (take x.1 (view_bits c.new-view.result)))) c.in-Some.is c.in_ok-value.ensures.value in
     let spelled = subst (λ (b : Bits). Spells type.table type.id v (take n b)) c.new-view.ensures told in
-    packet_is type (framing_for c.empty_types.ensures type c.keeps_rules.ensures c.requires.known) v c.args.octets.now judged n c.octets_for.result c.window.ensures c.octets_for.ensures few spelled
+    packet_is type (framing_for c.empty_types.ensures type c.keeps_rules.ensures c.args.packet_type.now.known) v c.args.octets.now judged n c.octets_for.result c.window.ensures c.octets_for.ensures few spelled

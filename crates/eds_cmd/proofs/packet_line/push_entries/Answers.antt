@@ -1,11 +1,10 @@
-use Rattle.std.proofs.Common.{◌≡◌, ◌++◌, List, [], Some, codes, ap, length, map, rules, string_bytes, subst, arith}
+use Rattle.std.proofs.Common.{◌≡◌, ◌++◌, [], Some, codes, ap, length, map, rules, string_bytes, subst, arith}
 use Rattle.std.specs.Prelude.{IfSome}
 use Rattle.std.proofs.lemmas.List.{length-map}
 use Rattle.eds_types.specs.Plain.{fields, plains_of}
 use Rattle.eds_types.specs.Rows.{Table}
 use Rattle.eds_unpack.proofs.Meanings.{on_true}
-use Rattle.eds_value.specs.JsonOfValue.{json_of_value}
-use Rattle.eds_value.specs.Layouts.{IsLayoutOf, laid_text}
+use Rattle.eds_value.specs.Layouts.{IsLayoutOf}
 use Rattle.eds_cmd.specs.Split.{HoldsPacket}
 use Rattle.eds_cmd.specs.Target.{type_in}
 use Rattle.eds_cmd.proofs.PacketLines.{straight_put}
@@ -13,16 +12,16 @@ use Rattle.eds_cmd.proofs.packet_line.push_entries.Goals as goal
 
 pub put_entries-requires : goal.put_entries-requires
 put_entries-requires c =
-    let type = type_in c.args.target.now in
+    let type = type_in c.args.packet_type.now.target in
     let l = c.in-Some-find.layout.now in
-    let is = subst (λ (t : Table). IsLayoutOf t type.id l) c.requires.layouts c.in-Some-find.ensures.layout in
+    let is = subst (λ (t : Table). IsLayoutOf t type.id l) c.args.packet_type.now.put_by c.in-Some-find.ensures.layout in
     λ i lt. is.each i (omega (arith, lt, c.in-Some-find.ensures.count, c.len.ensures))
 
 pub returns-clause-line : goal.returns-clause-line
 returns-clause-line c =
-    let type = type_in c.args.target.now in
+    let type = type_in c.args.packet_type.now.target in
     let l = c.in-Some-find.layout.now in
-    let is = subst (λ (t : Table). IsLayoutOf t type.id l) c.requires.layouts c.in-Some-find.ensures.layout in
+    let is = subst (λ (t : Table). IsLayoutOf t type.id l) c.args.packet_type.now.put_by c.in-Some-find.ensures.layout in
     let put = on_true c.in_ok-put_entries.field-0 c.in_ok-put_entries.ensures c.if-not-branch.false in
     let vs = put.0 in
     let long : length vs ≡ l.count = omega (arith, ap length put.1, length-map vs Some, c.in-Some-find.ensures.count, c.len.ensures) in

@@ -26,7 +26,7 @@ pub returns-in-Err-Named : goal.returns-in-Err-Named
 returns-in-Err-Named c =
     let type = type_in c.args.target.now in
     let fails = subst (λ x. IsLastFault (framing_of type) x c.in-Err-Named.fault) (take-rest c.args.octets.now c.loop-at.at) (rw c.in-Err-Named.field-0-is at c.in-Err-Named.ensures.fault) in
-    cut_off_by type c.args.octets.now c.loop-at.at c.loop-at.packets (string_bytes c.loop-at.report) c.in-Err-Named.fault c.in_ok-packet_fault-in-Err-Named.field-0 c.loop-at.invariant c.loop-at-test.true fails c.in_ok-packet_fault-in-Err-Named.ensures
+    cut_off_by type c.args.octets.now c.loop-at.at c.loop-at.packets (string_bytes c.loop-at.report) c.in-Err-Named.fault c.in_ok-packet_fault-in-Err-Named.field-0 c.loop-at.invariant c.loop-at-test.true fails (rw c.in-Err-Named.fault-is at c.in_ok-packet_fault-in-Err-Named.ensures)
 
 pub returns : goal.returns
 returns c =
