@@ -60,6 +60,7 @@ fn put_scalar(alloc: Global, scalar: Scalar<'_>, line: &mut Line) -> Result<(), 
 }
 
 // Puts the JSON text of a container first onto a line, with a scalar for each entry, by its layout.
+#[inline(never)]
 fn put_object(
     alloc: Global,
     layout: &Layout,
@@ -106,8 +107,8 @@ fn put_entry(
 }
 
 // Puts the JSON text of a container first onto a line, each entry straight from its bits, by its layout. Whether the bits of each
-// have a value: otherwise what stands on the line means nothing.
-#[inline(always)]
+// have a value: otherwise what stands on the line means nothing. Its loop has the processor's registers for itself.
+#[inline(never)]
 fn put_entries(
     alloc: Global,
     layout: &Layout,
