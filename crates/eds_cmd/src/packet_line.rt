@@ -20,7 +20,7 @@ use eds_base::{Fail, Fault, Memory};
 use eds_overlap::law::canonical_spelling;
 use eds_types::Value;
 use eds_unpack::{Entries, FaultRoom, Scalar};
-use eds_value::{Layout, Line, put_json};
+use eds_value::{Layout, Line, Piece, put_json};
 use std::alloc::Global;
 
 /// What serves for one packet after another.
@@ -70,7 +70,7 @@ fn put_object(
     requires { All (λ p. p.position < length scalars.now) layout.now.pieces.items }
     ensures { (t : Table) → OnOk result (line.new ≡ laid_text (map (json_of_value t) (map plain_of scalars.now)) layout.now ++ line.old) }
 {
-    line.put_text(layout.end.as_str())?;
+    line.put_padded(&layout.end)?;
     let pieces = layout.pieces.as_slice();
     let mut at = pieces.len();
     while at > 0 {
@@ -82,28 +82,34 @@ fn put_object(
     Ok(())
 }
 
-// Puts the JSON text of an entry first onto a line, straight from its bits. Whether these have a value: otherwise nothing is put.
+// Puts the JSON text of an entry first onto a line, straight from its bits, and before it the text of its piece. Whether these have a
+// value: otherwise what stands on the line means nothing.
 #[inline(always)]
 fn put_entry(
     alloc: Global,
     entries: &Entries<'_, '_>,
-    position: usize,
+    piece: &Piece,
     line: &mut Line,
 ) -> Result<bool, Memory>
-    ensures { IfOk result (λ put. OnTrue put ((v : Plain) × (slice_get entries.now position ≡ Some (Some v)) × ((t : Table) → line.new ≡ json_text t v ++ line.old))) }
+    ensures { IfOk result (λ put. OnTrue put ((v : Plain) × (slice_get entries.now piece.now.position ≡ Some (Some v)) × ((t : Table) → line.new ≡ piece.now.text ++ (json_text t v ++ line.old)))) }
 {
-    // most entries are numbers, and these are put with no choice of scalars between
+    // numbers, labels and truth values, as most entries are, are put with no choice of scalars between
+    let position = piece.position;
     if let Some(number) = entries.number(position) {
-        line.put_short(number)?;
+        line.put_named(&piece.text, number)?;
         return Ok(true);
     }
-    match entries.get(position) {
-        Some(scalar) => {
-            put_scalar(alloc, scalar, line)?;
-            Ok(true)
-        }
-        None => Ok(false),
+    if let Some(label) = entries.label(position) {
+        line.put_quoted(alloc, label)?;
+    } else if let Some(truth) = entries.truth(position) {
+        line.put_truth(truth)?;
+    } else if let Some(scalar) = entries.get(position) {
+        put_scalar(alloc, scalar, line)?;
+    } else {
+        return Ok(false);
     }
+    line.put_padded(&piece.text)?;
+    Ok(true)
 }
 
 // Puts the JSON text of a container first onto a line, each entry straight from its bits, by its layout. Whether the bits of each
@@ -118,16 +124,14 @@ fn put_entries(
     requires { (i : ℕ) → i < length entries.now → HasPosition layout.now.pieces.items i }
     ensures { IfOk result (λ all. OnTrue all ((vs : List Plain) × (entries.now ≡ map Some vs) × ((t : Table) → line.new ≡ laid_text (map (json_of_value t) vs) layout.now ++ line.old))) }
 {
-    line.put_text(layout.end.as_str())?;
+    line.put_padded(&layout.end)?;
     let pieces = layout.pieces.as_slice();
     let mut at = pieces.len();
     while at > 0 {
         at -= 1;
-        let piece = &pieces[at];
-        if !put_entry(alloc, entries, piece.position, line)? {
+        if !put_entry(alloc, entries, &pieces[at], line)? {
             return Ok(false);
         }
-        line.put_padded(&piece.text)?;
     }
     Ok(true)
 }

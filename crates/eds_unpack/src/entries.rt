@@ -3,11 +3,11 @@
 ghost use Rattle.std.specs.Prelude.{◌≡◌, ◌<◌, ◌≤◌, Some, List, length, map, take, slice_get, IfSome};
 ghost use Rattle.eds_bits.specs.Reader.{view_bits};
 ghost use Rattle.eds_types.specs.Overlap.{IsClear};
-ghost use Rattle.eds_types.specs.Plain.{Plain, fields, num, plains_of};
+ghost use Rattle.eds_types.specs.Plain.{Plain, fields, label, num, plains_of, truth};
 ghost use Rattle.eds_types.specs.Spelling.{Spells};
 ghost use Rattle.eds_unpack.specs.Scalars.{plain_of};
 
-use crate::meaning::{scalar_at, whole_number};
+use crate::meaning::{listed_label, scalar_at, truth_value, whole_number};
 use crate::scalar::Scalar;
 use crate::segment::{Meaning, Operation};
 use crate::segments::Segments;
@@ -62,12 +62,40 @@ impl<'v, 'a> Entries<'v, 'a> {
         ensures { IfSome result (λ n. slice_get self.now position ≡ Some (Some (num n))) }
     {
         let operation = self.operations.get(position)?;
-        // the bits of an entry of another encoding are loaded once, by `get`
-        let Meaning::Number(_) = operation.meaning else {
+        // the bits of an entry that has no number are not loaded here
+        let (Meaning::Number(_) | Meaning::Digits(_)) = operation.meaning else {
             return None;
         };
         let number = number_of_bits(operation, self.octets, &self.reader);
         whole_number(self.table, operation, number)
+    }
+
+    /// The truth value of an entry, where its type is one of truth values: then it is the scalar that `get` gives. None past the
+    /// end.
+    #[inline(always)]
+    pub fn truth(&self, position: usize) -> Option<bool>
+        ensures { IfSome result (λ b. slice_get self.now position ≡ Some (Some (truth b))) }
+    {
+        let operation = self.operations.get(position)?;
+        let Meaning::Truth(_) = operation.meaning else {
+            return None;
+        };
+        let number = number_of_bits(operation, self.octets, &self.reader);
+        truth_value(self.table, operation, number)
+    }
+
+    /// The label of an entry, where its bits have one and its encoding tells it at once: then it is the scalar that `get` gives.
+    /// None past the end.
+    #[inline(always)]
+    pub fn label(&self, position: usize) -> Option<&'a str>
+        ensures { IfSome result (λ l. slice_get self.now position ≡ Some (Some (label l.now))) }
+    {
+        let operation = self.operations.get(position)?;
+        let Meaning::Label(_) = operation.meaning else {
+            return None;
+        };
+        let number = number_of_bits(operation, self.octets, &self.reader);
+        listed_label(self.table, operation, number)
     }
 
     /// The scalar of an entry. None, where its bits have no value, and past the end.

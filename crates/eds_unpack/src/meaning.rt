@@ -5,7 +5,7 @@ ghost use Rattle.std.specs.Bool.{OnTrue};
 ghost use Rattle.eds_base.specs.declared.fault.Fault.{Fault};
 ghost use Rattle.eds_bits.specs.Bits.{Bits, low_bits};
 ghost use Rattle.eds_bits.specs.IntForms.{number_of};
-ghost use Rattle.eds_types.specs.Plain.{Plain, label, num};
+ghost use Rattle.eds_types.specs.Plain.{Plain, label, num, truth};
 ghost use Rattle.eds_types.specs.Reading.{named, ranged};
 ghost use Rattle.eds_types.specs.Rules.{KindKeeps};
 ghost use Rattle.eds_unpack.specs.Labels.{AreLabels};
@@ -154,22 +154,22 @@ fn told_scalar(kind: &Kind, number: u64) -> Option<Scalar<'_>>
 
 /// The label of a type, as its kind lists it, if one is listed with what the number of so many bits stands for.
 #[inline(always)]
-fn label_by(kind: &Kind, coding: Coding, bits: u32, number: u64) -> Option<Scalar<'_>>
+fn label_by(kind: &Kind, coding: Coding, bits: u32, number: u64) -> Option<&str>
     requires keeps { KindKeeps kind.now }
     requires coding { IsCoding (integer_of kind.now) bits coding }
     requires some { 1 ≤ bits }
     requires bound { number < 2 ^ bits }
-    ensures { IfSome result (λ s. scalar_of kind.now (low_bits bits number) ≡ Ok (plain_of s)) }
+    ensures { IfSome result (λ l. scalar_of kind.now (low_bits bits number) ≡ Ok (label l.now)) }
 {
     let Kind::Enum(_, listing) = kind else {
         return None;
     };
     let label = label_of(listing, i128::from(made(coding, bits, number)))?;
-    Some(Scalar::Label(label.as_str()))
+    Some(label.as_str())
 }
 
-/// The number that the number of an operation's bits stands for, where these are a number of the domain. None, too, where the
-/// row of the type tells it.
+/// The number that the number of an operation's bits stands for, where the operation tells numbers and this is one of its domain.
+/// None, too, where the row of the type tells it.
 #[inline(always)]
 pub(crate) fn whole_number(table: &TypeTable, operation: &Operation, number: u64) -> Option<i64>
     requires is { IsOperation table.now operation.now }
@@ -178,8 +178,42 @@ pub(crate) fn whole_number(table: &TypeTable, operation: &Operation, number: u64
 {
     match operation.meaning {
         Meaning::Number(numbers) => number_in(numbers, operation.bits, number),
+        Meaning::Digits(digits) => digits_in(digits, number),
         _ => None,
     }
+}
+
+/// The truth value that the number of an operation's bits stands for, where the operation tells truth values.
+#[inline(always)]
+pub(crate) fn truth_value(table: &TypeTable, operation: &Operation, number: u64) -> Option<bool>
+    requires is { IsOperation table.now operation.now }
+    requires bound { number < 2 ^ operation.now.bits }
+    ensures { IfSome result (λ b. value_in (slice_get table.now operation.now.id.0) (low_bits operation.now.bits number) ≡ Ok (truth b)) }
+{
+    match operation.meaning {
+        Meaning::Truth(zero_is_false) => Some((number != 0) == zero_is_false),
+        _ => None,
+    }
+}
+
+/// The label that the number of an operation's bits stands for, where the operation tells labels and one is listed. None, too,
+/// where the row of the type tells it.
+#[inline(always)]
+pub(crate) fn listed_label<'a>(
+    table: &'a TypeTable,
+    operation: &Operation,
+    number: u64,
+) -> Option<&'a str>
+    requires is { IsOperation table.now operation.now }
+    requires bound { number < 2 ^ operation.now.bits }
+    ensures { IfSome result (λ l. value_in (slice_get table.now operation.now.id.0) (low_bits operation.now.bits number) ≡ Ok (label l.now)) }
+{
+    let Meaning::Label(coding) = operation.meaning else {
+        return None;
+    };
+    table.keeps_rules();
+    let kind = &table.row(operation.id).kind;
+    label_by(kind, coding, operation.bits, number)
 }
 
 /// What the number of an operation's bits stands for, if they have a value.
@@ -194,23 +228,17 @@ pub(crate) fn scalar_at<'a>(
     ensures { IfSome result (λ s. value_in (slice_get table.now operation.now.id.0) (low_bits operation.now.bits number) ≡ Ok (plain_of s)) }
 {
     match operation.meaning {
-        Meaning::Number(numbers) => {
-            let found = number_in(numbers, operation.bits, number)?;
+        Meaning::Number(_) | Meaning::Digits(_) => {
+            let found = whole_number(table, operation, number)?;
             Some(Scalar::Num(found))
         }
-        Meaning::Digits(digits) => {
-            let found = digits_in(digits, number)?;
-            Some(Scalar::Num(found))
+        Meaning::Truth(_) => {
+            let found = truth_value(table, operation, number)?;
+            Some(Scalar::Bool(found))
         }
-        Meaning::Truth(zero_is_false) => Some(Scalar::Bool((number != 0) == zero_is_false)),
-        Meaning::Label(coding) => {
-            table.keeps_rules();
-            label_by(
-                &table.row(operation.id).kind,
-                coding,
-                operation.bits,
-                number,
-            )
+        Meaning::Label(_) => {
+            let found = listed_label(table, operation, number)?;
+            Some(Scalar::Label(found))
         }
         Meaning::Told => {
             table.keeps_rules();

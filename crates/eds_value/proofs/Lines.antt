@@ -19,16 +19,11 @@ pub text_put : (text old new items : List ℕ) (start len : ℕ) → length new 
 text_put text old new items start len same all first later within put =
     subst (IsTextFrom start) (sym (written_back new items len same all)) (within, subst IsUtf8 (sym put) (IsUtf8-append text old first later))
 
--- of a block that was put, only what stands behind its first octets
-pub block_put : (padded block room new : List ℕ) (end start : ℕ) → 16 ≤ length padded → length padded - 16 ≤ 16 → block ≡ drop (length padded - 16) padded → start + length block ≡ end → drop start new ≡ block ++ drop end room
-    → drop (end - (length padded - 16)) new ≡ drop 16 padded ++ drop end room
-block_put padded block room new end start some few is starts put =
-    let size = length padded - 16 in
-    let whole : length block ≡ 16 = omega (arith, ap length is, length-drop size padded) in
+-- of a block that was put, only its last octets
+pub block_put : (block room new : List ℕ) (end start size : ℕ) → length block ≡ 16 → size ≤ 16 → start + length block ≡ end → drop start new ≡ block ++ drop end room → drop (end - size) new ≡ drop (16 - size) block ++ drop end room
+block_put block room new end start size whole few starts put =
     let from : start + (16 - size) ≡ end - size = omega (arith, whole) in
-    let back : size + (16 - size) ≡ 16 = omega arith in
     ap (λ n. drop n new) (sym from) ∙ sym (drop-drop (16 - size) start new) ∙ ap (drop (16 - size)) put ∙ drop-append-le (16 - size) block (drop end room) (omega (arith, whole))
-    ∙ ap (λ s. s ++ drop end room) (ap (drop (16 - size)) is ∙ drop-drop (16 - size) size padded ∙ ap (λ n. drop n padded) back)
 
 -- ---- between quotation marks
 

@@ -14,7 +14,7 @@ use crate::line::PaddedText;
 use crate::member::{Member, sort};
 use crate::path::type_name;
 use crate::quoted::{push_comma, push_quoted};
-use eds_base::{Memory, Text, TypeId};
+use eds_base::{Memory, TypeId};
 use eds_types::TypeTable;
 use std::alloc::Global;
 
@@ -34,7 +34,7 @@ pub struct Layout {
     pub count: usize,
     pub pieces: Vec<Piece>,
     /// The text behind the last value.
-    pub end: Text,
+    pub end: PaddedText,
 }
 
 // A name with the position of its value. The container's own name has none.
@@ -111,7 +111,7 @@ fn laid_out(
         later = true;
     }
     text.push_str("}")?;
-    let end = Text::from_string(text);
+    let end = PaddedText::of(alloc, text.as_str())?;
     Ok(Layout { count, pieces, end })
 }
 

@@ -1,6 +1,6 @@
 //! The text of a line, put together from its end.
 
-ghost use Rattle.std.specs.Prelude.{◌+◌, ◌≡◌, ◌<◌, ◌≤◌, ◌++◌, ◌∷◌, [], codes, IfOk, OnErr, OnOk, drop, length};
+ghost use Rattle.std.specs.Prelude.{◌+◌, ◌-◌, ◌≡◌, ◌<◌, ◌≤◌, ◌++◌, ◌∷◌, [], codes, IfOk, OnErr, OnOk, drop, length};
 ghost use Rattle.std.specs.Fmt.{signed_decimal};
 ghost use Rattle.json.specs.Print.{quoted};
 ghost use Rattle.serde_json.specs.Data.{boolean, number};
@@ -8,7 +8,7 @@ ghost use Rattle.serde_json.specs.Find.{of_integer};
 ghost use Rattle.serde_json.specs.Written.{comma_if, compact_text};
 
 use crate::quoted::{escaped, is_plain};
-use eds_base::Memory;
+use eds_base::{Memory, Text};
 use std::alloc::{AllocError, Global};
 use std::marker::Model;
 use std::str;
@@ -43,6 +43,7 @@ fn put_digits(room: &mut [u8], end: usize, number: i64) -> usize
     requires free { NUMBER_OCTETS ≤ end }
     requires within { end ≤ length room.old }
     ensures start { result ≤ end }
+    ensures few { end ≤ result + NUMBER_OCTETS }
     ensures size { length room.new ≡ length room.old }
     ensures put { drop result room.new ≡ signed_decimal number ++ drop end room.old }
 {
@@ -69,25 +70,19 @@ fn put_marked(room: &mut [u8], end: usize, octets: &[u8]) -> usize
     start - 1
 }
 
-/// Puts the octets behind the first block of some into a room so that they end at a place, and gives where they begin. Where they
-/// are no more than a block, they are copied as one, with octets before them that mean nothing.
+/// Puts the last octets of a block into a room so that they end at a place, and gives where they begin. The block is copied as a
+/// whole, so that what stands before them means nothing.
 #[inline(always)]
-#[tactic(auto, using(std::proofs::lemmas::Slice::overwrites))]
-fn put_block(room: &mut [u8], end: usize, padded: &[u8]) -> usize
-    requires some { BLOCK ≤ length padded.now }
-    requires free { length padded.now ≤ end }
+fn put_block(room: &mut [u8], end: usize, block: [u8; BLOCK], size: usize) -> usize
+    requires few { size ≤ BLOCK }
+    requires free { BLOCK ≤ end }
     requires within { end ≤ length room.old }
-    ensures start { result ≤ end }
+    ensures start { result + size ≡ end }
     ensures size { length room.new ≡ length room.old }
-    ensures put { drop result room.new ≡ drop BLOCK padded.now ++ drop end room.old }
+    ensures put { drop result room.new ≡ drop (BLOCK - size) block ++ drop end room.old }
 {
-    let size = padded.len() - BLOCK;
-    if size > BLOCK {
-        put_before(room, end, &padded[BLOCK..])
-    } else {
-        put_before(room, end, &padded[size..]);
-        end - size
-    }
+    put_before(room, end, &block);
+    end - size
 }
 
 /// A room with the same text at its end, and so many octets before it that are free: where the text begins.
@@ -108,21 +103,38 @@ fn grow(room: &mut Vec<u8>, start: usize, octets: usize) -> Result<usize, AllocE
     Ok(room.len() - text)
 }
 
-/// A text that is copied as a whole block, since as many octets stand before it, which mean nothing.
+/// Where the text at the end of a room begins, with so many octets before it that are free: the room grows where they are fewer.
+#[inline(always)]
+fn with_free(room: &mut Vec<u8>, start: usize, octets: usize) -> Result<usize, AllocError>
+    requires { start ≤ length room.old.items }
+    ensures free { IfOk result (λ s. octets ≤ s) }
+    ensures within { IfOk result (λ s. s ≤ length room.new.items) }
+    ensures same { IfOk result (λ s. drop s room.new.items ≡ drop start room.old.items) }
+    ensures kept { OnErr result (room.new.items ≡ room.old.items) }
+{
+    if octets <= start {
+        Ok(start)
+    } else {
+        grow(room, start, octets)
+    }
+}
+
+/// A text that is copied as a whole block where it isn't longer, since octets that mean nothing stand before it.
 #[derive(Drop)]
 pub struct PaddedText {
-    // as many octets as a block has, and then the text
-    octets: Vec<u8>,
+    text: Text,
+    // ends with the text, where that isn't longer
+    block: [u8; BLOCK],
 }
 
 impl Model for PaddedText {
-    ghost use Rattle.std.specs.Prelude.{◌≤◌, ℕ, List, IsUtf8, drop, length};
+    ghost use Rattle.std.specs.Prelude.{◌≡◌, ◌≤◌, ◌-◌, ℕ, List, drop, length};
 
     ghost Value = { List ℕ };
 
-    ghost view = { λ t. drop 16 t.octets.items };
+    ghost view = { λ t. t.text };
 
-    ghost invariant = { λ t. (16 ≤ length t.octets.items) × IsUtf8 (drop 16 t.octets.items) };
+    ghost invariant = { λ t. length t.text ≤ 16 → drop (16 - length t.text) t.block ≡ t.text };
 }
 
 impl PaddedText {
@@ -130,9 +142,13 @@ impl PaddedText {
     pub fn of(alloc: Global, text: &str) -> Result<PaddedText, Memory>
         ensures { IfOk result (λ t. t ≡ text.now) }
     {
-        let mut octets = vec![in alloc; 0u8; BLOCK]?;
-        octets.extend_from_slice(text.as_bytes())?;
-        Ok(PaddedText { octets })
+        let octets = text.as_bytes();
+        let mut block = [0u8; BLOCK];
+        if octets.len() <= BLOCK {
+            put_before(&mut block, BLOCK, octets);
+        }
+        let text = Text::of(alloc, text)?;
+        Ok(PaddedText { text, block })
     }
 }
 
@@ -188,27 +204,22 @@ impl Line {
         ensures { OnOk result (self.new ≡ text.now ++ self.old) }
     {
         let octets = text.as_bytes();
-        let end = if octets.len() <= self.start {
-            self.start
-        } else {
-            grow(&mut self.room, self.start, octets.len())?
-        };
+        let end = with_free(&mut self.room, self.start, octets.len())?;
         self.start = put_before(self.room.as_mut_slice(), end, octets);
         Ok(())
     }
 
-    /// Puts a text first that has a block before it.
+    /// Puts a text first that is ready to be copied as a block.
     #[inline(always)]
     pub fn put_padded(&mut self, text: &PaddedText) -> Result<(), AllocError>
         ensures { OnOk result (self.new ≡ text.now ++ self.old) }
     {
-        let padded = text.octets.as_slice();
-        let end = if padded.len() <= self.start {
-            self.start
-        } else {
-            grow(&mut self.room, self.start, padded.len())?
-        };
-        self.start = put_block(self.room.as_mut_slice(), end, padded);
+        let size = text.text.as_str().len();
+        if size > BLOCK {
+            return self.put_text(text.text.as_str());
+        }
+        let end = with_free(&mut self.room, self.start, BLOCK)?;
+        self.start = put_block(self.room.as_mut_slice(), end, text.block, size);
         Ok(())
     }
 
@@ -220,16 +231,37 @@ impl Line {
         self.put_decimal(n)
     }
 
+    /// Puts a whole number of 64 bits first, and before it a text.
+    #[inline(never)]
+    fn put_apart(&mut self, text: &PaddedText, n: i64) -> Result<(), AllocError>
+        ensures { OnOk result (self.new ≡ text.now ++ (compact_text (number (of_integer n)) ++ self.old)) }
+    {
+        self.put_short(n)?;
+        self.put_padded(text)
+    }
+
+    /// Puts a whole number of 64 bits first, and before it a text: both with one look at the room, where the text is short.
+    #[inline(always)]
+    pub fn put_named(&mut self, text: &PaddedText, n: i64) -> Result<(), AllocError>
+        ensures { OnOk result (self.new ≡ text.now ++ (compact_text (number (of_integer n)) ++ self.old)) }
+    {
+        let size = text.text.as_str().len();
+        let start = self.start;
+        if size > BLOCK || start < NUMBER_OCTETS + BLOCK {
+            return self.put_apart(text, n);
+        }
+        let room = self.room.as_mut_slice();
+        let end = put_digits(room, start, n);
+        self.start = put_block(room, end, text.block, size);
+        Ok(())
+    }
+
     /// Puts the digits of a number of 64 bits first.
     #[inline(always)]
     fn put_decimal(&mut self, n: i64) -> Result<(), AllocError>
         ensures { OnOk result (self.new ≡ signed_decimal n ++ self.old) }
     {
-        let end = if NUMBER_OCTETS <= self.start {
-            self.start
-        } else {
-            grow(&mut self.room, self.start, NUMBER_OCTETS)?
-        };
+        let end = with_free(&mut self.room, self.start, NUMBER_OCTETS)?;
         self.start = put_digits(self.room.as_mut_slice(), end, n);
         Ok(())
     }
@@ -271,11 +303,7 @@ impl Line {
         ensures { OnOk result (self.new ≡ codes "\"" ++ (text.now ++ (codes "\"" ++ self.old))) }
     {
         let octets = text.as_bytes();
-        let end = if octets.len() < self.start.saturating_sub(1) {
-            self.start
-        } else {
-            grow(&mut self.room, self.start, octets.len().saturating_add(2))?
-        };
+        let end = with_free(&mut self.room, self.start, octets.len().saturating_add(2))?;
         self.start = put_marked(self.room.as_mut_slice(), end, octets);
         Ok(())
     }

@@ -69,7 +69,7 @@ fn put_fields(
     requires held { AllHeld (plains_of (map plain values.now)) }
     ensures { OnOk result (line.new ≡ laid_text (map (json_of layouts.now) (map plain values.now)) layout.now ++ line.old) }
 {
-    line.put_text(layout.end.as_str())?;
+    line.put_padded(&layout.end)?;
     let pieces = layout.pieces.as_slice();
     let mut at = pieces.len();
     while at > 0 {

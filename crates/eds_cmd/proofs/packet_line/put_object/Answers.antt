@@ -15,8 +15,8 @@ pub loop-at-init : goal.loop-at-init
 loop-at-init c =
     let ss = c.args.scalars.now in
     let ps = c.as_slice-pieces.result.now in
-    let end : c.put_text.new.self ≡ c.args.layout.now.end ++ c.args.line.now = search rules in
-    record { within = omega arith; text = λ t. no_pieces (map (json_of_value t) (map plain_of ss)) ps (length ps) c.args.layout.now.end c.args.line.now c.put_text.new.self (omega arith) end }
+    let end : c.put_padded.new.self ≡ c.args.layout.now.end ++ c.args.line.now = search rules in
+    record { within = omega arith; text = λ t. no_pieces (map (json_of_value t) (map plain_of ss)) ps (length ps) c.args.layout.now.end c.args.line.now c.put_padded.new.self (omega arith) end }
 
 pub loop-at-preserved : goal.loop-at-preserved
 loop-at-preserved c =
@@ -32,8 +32,8 @@ loop-at-preserved c =
     let s = get_or ss p.position none in
     record {
       within = omega arith;
-      text = λ t. piece_put t (map plain_of ss) ps i c.loop-at.at p (plain_of s) c.args.layout.now.end c.args.line.now c.loop-at.line c.put_scalar.new.line c.put_padded.new.self few (omega arith) c.index-pieces-at.is
-          (omega (arith, lt, length-map ss plain_of)) (plain_at ss p.position none lt) (c.loop-at.invariant.text t) (c.in_ok-put_scalar.ensures t) c.in_ok-put_padded.ensures;
+      text = λ t. piece_put t (map plain_of ss) ps i c.loop-at.at p (plain_of s) c.args.layout.now.end c.args.line.now c.loop-at.line c.put_scalar.new.line c.put_padded-in-loop-at.new.self few (omega arith) c.index-pieces-at.is
+          (omega (arith, lt, length-map ss plain_of)) (plain_at ss p.position none lt) (c.loop-at.invariant.text t) (c.in_ok-put_scalar.ensures t) c.in_ok-put_padded-2.ensures;
     }
 
 pub returns : goal.returns

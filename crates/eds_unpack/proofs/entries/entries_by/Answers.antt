@@ -1,5 +1,5 @@
-use Rattle.std.proofs.Common.{◌≡◌, ◌+◌, ◌≤◌, List, Some, length, map, take, subst, sym, ap, ap₂, ◌∙◌, arith, refl}
-use Rattle.std.specs.List.{All, AllZip}
+use Rattle.std.proofs.Common.{◌≡◌, ◌+◌, ◌≤◌, List, Some, length, map, take, subst, sym, ap₂, ◌∙◌, arith}
+use Rattle.std.specs.List.{All}
 use Rattle.eds_bits.specs.Bits.{Bits}
 use Rattle.eds_bits.specs.Reader.{bits_left}
 use Rattle.eds_types.specs.Plain.{fields, plains_of}

@@ -1,4 +1,4 @@
-use Rattle.std.proofs.Common.{◌≡◌, ◌∙◌, ◌+◌, ◌-◌, List, [], ◌∷◌, ◌++◌, length, map, get_or, true, false, refl, ap, ap₂, sym, subst, Ok, Err, Some, rules, arith, drop, length-drop}
+use Rattle.std.proofs.Common.{◌≡◌, ◌∙◌, ◌+◌, ◌-◌, [], ◌∷◌, ◌++◌, length, map, get_or, true, false, refl, ap, ap₂, sym, subst, Ok, Err, Some, rules, arith, drop, length-drop}
 use Rattle.std.specs.List.{AllByRecursion, list_all}
 use Rattle.std.proofs.lemmas.List.{drop_all, length-take, map-append}
 use Rattle.std.proofs.lemmas.Result.{err_from_is_err_and}

@@ -1,4 +1,4 @@
-use Rattle.std.proofs.Common.{◌≡◌, ◌+◌, Ok, Some, length, map, sym, subst}
+use Rattle.std.proofs.Common.{◌≡◌, ◌+◌, Ok, length, map, sym, subst}
 use Rattle.std.specs.Prelude.{IfSome}
 use Rattle.eds_bits.specs.Reader.{bits_left}
 use Rattle.eds_overlap.specs.Laws.{read_type}

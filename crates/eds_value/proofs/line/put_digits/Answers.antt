@@ -13,6 +13,12 @@ overflow_sub-room c = omega (arith, length-decimal-le 19 c.unsigned_abs.result (
 pub overflow_sub-result : goal.overflow_sub-result
 overflow_sub-result c = omega (arith, length-decimal-le 19 c.unsigned_abs.result (omega arith) (omega arith) (omega arith))
 
+pub returns-then-number-ge0-clause-few : goal.returns-then-number-ge0-clause-few
+returns-then-number-ge0-clause-few c = omega (arith, c.write_digits-start.ensures.start, length-decimal-le 19 c.unsigned_abs.result (omega arith) (omega arith) (omega arith))
+
+pub returns-clause-few : goal.returns-clause-few
+returns-clause-few c = omega (arith, c.write_digits-start.ensures.start, length-decimal-le 19 c.unsigned_abs.result (omega arith) (omega arith) (omega arith))
+
 pub returns-clause-put : goal.returns-clause-put
 returns-clause-put c =
     let w = c.write_digits-start in

@@ -63,8 +63,8 @@ pub put_fields-loop-at-init : goal.put_fields-loop-at-init
 put_fields-loop-at-init t c =
     let ds = map (json_of_value c.args.layouts.now) (map plain c.args.values.now) in
     let ps = c.as_slice-pieces.result.now in
-    let end : c.put_text.new.self ≡ c.args.layout.now.end ++ c.args.line.now = search rules in
-    record { within = omega arith; text = no_pieces ds ps (length ps) c.args.layout.now.end c.args.line.now c.put_text.new.self (omega arith) end }
+    let end : c.put_padded.new.self ≡ c.args.layout.now.end ++ c.args.line.now = search rules in
+    record { within = omega arith; text = no_pieces ds ps (length ps) c.args.layout.now.end c.args.line.now c.put_padded.new.self (omega arith) end }
 
 pub put_fields-loop-at-preserved : goal.put_fields-loop-at-preserved
 put_fields-loop-at-preserved t c =
@@ -81,7 +81,7 @@ put_fields-loop-at-preserved t c =
     let lt : p.position < length vs = subst P (sym c.index-pieces-at.is) (All-get_or P ps i p few within) in
     record {
       within = omega arith;
-      text = piece_first ds ps i c.loop-at.at p (json_of_value tb (plain v)) c.args.layout.now.end c.args.line.now c.loop-at.line c.put_value.new.line c.put_padded.new.self few (omega arith) c.index-pieces-at.is (value_at tb vs p.position v lt c.index-values-piece.is) c.loop-at.invariant.text c.in_ok-put_value.ensures c.in_ok-put_padded.ensures;
+      text = piece_first ds ps i c.loop-at.at p (json_of_value tb (plain v)) c.args.layout.now.end c.args.line.now c.loop-at.line c.put_value.new.line c.put_padded-in-loop-at.new.self few (omega arith) c.index-pieces-at.is (value_at tb vs p.position v lt c.index-values-piece.is) c.loop-at.invariant.text c.in_ok-put_value.ensures c.in_ok-put_padded-2.ensures;
     }
 
 pub put_fields-returns : goal.put_fields-returns

@@ -2,9 +2,7 @@ use Rattle.std.proofs.Common.{◌≡◌, Some, refl, sym}
 use Rattle.std.proofs.lemmas.Option.{slice_get_read}
 use Rattle.std.specs.Prelude.{slice_get}
 use Rattle.eds_bits.specs.Reader.{bits_left}
-use Rattle.eds_types.specs.Plain.{num}
 use Rattle.eds_unpack.specs.Scalars.{plain_of}
-use Rattle.eds_unpack.specs.Segments.{said}
 use Rattle.eds_unpack.proofs.EntriesSay.{entry_says}
 use Rattle.eds_unpack.proofs.Meanings.{some_weaker}
 use Rattle.eds_unpack.proofs.entries.Entries.get.Goals as goal

@@ -1,4 +1,4 @@
-use Rattle.std.proofs.Common.{length, arith, subst, sym}
+use Rattle.std.proofs.Common.{arith, subst, sym}
 use Rattle.eds_value.specs.Layouts.{AreLayouts}
 use Rattle.eds_value.proofs.Pieces.{layouts_more}
 use Rattle.eds_value.proofs.layouts.Layouts.of.Goals as goal
