@@ -1,6 +1,13 @@
 -- The text at the end of a room, onto which more is put first.
-use Rattle.std.proofs.Common.{◌-◌, ◌+◌, ◌≡◌, ℕ, zero, suc, ◌≤◌, List, [], ◌∷◌, ◌++◌, length, take, drop, IsAscii, IsUtf8, sym, ap, subst, ◌∙◌, arith, append_assoc, append-nil, length-drop}
-use Rattle.std.proofs.lemmas.List.{drop-append-le, drop-drop, drop_all, take_all}
+use mir.Val.{bool_byte}
+use Rattle.std.specs.Fmt.{decimal, signed_decimal}
+use Rattle.std.specs.Int.Signed.{lt_z}
+use Rattle.std.proofs.Common.{◌-◌, ◌+◌, ◌≡◌, ℕ, zero, suc, ◌≤◌, ℤ, pos, negsuc, nat_abs, Bool, true, false, codes, set, List, [], ◌∷◌, ◌++◌, length, take, drop, IsAscii, IsUtf8, refl, sym, ap, subst, ◌∙◌, arith, append_assoc, append-nil}
+use Rattle.std.proofs.lemmas.List.{drop-append-le, drop-drop, drop-set, drop-set-lt, drop_all, take_all}
+use Rattle.std.proofs.lemmas.Bool.{le-ltb}
+use Rattle.json.proofs.Printed.Utf8.{IsUtf8-are_ascii}
+use Rattle.serde_json.specs.Data.{boolean}
+use Rattle.serde_json.specs.Written.{compact_text}
 use Rattle.std.proofs.lemmas.Str.{IsUtf8-append, IsUtf8-from_ascii}
 
 -- a slice of a whole list, written back
@@ -24,6 +31,27 @@ pub block_put : (block room new : List ℕ) (end start size : ℕ) → length bl
 block_put block room new end start size whole few starts put =
     let from : start + (16 - size) ≡ end - size = omega (arith, whole) in
     ap (λ n. drop n new) (sym from) ∙ sym (drop-drop (16 - size) start new) ∙ ap (drop (16 - size)) put ∙ drop-append-le (16 - size) block (drop end room) (omega (arith, whole))
+
+-- ---- signs
+
+pub sign_few : (n : ℕ) (b : Bool) → n ≡ bool_byte b → n ≤ 1
+sign_few n true is = omega (arith, is)
+sign_few n false is = omega (arith, is)
+
+-- a sign before the digits of a number counts where it is below 0
+pub sign_put : (z : ℤ) (start : ℕ) (room rest : List ℕ) → 1 ≤ start → start ≤ length room → drop start room ≡ decimal (nat_abs z) ++ rest → drop (start - bool_byte (lt_z z (pos 0))) (set room (start - 1) 45) ≡ signed_decimal z ++ rest
+sign_put (pos n) start room rest some within put =
+    let same : start - 0 ≡ start = omega arith in
+    ap (λ b. drop (start - bool_byte b) (set room (start - 1) 45)) (le-ltb n 0 (omega arith)) ∙ ap (λ k. drop k (set room (start - 1) 45)) same ∙ drop-set-lt start room (start - 1) 45 (omega arith) ∙ put
+sign_put (negsuc n) start room rest some within put =
+    let back : start - 1 + 1 ≡ start = omega arith in
+    drop-set room (start - 1) 45 (omega arith) ∙ ap (λ k. 45 ∷ drop k room) back ∙ ap (λ s. 45 ∷ s) put
+
+-- ---- truth values
+
+pub word_utf8 : (b : Bool) → IsUtf8 (compact_text (boolean b))
+word_utf8 true = IsUtf8-are_ascii (codes "true") refl
+word_utf8 false = IsUtf8-are_ascii (codes "false") refl
 
 -- ---- between quotation marks
 

@@ -19,6 +19,9 @@ const NUMBER_OCTETS: usize = 20;
 /// The octets of a block, which are copied at once.
 const BLOCK: usize = 16;
 
+/// The blocks that end with the words of truth values.
+static WORDS: [[u8; BLOCK]; 2] = [*b"           false", *b"            true"];
+
 /// The octets that a room has at least.
 const LEAST_ROOM: usize = 1024;
 
@@ -48,11 +51,9 @@ fn put_digits(room: &mut [u8], end: usize, number: i64) -> usize
     ensures put { drop result room.new ≡ signed_decimal number ++ drop end room.old }
 {
     let start = itoa::write_digits(number.unsigned_abs(), room, end);
-    if number >= 0 {
-        return start;
-    }
+    // a sign is put before every number, and counts before those below 0: so no branch hangs on whether a number is one
     room[start - 1] = b'-';
-    start - 1
+    start - usize::from(number < 0)
 }
 
 /// Puts octets between two quotation marks into a room so that they end at a place, and gives where they begin.
@@ -83,6 +84,20 @@ fn put_block(room: &mut [u8], end: usize, block: [u8; BLOCK], size: usize) -> us
 {
     put_before(room, end, &block);
     end - size
+}
+
+/// Puts the word of a truth value into a room so that it ends at a place, and gives where it begins.
+#[inline(always)]
+fn put_word(room: &mut [u8], end: usize, truth: bool) -> usize
+    requires free { BLOCK ≤ end }
+    requires within { end ≤ length room.old }
+    ensures start { result ≤ end }
+    ensures size { length room.new ≡ length room.old }
+    ensures put { drop result room.new ≡ compact_text (boolean truth) ++ drop end room.old }
+{
+    // chosen by its place, so that no branch hangs on the value
+    let place = usize::from(truth);
+    put_block(room, end, WORDS[place], 5 - place)
 }
 
 /// A room with the same text at its end, and so many octets before it that are free: where the text begins.
@@ -290,11 +305,9 @@ impl Line {
     pub fn put_truth(&mut self, truth: bool) -> Result<(), AllocError>
         ensures { OnOk result (self.new ≡ compact_text (boolean truth) ++ self.old) }
     {
-        if truth {
-            self.put_text("true")
-        } else {
-            self.put_text("false")
-        }
+        let end = with_free(&mut self.room, self.start, BLOCK)?;
+        self.start = put_word(self.room.as_mut_slice(), end, truth);
+        Ok(())
     }
 
     /// Puts a text first between two quotation marks.

@@ -1,4 +1,4 @@
-use Rattle.std.proofs.Common.{◌≡◌, ◌+◌, ◌-◌, ◌*◌, ◌<◌, List, ℕ, ◌++◌, All, drop, length, map, nat_lt, rules, sym, ap, subst, ◌∙◌, arith}
+use Rattle.std.proofs.Common.{◌≡◌, ◌+◌, ◌-◌, ◌*◌, ◌<◌, List, ℕ, ◌++◌, All, length, map, nat_lt, rules, sym, ap, subst, ◌∙◌, arith}
 use Rattle.std.specs.Prelude.{OnOk}
 use Rattle.std.proofs.lemmas.Bool.{le-ltb, lt-ltb}
 use Rattle.std.proofs.lemmas.List.{length-map}
@@ -12,7 +12,6 @@ use Rattle.eds_value.specs.declared.layout.Piece.{Piece}
 use Rattle.eds_value.specs.Entries.{entries_along}
 use Rattle.eds_value.specs.Held.{AreHeld}
 use Rattle.eds_value.specs.JsonOfValue.{fields_data, json_of_value, type_name}
-use Rattle.eds_value.specs.Layouts.{laid_text, pieces_text}
 use Rattle.eds_value.proofs.Plains.{json_fields, json_items}
 use Rattle.eds_value.proofs.Pushed.{all_items, all_pieces, held_at, item_first, no_items, no_pieces, piece_first, plain_items, size, size_at, sizes, value_at}
 use Rattle.eds_value.proofs.put.+put.Goals as goal
