@@ -5,7 +5,7 @@
 
 PROGRAM (by default crates/eds_prog/out/eds_prog) and the programs of packets.rs and kinds.rs, built here by `rustc -O`, split
 the same recording; what they print has to agree octet by octet. The time is the least processor time of N turns (by default 5),
-in which the programs take turns, with the ratio of the medians beside it, and the memory the most that a process was seen to
+in which the programs take turns, each as often the first, with the ratio of the medians beside it, and the memory the most that a process was seen to
 hold. On a machine that shares its processors with others, five turns are too few.
 
   scalars    packets of twenty scalars (packets.rs), as many as a report takes: with `write!`, and with digits put one by one
@@ -140,10 +140,12 @@ def run(words, folder):
 def measure(title, folder, turns, commands, status=0):
     """Prints the least time and the most memory of each command, and the ratio of the first one to each."""
     times, memory = {name: [] for name in commands}, {}
-    for _ in range(turns):
+    names = list(commands)
+    for turn in range(turns):
         printed = set()
-        for name, words in commands.items():
-            seconds, most, ended, text = run(words, folder)
+        first = turn % len(names)
+        for name in names[first:] + names[:first]:
+            seconds, most, ended, text = run(commands[name], folder)
             if ended != status:
                 sys.exit(f"{name} ends with {ended}")
             times[name].append(seconds)
