@@ -3,6 +3,7 @@
 
     .ci/cases.py [WORD..]      the cases whose file or words hold one of the words; without words all of them
 
+The environment's EDS may name a built program in the place of ./eds, such as one without proof: EDS=$(tools/quick eds_prog).
 A case that says how reads or writes behave is passed over: real files can't show it. docs/TESTING.md says how a case is written.
 """
 import json
@@ -14,8 +15,17 @@ import tempfile
 from concurrent.futures import ThreadPoolExecutor
 
 ROOT = pathlib.Path(__file__).resolve().parent.parent
-PROGRAM = os.environ.get("EDS", ROOT / "eds")  # another build of the program, where it is named
 DATA = ROOT / "crates" / "eds_cases" / "data"
+
+
+def program():
+    """The program to try: the one that EDS names, or ./eds, where what it runs is proved."""
+    if os.environ.get("EDS"):
+        return os.path.abspath(os.environ["EDS"])
+    subprocess.run([ROOT / "eds"], stdout=subprocess.DEVNULL, check=False)  # builds the program once, where it isn't built
+    if subprocess.run([ROOT / "eds"], capture_output=True, check=False).stderr:
+        sys.exit("./eds runs a program that isn't proved yet: prove it by tools/build, or name it by EDS=$(tools/quick eds_prog)")
+    return ROOT / "eds"
 
 
 def copies(piece, count, separator):
@@ -85,7 +95,7 @@ def cases(files=None):
                 yield file.name, case
 
 
-def run(case):
+def run(tried, case):
     """The wanted answer and the one that came, as pairs of a status and a report."""
     parts = case["parts"]
     line = text_of(case["words"], parts)
@@ -95,7 +105,7 @@ def run(case):
         for name, content in case["files"].items():
             pathlib.Path(folder, name).write_bytes(octets_of(content, parts))
         words = line.split(" ") if line else []
-        ran = subprocess.run([PROGRAM, *words], cwd=folder, stdin=subprocess.DEVNULL, capture_output=True, timeout=60)
+        ran = subprocess.run([tried, *words], cwd=folder, stdin=subprocess.DEVNULL, capture_output=True, timeout=60)
     return (wanted.get("status", 0), report.encode(), b""), (ran.returncode, ran.stdout, ran.stderr)
 
 
@@ -106,10 +116,9 @@ def main(words):
         if "reads" not in case and "writes" not in case
         and (not words or any(word in f"{file} {case['words']}" for word in words))
     ]
-    subprocess.run([PROGRAM], stdout=subprocess.DEVNULL, check=False)  # builds the program once, where it isn't built
-    failed = 0
+    tried, failed = program(), 0
     with ThreadPoolExecutor(os.cpu_count()) as pool:
-        for (file, case), (wanted, got) in zip(chosen, pool.map(lambda pair: run(pair[1]), chosen)):
+        for (file, case), (wanted, got) in zip(chosen, pool.map(lambda pair: run(tried, pair[1]), chosen)):
             if wanted != got:
                 failed += 1
                 print(f"{file}: {text_of(case['words'], case['parts'])[:200]}\n  wanted {wanted}\n  got    {got}"[:2000])

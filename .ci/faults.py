@@ -27,8 +27,8 @@ sys.dont_write_bytecode = True
 import cases as case_files  # noqa: E402
 
 TOP = os.path.dirname(os.path.dirname(os.path.abspath(__file__)))
-FEW = ["flat/check", "flat/unpack", "flat/pack", "flat/short", "packages/check", "packages/alone", "bus/alone", "bus/wired"]
-MEMORY = ["flat/unpack", "flat/pack", "packages/check"]
+FEW = ["flat/check", "flat/unpack", "flat/pack", "flat/layout", "flat/short", "packages/check", "packages/alone", "bus/alone", "bus/wired", "replay/recorded", "replay/drifted"]
+MEMORY = ["flat/unpack", "flat/pack", "flat/layout", "packages/check"]
 TABLE = case_files.DATA / "cases" / "calls.json"
 SECONDS = 20
 

@@ -1,12 +1,12 @@
 #!/usr/bin/env python3
-"""Runs the program on sheets, frames, values and scripts that are made to hurt, and holds it to its answers and to bounds.
+"""Runs the program on sheets, frames, values, scripts and sessions that are made to hurt, and holds it to its answers and to bounds.
 
   .ci/hostile.py [--measure] [PROGRAM]
 
-PROGRAM is the built program (by default crates/eds_prog/out/eds_prog). Each input has the report that has to come, where
-the program has 256 MiB of memory and 1 MiB of stack; it takes at most 2 seconds of processor time. With --measure the time
-is printed, and the least memory and the least stack that suffice, and at the end the deepest stack of all. Inputs that cost
-more, and why, are those of bench/worst.py.
+PROGRAM is the built program (by default that of the environment's EDS, or else crates/eds_prog/out/eds_prog). Each input has
+the report that has to come, where the program has 256 MiB of memory and 1 MiB of stack; it takes at most 2 seconds of
+processor time. With --measure the time is printed, and the least memory and the least stack that suffice, and at the end the
+deepest stack of all. Inputs that cost more, and why, are those of bench/worst.py.
 """
 
 import json
@@ -25,6 +25,7 @@ SECONDS, MEMORY, STACK, SYSTEM = 2, 256 << 20, 1 << 20, 8 << 20
 FILE, PACKETS = 4_194_304, 8_388_608
 
 U4 = ["IntegerDataType", {"name": "U4"}, ["IntegerDataEncoding", {"sizeInBits": "4", "encoding": "unsigned"}]]
+U8 = ["IntegerDataType", {"name": "U8"}, ["IntegerDataEncoding", {"sizeInBits": "8", "encoding": "unsigned"}]]
 U12 = ["IntegerDataType", {"name": "U12"}, ["IntegerDataEncoding", {"sizeInBits": "12", "encoding": "unsigned"}]]
 POSITIVE = ["Range", ["MinMaxRange", {"rangeType": "atLeast", "min": "0"}]]
 
@@ -416,6 +417,69 @@ def recordings():
         3, f"fault OutOfRange at $.a in packet {PACKETS}\n")  # fmt: skip
 
 
+def rows(*parts, at=0):
+    """Lines of a layout: for each part, of which a name and a size are given, where it stands."""
+    found = []
+    for name, size in parts:
+        found.append(f"{at} {size} $.{name} entry\n")
+        at += size
+    return "".join(found)
+
+
+def nests(layers, width):
+    """Layers of so many containers, of which each holds all those of the layer before: width^layers ways to the first."""
+    yield U4
+    for layer in range(layers):
+        for it in range(width):
+            below = [f"C{layer - 1}-{k}" for k in range(width)] if layer else ["U4"]
+            yield container(f"C{layer}-{it}", *(entry(f"e{k}", of) for k, of in enumerate(below)))
+
+
+def scattered(count, kinds):
+    """A family of which every second container is abstract, and so many containers under one that has an entry of it: each asks
+    for a kind of the family, which leaves as many intervals as there are concrete containers."""
+    root = ["ContainerDataType", {"name": "K", "abstract": "true"}, ["EntryList", entry("k", "U12")]]
+    family = [derived(f"D{i}", "K", asks("k", i)) for i in range(kinds)]
+    for it in family[1::2]:
+        it[1]["abstract"] = "true"
+    outer = ["ContainerDataType", {"name": "B", "abstract": "true"}, ["EntryList", entry("n", "U12"), entry("x", "K")]]
+    kind = ["TypeConstraint", {"entry": "x", "type": "K"}]
+    return [U12, root, *family, outer, *(derived(f"E{i}", "B", asks("n", i), kind) for i in range(count))]
+
+
+def layouts():
+    """Types whose layouts are made to hurt."""
+    doubled = [U4, container("D0", entry("x", "U4")), *(container(f"D{at + 1}", entry("a", f"D{at}"), entry("b", f"D{at}")) for at in range(30))]
+    yield "a layout of containers that hold the one before twice, thirty times", "layout P/D30 s", {"s": sheet(*doubled)}, (
+        0, "container P/D30 bits varies\n0 varies $.a entry\nvaries varies $.b entry\n")  # fmt: skip
+    yield "a layout of 30 layers of 58 containers, each with all of the layer before", "layout P/C29-0 s", {"s": sheet(*nests(30, 58))}, (
+        0, "container P/C29-0 bits varies\n0 varies $.e0 entry\n" + "".join(f"varies varies $.e{k} entry\n" for k in range(1, 58)))  # fmt: skip
+    yield "a layout of the largest family", "layout P/K s", {"s": sheet(*family(511, lambda i: i))}, (
+        0, "".join(f"container P/D{i} bits 12\n0 12 $.k entry\nwhere $.k {i}..{i}\n" for i in range(511)))  # fmt: skip
+    parts = [(f"e{i}_{k}", 4) for i in range(16) for k in range(2000)] + [("last", 4)]
+    yield "a layout of the longest chain, of 2,000 entries each", "layout P/C0 s", {"s": sheet(U4, *chain(16, 2000))}, (
+        0, f"container P/C15 bits {4 * len(parts)}\n" + rows(*parts))  # fmt: skip
+    parts = [(f"e{k}", 12) for k in range(32767)]
+    wide = [U12, container("K", *(entry(name, "U12") for name, _ in parts)), derived("D", "K", *(asks(name, k % 4096) for k, (name, _) in enumerate(parts)))]
+    wide[1][1]["abstract"] = "true"
+    told = sorted(f"where $.{name} {k % 4096}..{k % 4096}\n" for k, (name, _) in enumerate(parts))
+    yield "a layout of 32,767 entries with a constraint each", "layout P/K s", {"s": sheet(*wide)}, (
+        0, "container P/D bits 393204\n" + rows(*parts) + "".join(sorted(told, key=lambda it: it.split(" ")[1].encode())))  # fmt: skip
+    kinds = ",".join(f"{i}..{i}" for i in range(2, 512, 2))
+    yield "a layout of 511 containers, of which each leaves 255 intervals", "layout P/B s", {"s": sheet(*scattered(511, 510))}, (
+        0, "".join(f"container P/E{i} bits 24\n0 12 $.n entry\n12 12 $.x entry\nwhere $.n {i}..{i}\nwhere $.x {kinds}\n" for i in range(511)))  # fmt: skip
+    line = ["StringDataType", {"name": "L", "length": "9", "fixedLength": "false"}, ["StringDataEncoding", {"terminationCharacter": "10"}]]
+    names, own = ["x" * 113 + str(k) for k in range(988)], "y" * 121
+    told = "0 12 $.k entry\n12 varies $.l entry\n" + "".join(f"varies 8 $.{name} entry\n" for name in names)
+    report = "".join(f"container P/D{i} bits varies\n{told}where $.k {i}..{i}\n" for i in range(506))
+    report += f"container P/D506 bits varies\n{told}varies 8 $.{own} entry\nwhere $.k 506..506\n"
+    for what, name, answer in (("as many octets as a report may have", own, (0, report)), ("one octet more", own + "y", (7, "limit report 67108864\n"))):
+        longest = [line, U8, *family(507, lambda i: i)]
+        longest[3][2] += [entry("l", "L"), *(entry(name, "U8") for name in names)]
+        longest[-2].append(["EntryList", entry(name, "U8")])
+        yield f"a layout of {what}", "layout P/K s", {"s": sheet(*longest)}, answer
+
+
 def scripts():
     """Scripts that are made to hurt: what each shows, the script, and the answer. They are run over the sheet of a heater."""
     beats = [f"{n}000 frame Dev/Heater:bus send a5{n:02x}" for n in range(1, 256)] + [f"{n}000 halt Dev/Heater m OutOfRange" for n in range(256, 10001)]
@@ -441,6 +505,65 @@ def scripts():
     yield "a frame of 2 million digits", "frame Dev/Heater:bus recv " + "0" * 2000000, (3, "bad line 1 Hex\n")
     yield "30 frames of 65,536 octets", ("frame Dev/Heater:bus recv " + "a5" * 65536 + "\n") * 30, (
         0, "0 reject Dev/Heater:bus recv Trailing at $\n" * 30 + ends())  # fmt: skip
+
+
+def sessions():
+    """Sessions that are made to hurt: what each shows, the session, and the answer. They are replayed over the sheet of a heater."""
+    on = "cmd Dev/Heater:ctl On {}\n"
+    beats = [f"{n}000 frame Dev/Heater:bus send a5{n:02x}" for n in range(1, 256)] + [f"{n}000 halt Dev/Heater m OutOfRange" for n in range(256, 10001)]
+    unsent, begun = "differs at line %d want %s got nothing\n", FILE - len(on)
+    yield "4 MiB of recordings for one line", on + "> \n" * (begun // 3), (3, unsent % (2, ""))
+    yield "10,000 recordings for one line, which agree", on + "tick 10000000\n" + "".join(f"> {it}\n" for it in beats), (0, "agrees 10000 respelled 0\n")
+    yield "a line with 10,001 events, and 10,000 recordings", on + "tick 10001000\n" + "".join(f"> {it}\n" for it in beats), (7, "limit deliveries 10000 at line 2\n")
+    yield "4 MiB of recordings without a line", "> \n" * (FILE // 3), (3, unsent % (1, ""))
+    yield "a recording of 4 MiB", "> " + "x" * (FILE - 2), (3, unsent % (1, "x" * (FILE - 2)))
+    yield "4 MiB of octets that begin no character", b"> " + b"\xff" * (FILE - 2), (3, unsent % (1, "\ufffd" * (FILE - 2)))
+    yield "4 MiB of characters that lack their last octet", b"> " + b"\xe2\x82" * (FILE // 2 - 1), (3, unsent % (1, "\ufffd" * (FILE - 2)))
+    yield "2 million letters and octets that begin no character, in turn", b"> " + b"x\xff" * (FILE // 2 - 1), (3, unsent % (1, "x\ufffd" * (FILE // 2 - 1)))
+    yield "4 MiB of letters, and an octet that begins no character", b"> " + b"x" * (FILE - 3) + b"\xff", (3, unsent % (1, "x" * (FILE - 3) + "\ufffd"))
+    yield "4 MiB of empty lines of a session", "\n" * FILE, (0, "agrees 0 respelled 0\n")
+    yield "a session of a comment of 4 MiB", "#" * FILE, (0, "agrees 0 respelled 0\n")
+    yield "4 MiB of marks of recordings that lack their space", ">\n" * (FILE // 2), (3, "bad line 1 Words\n")
+    yield "4 MiB of recordings, and a line that means nothing", "> x\n" * (FILE // 4 - 1) + "x", (3, "bad line %d Words\n" % (FILE // 4))
+    pair = "get Dev/Heater:ctl Count\n> 0 val Dev/Heater:ctl Count 0\n"
+    yield "many lines of a recording each", pair * (FILE // len(pair)), (0, "agrees %d respelled 0\n" % (FILE // len(pair)))
+
+
+def beating(of, value):
+    """A component that sends a value of a type each nanosecond, as a frame."""
+    send = ["SendCommandPrimitive", {"interface": "b", "command": "s"}, ["ArgumentValue", {"name": "a"}, ["VariableRef", {"variableRef": "v"}]]]
+    timer = ["Transition", {"fromState": "S", "toState": "S"}, ["OnTimer", {"nanosecondsAfterEntry": "1"}], ["Do", {"activity": "send"}]]
+    commands = ["CommandSet", ["Command", {"name": "s"}, ["Argument", {"name": "a", "type": of[-1][1]["name"]}]]]
+    package = interfaces(["Interface", {"name": "X", "level": "subnetwork"}, commands], types=of)
+    inner = [
+        ["VariableSet", ["Variable", {"name": "v", "type": of[-1][1]["name"], **({"initialValue": value} if value else {})}]],
+        ["ActivitySet", ["Activity", {"name": "send"}, ["Body", send]]],
+        ["StateMachineSet", ["StateMachine", {"name": "m"}, ["EntryState", {"name": "S"}], timer]],
+    ]
+    package[1].append(["ComponentSet", ["Component", {"name": "C"}, ["RequiredInterfaceSet", ["Interface", {"name": "b", "type": "X"}]], ["Implementation", *inner]]])
+    return package
+
+
+def respelled():
+    """Frames that are spelled otherwise: many short ones, and some as long as frames may be."""
+    octet = ["IntegerDataType", {"name": "U8"}, ["IntegerDataEncoding", {"sizeInBits": "8", "encoding": "unsigned"}]]
+    beats = "".join("tick 10000\n" + "".join(f"> {n} frame P/C:b s 0A\n" for n in range(at * 10000 + 1, at * 10000 + 10001)) for at in range(10))
+    yield "100,000 frames that are spelled otherwise", "replay r s", {"r": beats, "s": beating([octet], "10")}, (0, "agrees 100000 respelled 100000\n")
+    binary = ["BinaryDataType", {"name": "B", "sizeInBits": "524284"}]
+    flags = [["IntegerDataType", {"name": "U1"}, ["IntegerDataEncoding", {"sizeInBits": "1", "encoding": "unsigned"}]],
+             ["ArrayDataType", {"name": "A", "dataTypeRef": "U1"}, ["DimensionList", ["Dimension", {"size": "65535"}]]],
+             ["ArrayDataType", {"name": "B", "dataTypeRef": "A"}, ["DimensionList", ["Dimension", {"size": "7"}]]]]  # fmt: skip
+    signs = ["IntegerDataType", {"name": "S"}, ["IntegerDataEncoding", {"sizeInBits": "8", "encoding": "signMagnitude"}]]
+    zeros = ["ArrayDataType", {"name": "B", "dataTypeRef": "S"}, ["DimensionList", ["Dimension", {"size": "65536"}]]]
+
+    def frames(digits, octets, last, count=31):
+        return "".join(f"tick 1\n> {n} frame P/C:b s {digits * (octets - 1)}{last}\n" for n in range(1, count + 1))
+
+    yield "31 frames of 65,536 octets, which are filled otherwise", "replay r s", {"r": frames("00", 65536, "0f"), "s": beating([binary], "")}, (
+        0, "agrees 31 respelled 31\n")  # fmt: skip
+    yield "31 frames of 65,536 minus zeros", "replay r s", {"r": frames("80", 65536, "80"), "s": beating([signs, zeros], "")}, (0, "agrees 31 respelled 31\n")
+    yield "8 frames of 458,745 numbers of a bit, which are filled otherwise", "replay r s", {"r": frames("00", 57344, "7f", 8), "s": beating(flags, "")}, (
+        0, "agrees 8 respelled 8\n")  # fmt: skip
 
 
 def sheet_of_cases(name):
@@ -470,6 +593,11 @@ def runs():
     for what, script, answer in scripts():
         yield what, "run r s", {"r": script, "s": dev}, answer
     yield "a run that tells 72 million octets", "run r s", {"r": "tick 100\n" * 12, "s": chatty(60000)}, (7, "limit report 67108864\n")
+    for what, session, answer in sessions():
+        yield what, "replay r s", {"r": session, "s": dev}, answer
+    yield "a session whose events are 72 million octets", "replay r s", {"r": "tick 100\n" * 12, "s": chatty(60000)}, (
+        3, 'differs at line 1 want nothing got 1 cmd P/C:p c {"a":"' + "x" * 60000 + '"}\n')  # fmt: skip
+    yield from respelled()
 
 
 def run(program, words, room, stack=STACK, memory=MEMORY):
@@ -530,10 +658,10 @@ def hold(program, given, measures):
 
 def main():
     words = [it for it in sys.argv[1:] if it != "--measure"]
-    program = os.path.abspath(words[0]) if words else os.path.join(TOP, "crates/eds_prog/out/eds_prog")
+    program = os.path.abspath(words[0] if words else os.environ.get("EDS") or os.path.join(TOP, "crates/eds_prog/out/eds_prog"))
     measures = "--measure" in sys.argv
     with ThreadPoolExecutor(1 if measures else os.cpu_count()) as pool:
-        held = list(pool.map(lambda it: hold(program, it, measures), map(as_octets, chain_of(inputs(), deep(), recordings(), behaviour(), runs()))))
+        held = list(pool.map(lambda it: hold(program, it, measures), map(as_octets, chain_of(inputs(), deep(), recordings(), layouts(), behaviour(), runs()))))
     for what, wrong, took, _ in held:
         if measures:
             print(f"{took}  {what}")

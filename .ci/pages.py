@@ -14,10 +14,13 @@ A fenced block of the kind `rust` whose first line is `// FILE: NAME` shows the 
 the repository, so that what a page shows is proved. With --renew such blocks are written anew, and nothing is run.
 
 docs/ERRORS.md has to explain each word of a report: the rules, faults, reasons, limits and halts that the crates name each
-have an example there that prints them, with a heading where the word has a section of its own, and each status has a row. And
-docs/PROFILE.md has to list each element of the element table, with its attributes.
+have an example there that prints them, with a heading where the word has a section of its own, and each status has a row.
+docs/PROFILE.md has to list each element of the element table, with its attributes. Each file of definitions, code, cases and
+edits that docs/RULES.md names has to be there. The table of edits in docs/TESTING.md has to count those of each crate, and to
+add up. And each link of a page to one of these files has to lead to a file and a heading that are there.
 """
 
+import glob
 import os
 import re
 import shutil
@@ -25,13 +28,16 @@ import subprocess
 import sys
 import tempfile
 import textwrap
+from collections import Counter
 from concurrent.futures import ThreadPoolExecutor
 
+import cases
+
 TOP = os.path.dirname(os.path.dirname(os.path.abspath(__file__)))
-SECONDS = 120
-# commands that a machine may lack: an example with one is then passed over
-SPARE = ["xxd"]
-ERRORS, PROFILE = "docs/ERRORS.md", "docs/PROFILE.md"
+SECONDS = 300
+# words of examples, and for each a command that a machine may lack: an example with the word is then passed over
+SPARE = {"xxd": "xxd", "tshark": "tshark", "tools/recordings": "dask-scheduler"}
+ERRORS, PROFILE, RULES, TESTING = "docs/ERRORS.md", "docs/PROFILE.md", "docs/RULES.md", "docs/TESTING.md"
 BUILT = "crates/eds_prog/out"
 ELEMENTS = "crates/eds_tree/specs/ElementTable.antt"
 # Where the crates name the words of reports: the files, the words in them, and for each word a line of ERRORS.md that shows
@@ -95,21 +101,21 @@ def run(command, room):
     return ran.stdout.decode(errors="replace"), ran.returncode
 
 
-def hold(page):
-    """Runs a page's examples. Gives how many commands were run, and what went wrong."""
+def hold(program, page):
+    """Runs a page's examples by a program. Gives how many commands were run, and what went wrong."""
     with open(page, encoding="utf-8") as file:
         text = file.read()
     found, short, ran, wrong = blocks(text), os.path.relpath(page, TOP), 0, []
     if shown(text) != text:
         ran, wrong = 1, [f"{short}: a function that it shows has changed: .ci/pages.py --renew"]
     with tempfile.TemporaryDirectory(prefix="eds-page-") as room:
-        os.symlink(os.environ.get("EDS") or os.path.join(TOP, "eds"), os.path.join(room, "eds"))
+        os.symlink(program, os.path.join(room, "eds"))
         os.makedirs(os.path.join(room, BUILT))
-        os.symlink(os.environ.get("EDS") or os.path.join(TOP, BUILT, "eds_prog"), os.path.join(room, BUILT, "eds_prog"))
+        os.symlink(program if os.environ.get("EDS") else os.path.join(TOP, BUILT, "eds_prog"), os.path.join(room, BUILT, "eds_prog"))
         for name in ("tools", "examples"):
             os.symlink(os.path.join(TOP, name), os.path.join(room, name))
         for begins, block in found:
-            lacking = [it for it in SPARE if re.search(rf"\b{it}\b", "\n".join(block)) and not shutil.which(it)]
+            lacking = [it for word, it in SPARE.items() if re.search(rf"\b{word}\b", "\n".join(block)) and not shutil.which(it)]
             if lacking:
                 print(f"pages: {short}, line {begins + 1}: passed over, since {lacking[0]} is not here")
                 continue
@@ -175,6 +181,56 @@ def unlisted():
     return many, wrong if many else [f"{PROFILE}: no element is found in {ELEMENTS}"]
 
 
+def unplaced():
+    """What RULES.md names and isn't there: definitions, functions, edits and cases. Gives how many there are, and what is wrong."""
+    with open(os.path.join(TOP, RULES), encoding="utf-8") as file:
+        rows = [it.split(" | ") for it in file.read().split("\n") if re.match(r"\| .*\| \d \|", it)]
+    named = []
+    for _, _, definitions, functions, edits, cases_of in rows:
+        for column, folder, ending in ((definitions, "specs", "antt"), (functions, "src", "rt")):
+            for crate, names in re.findall(r"(eds_\w+): ([^;]*)", column):
+                named += [f"crates/{crate}/{folder}/{it}.{ending}" for it in re.findall(r"`(\w+)`", names)]
+        named += [f"crates/*/must-fail/{it}.edit" for it in re.findall(r"`(\w+)`", edits.partition("exact:")[0])]
+        named += [f"crates/eds_cases/data/cases/{it}.json" for it in re.findall(r"`(\w+)`", cases_of)]
+    wrong = [f"{RULES}: there is no {it}" for it in named if not glob.glob(os.path.join(TOP, it))]
+    return len(named), wrong if named else [f"{RULES}: no rule is found"]
+
+
+def miscounted():
+    """What TESTING.md has wrong of the edits of each crate, and of the sums. Gives how many rows there are, and what is wrong."""
+    with open(os.path.join(TOP, TESTING), encoding="utf-8") as file:
+        rows = re.findall(r"^\| (eds_\w+|all) \| (\d+) \| (.*) \|$", file.read(), re.M)
+    told = {name: int(many) for name, many, _ in rows}
+    there = Counter(it.split(os.sep)[-3] for it in glob.glob(os.path.join(TOP, "crates/*/must-fail/*.edit")))
+    crates = sorted({*told, *there} - {"all"})
+    wrong = [f"{TESTING}: {it} has {there[it]} edits, not {told.get(it)}" for it in crates if told.get(it) != there[it]]
+    bodies = sum(len(re.findall(r"\w+", it.partition("`: ")[2])) for *_, cell in rows for it in cell.split("; "))
+    if ("all", str(there.total()), str(bodies)) not in rows:
+        wrong.append(f"{TESTING}: all crates have {there.total()} edits, and {bodies} wrong bodies without one")
+    return len(rows), wrong
+
+
+def headings(page):
+    """The words by which a page's headings are linked to."""
+    with open(page, encoding="utf-8") as file:
+        text = re.sub(r"^```.*?^```$", "", file.read(), flags=re.S | re.M)
+    titles = [re.sub(r"`|\[([^\]]*)\]\([^)]*\)", lambda it: it[1] or "", title) for title in re.findall(r"^#+ (.*)$", text, re.M)]
+    return {re.sub(r"[^\w\- ]", "", it.strip().lower()).replace(" ", "-") for it in titles}
+
+
+def astray(page):
+    """The links of a page that lead to no file, or to no heading of one. Gives how many there are, and what is wrong."""
+    with open(page, encoding="utf-8") as file:
+        links = [it for it in re.findall(r"\]\(([^)\s]+)\)", file.read()) if "://" not in it]
+    wrong = []
+    for link in links:
+        path, _, heading = link.partition("#")
+        there = os.path.normpath(os.path.join(os.path.dirname(page), path)) if path else page
+        if not os.path.exists(there) or (heading and heading not in headings(there)):
+            wrong.append(f"{os.path.relpath(page, TOP)}: nothing is at {link}")
+    return len(links), wrong
+
+
 def function(file, name):
     """A function's text in a file, from its name to its end, without the indentation."""
     with open(os.path.join(TOP, file), encoding="utf-8") as it:
@@ -204,9 +260,11 @@ def main():
         for page in taken:
             renew(page)
         return 0
+    program = cases.program()
     with ThreadPoolExecutor(os.cpu_count()) as pool:
-        found = list(pool.map(hold, taken))
-    for page, check in ((ERRORS, unexplained), (PROFILE, unlisted)):
+        found = list(pool.map(lambda page: hold(program, page), taken))
+    found += [astray(page) for page in taken]
+    for page, check in ((ERRORS, unexplained), (PROFILE, unlisted), (RULES, unplaced), (TESTING, miscounted)):
         if os.path.join(TOP, page) in taken:
             found.append(check())
     ran, wrong = sum(it[0] for it in found), [it for _, failed in found for it in failed]

@@ -6,7 +6,8 @@
 PROGRAM is a built program (by default crates/eds_prog/out/eds_prog), or `-` for the model alone. A run is one sheet: it is
 checked, and where it is accepted, frames and values of its types are read and packed, and packets are split. WORDS say what
 sheets may hold: `built`, `whole`, `scalars`, or words of `EVERYTHING` in bench/model/run_model.py with commas between them.
-With `runs` sheets have components, and where they are accepted, scripts are run over them. With `recordings` the
+With `runs` sheets have components, and where they are accepted, scripts are run over them; with `sessions` these hold
+recordings of what is sent, right and wrong ones, and are replayed. With `recordings` the
 containers of an accepted sheet split recordings of some hundred packets each, with `templates` those of a sheet whose parts
 stand at fixed places. With `changed` a run is one of
 bench/fuzz.py: a command of the cases and examples, of whose files some are changed. Each difference is printed with its words
@@ -34,6 +35,7 @@ import fuzz  # noqa: E402
 import gen  # noqa: E402
 import gen_components  # noqa: E402
 import gen_scripts  # noqa: E402
+import gen_sessions  # noqa: E402
 import gen_templates  # noqa: E402
 import run_model  # noqa: E402
 import runs  # noqa: E402
@@ -50,12 +52,12 @@ def lose_patience(*_):
     raise Slow
 
 
-def answer(words, files, stage):
-    """The model's answer, or None where it takes too long."""
+def in_time(made, *arguments):
+    """What the model makes of some arguments, or None where it takes too long."""
     signal.signal(signal.SIGALRM, lose_patience)
     signal.setitimer(signal.ITIMER_REAL, PATIENCE)
     try:
-        return run_model.answer(words, files, stage)
+        return made(*arguments)
     except Slow:
         return None
     finally:
@@ -106,14 +108,26 @@ def of_values(seed, stage):
             yield [*words, "input", *sheet], {**sheet, "input": octets}
 
 
-def of_scripts(seed, stage):
-    """The words and files of one run: a check, and scripts where the sheet is accepted."""
-    dice = random.Random(seed)
-    sheet = {"sheet": gen_components.octets(gen_components.case(seed))}
+def of_lines(dice, sheet, stage, command, made):
+    """The words and files of one run: a check, and commands over texts of lines that are made where the sheet is accepted."""
+    sheet = {"sheet": sheet}
     yield ["check", "sheet"], sheet
     judge = accepted(sheet, stage)
     for _ in range(SCRIPTS if judge else 0):
-        yield ["run", "script", "sheet"], {**sheet, "script": gen_scripts.script(dice, judge)}
+        octets = in_time(made, dice, judge)
+        if octets is not None:
+            yield [command, "lines", "sheet"], {**sheet, "lines": octets}
+
+
+def of_scripts(seed, stage):
+    """The words and files of one run: scripts."""
+    yield from of_lines(random.Random(seed), gen_components.octets(gen_components.case(seed)), stage, "run", gen_scripts.script)
+
+
+def of_sessions(seed, stage):
+    """The words and files of one run: sessions, which hold recordings besides."""
+    dice = random.Random(seed)
+    yield from of_lines(dice, gen_sessions.sheet(seed, dice), stage, "replay", gen_sessions.session)
 
 
 def of_recordings(seed, stage):
@@ -150,11 +164,23 @@ def of_changed(seed, _):
     yield fuzz.Maker(seeds(), seed).made()
 
 
-OTHER = {"runs": of_scripts, "recordings": of_recordings, "templates": of_templates, "changed": of_changed}
+OTHER = {"runs": of_scripts, "sessions": of_sessions, "recordings": of_recordings, "templates": of_templates, "changed": of_changed}
+
+
+def replay_shown(status, report):
+    """What an answer of `replay` shows."""
+    if status == 0:
+        _, agreed, _, respelled = report.split()
+        return {"that agrees"} | ({"with events"} if agreed != "0" else set()) | ({"with other spellings"} if respelled != "0" else set())
+    if report.startswith("differs"):
+        return {"without a recording" if " want nothing got " in report else "without an event" if report.endswith(" got nothing\n") else "that differs"}
+    return {report.split(" at ")[0].strip()}
 
 
 def shown_by(words, status, report):
     """What an answer shows: of a run its events too."""
+    if words[0] == "replay" and not report.startswith("bad line"):
+        return {"replay " + it for it in replay_shown(status, report)}
     if words[0] != "run" or status not in (0, 7):
         first = report.split("\n")[0]
         return {"bad line " + first.split(" ")[3] if first.startswith("bad line") else first.split(" at ")[0] if status else words[0] + " done"}
@@ -176,7 +202,7 @@ def compare(asked):
     try:
         for words, files in makes(seed, stage):
             runs.SEEN.clear()
-            want = answer(words, files, stage)
+            want = in_time(run_model.answer, words, files, stage)
             if want is None:
                 kinds["passed over, too slow for the model"] += 1
                 continue

@@ -14,8 +14,9 @@ names. In each shape one of several things tells the containers apart:
   levels   eight abstract containers by one entry, and those below each by another
   overlap  nothing: all overlap, so that the first two are the answer
 
-Runs `PROGRAM check FILE` on them (by default ./eds) and prints the least processor time of some turns, which other work on the
-machine hardly changes, and that time for each container. Where the time grows with the family, the last column stays.
+Runs `PROGRAM check FILE` on them (by default crates/eds_prog/out/eds_prog) and prints the least processor time of some turns,
+which other work on the machine hardly changes, and that time for each container. Where the time grows with the family, the
+last column stays.
 
 With `read`, PROGRAM (by default crates/eds_bench/out/eds_bench) reads and recognises a frame of the last container of a family of
 4 and of one of 512, where each container wants one number on one path (number, packet, levels) and where it wants an interval
@@ -156,7 +157,7 @@ def read(program):
 def main():
     if sys.argv[1:2] == ["read"]:
         return read(sys.argv[2] if sys.argv[2:] else "crates/eds_bench/out/eds_bench")
-    program = sys.argv[1] if len(sys.argv) > 1 else "./eds"
+    program = sys.argv[1] if len(sys.argv) > 1 else "crates/eds_prog/out/eds_prog"
     for name, make, wanted in SHAPES:
         for size in SIZES:
             with tempfile.TemporaryDirectory() as folder:

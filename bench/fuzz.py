@@ -36,10 +36,11 @@ SECONDS = 2
 # the most octets of a file to begin with
 FILE = 20_000
 # A word of the sheet is told as it stands there, with its line feeds.
+LINES = (["run"], ["replay"])  # the commands over a script
 REPORTS = {
     1: rb"refused \d+ \w+ at \d+:\d+( (?s:.*))?\n",
     2: rb"usage: eds COMMAND ARGUMENTS\n",
-    3: rb"(fault \w+ at \$[^\n]*|bad line \d+ \w+)\n",
+    3: rb"(fault \w+ at \$[^\n]*|bad line \d+ \w+|differs at line \d+ want [^\n]* got [^\n]*)\n",
     4: rb"read fault [^\n]*\n",
     6: rb"",
     7: rb"(?s:.*)limit \w+ \d+( at line \d+)?\n",
@@ -93,7 +94,7 @@ class Seeds:
         attributes = [it[1] for it in nodes if len(it) > 1 and isinstance(it[1], dict)]
         self.keys = sorted({key for it in attributes for key in it})
         self.texts = sorted({str(value) for it in attributes for value in it.values()}) + TEXTS
-        self.runs = [it for it in self.commands if it[0][:1] == ["run"] and any(name in it[1] for name in it[0][1:2])]
+        self.runs = [it for it in self.commands if it[0][:1] in LINES and any(name in it[1] for name in it[0][1:2])]
         self.lines = sorted({line for it in self.scripts for line in it.decode("utf-8", "replace").split("\n") if len(line) < 200})
 
     def take(self, words, files):
@@ -102,7 +103,7 @@ class Seeds:
             return
         self.commands.append((words, files))
         for name, octets in files.items():
-            if words[:2] == ["run", name]:
+            if words[:1] in LINES and words[1:2] == [name]:
                 self.scripts.append(octets)
                 continue
             try:
@@ -274,7 +275,7 @@ class Maker:
             words, files = self.dice.choice(self.seeds.commands)
             if files:
                 name = self.dice.choice(sorted(files))
-                is_script = words[:2] == ["run", name]
+                is_script = words[:1] in LINES and words[1:2] == [name]
                 return words, {**files, name: self.changed_script(files[name]) if is_script else self.changed(files[name])}
         command = self.dice.choice(["check", "unpack", "pack", "split", "run", "run"])
         if command == "run":
@@ -321,7 +322,7 @@ def turn(program, seeds, number, found):
             with open(os.path.join(room, name), "wb") as file:
                 file.write(octets)
         # a script's lines are bounded one by one
-        seconds = SECONDS + (files[words[1]].count(b"\n") // 5 if words[:1] == ["run"] and words[1:2] and words[1] in files else 0)
+        seconds = SECONDS + (files[words[1]].count(b"\n") // 5 if words[:1] in LINES and words[1:2] and words[1] in files else 0)
         status, report, wrong = run(program, words, room, seconds)
         if not wrong and run(program, words, room, seconds)[:2] != (status, report):
             wrong = "another run gave another answer"

@@ -3,10 +3,11 @@
 
   bench/names.py [PROGRAM]
 
-Makes sheets of 512 types in 8 files up to 4,096 types in 64 files, the most that a sheet may have. In each file all types
-but one are integer types, and the last is a container with one entry of each of them, so that each is looked up once. Runs
-`PROGRAM check FILE...` on them (by default ./eds) and prints the least processor time of some turns, which other work on
-the machine hardly changes, and that time for each type. Where time grows with the number of names, the last column stays.
+Makes sheets of 512 types in 8 files up to 4,096 types in 64 files, the most that a sheet may have. In each file all types but
+one are integer types, and the last is a container with one entry of each of them, so that each is looked up once. Runs
+`PROGRAM check FILE...` on them (by default crates/eds_prog/out/eds_prog) and prints the least processor time of some turns,
+which other work on the machine hardly changes, and that time for each type. Where time grows with the number of names, the
+last column stays.
 """
 
 import json
@@ -49,7 +50,7 @@ def run(words):
 
 
 def main():
-    program = sys.argv[1] if len(sys.argv) > 1 else "./eds"
+    program = sys.argv[1] if len(sys.argv) > 1 else "crates/eds_prog/out/eds_prog"
     for types, files in SHEETS:
         with tempfile.TemporaryDirectory() as folder:
             words = [program, "check"] + write_files(folder, types, files)

@@ -4,9 +4,9 @@
   bench/objects.py [PROGRAM]
 
 Makes sheets of one container with 4,095, 8,191, 16,383 and 32,767 entries, the most that there may be, and for each a value
-whose members stand in another order than the entries. Prints the least processor time of some turns of `PROGRAM pack`
-(by default ./eds) less that of `PROGRAM check` on the same sheet, for each octet of the value's text. Where reading takes
-time in proportion to the text, this hardly changes.
+whose members stand in another order than the entries. Prints the least processor time of some turns of `PROGRAM pack` (by
+default crates/eds_prog/out/eds_prog) less that of `PROGRAM check` on the same sheet, for each octet of the value's text.
+Where reading takes time in proportion to the text, this hardly changes.
 """
 
 import json
@@ -49,7 +49,7 @@ def least(words):
 
 
 def main():
-    program = os.path.abspath(sys.argv[1] if len(sys.argv) > 1 else "./eds")
+    program = os.path.abspath(sys.argv[1] if len(sys.argv) > 1 else "crates/eds_prog/out/eds_prog")
     with tempfile.TemporaryDirectory() as folder:
         os.chdir(folder)
         for count in COUNTS:

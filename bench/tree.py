@@ -3,9 +3,10 @@
 
   bench/tree.py [PROGRAM]
 
-Makes a sheet of about 4 MiB with more than 60,000 elements, runs `PROGRAM check SHEET` on it (by default ./eds), and
-`python3 -c "import json; json.load(open(SHEET))"` in the same run. Prints the least processor time of some turns of each,
-which other work on the machine hardly changes, their ratio, and how many times its own size the sheet takes in memory.
+Makes a sheet of about 4 MiB with more than 60,000 elements, runs `PROGRAM check SHEET` on it (by default
+crates/eds_prog/out/eds_prog), and `python3 -c "import json; json.load(open(SHEET))"` in the same run. Prints the least
+processor time of some turns of each, which other work on the machine hardly changes, their ratio, and how many times its own
+size the sheet takes in memory.
 """
 
 import os
@@ -57,7 +58,7 @@ def least(words):
 
 
 def main():
-    program = sys.argv[1] if len(sys.argv) > 1 else "./eds"
+    program = sys.argv[1] if len(sys.argv) > 1 else "crates/eds_prog/out/eds_prog"
     text = sheet()
     with tempfile.TemporaryDirectory() as folder:
         path = os.path.join(folder, "large.json")

@@ -4,6 +4,11 @@ import json
 import re
 import xml.parsers.expat
 
+# elements that eds passes over, with all that they hold
+PASSED_OVER = {
+    "Device", "LongDescription", "Metadata", "MetadataSet", "MetadataValueSet", "NominalRangeSet", "SafeRangeSet",
+    "Semantics", "include",
+}  # fmt: skip
 TOKEN = re.compile(r'"(?:[^"\\]|\\.)*"|[\[\]{}]|[^\s"\[\]{},:]+', re.S)
 
 
@@ -26,12 +31,15 @@ class Element:
 
 
 class File:
-    """A sheet file: its elements in order, and its text. A file that is no JSON has a complaint and few elements."""
+    """A sheet file: its elements in order, and its text, which is read where its octets aren't given. A file that is no JSON has a
+    complaint and few elements."""
 
-    def __init__(self, name):
+    def __init__(self, name, octets=None):
         self.name, self.elements, self.complaint = name, [], None
-        with open(name, "rb") as file:
-            self.text = file.read().decode("utf-8", errors="replace")
+        if octets is None:
+            with open(name, "rb") as file:
+                octets = file.read()
+        self.text = octets.decode("utf-8", errors="replace")
         if self.text.lstrip().startswith("<"):
             self.read_xml()
         else:
@@ -45,6 +53,16 @@ class File:
         """The element's text, in one line, cut off where it is long."""
         text = " ".join(self.text[element.begins : element.ends].split())
         return text if len(text) <= 300 else text[:296] + " ..."
+
+    def described(self, number):
+        """The element of a number with its line and column, the elements around it and its text; None where there is none."""
+        complaint = [self.complaint] if number == 0 and self.complaint else []
+        if number >= len(self.elements):
+            return f"{self.name}: {self.complaint}" if complaint else None
+        found = self.elements[number]
+        line, column = self.place(found.begins)
+        first = f"{self.name}:{line}:{column}: " + " / ".join(it.label() for it in found.path())
+        return "\n  ".join([first, self.shown(found), *complaint])
 
     def read_json(self):
         try:

@@ -1321,10 +1321,11 @@ class Judge:
         x = common[-1]
         if not any(a.id in used for a in chain(x)):
             return None
-        first_names = {p for a in chain(x) for p in a.entries if p.kind == "Entry"}
+        if x.id not in self.starts_at:
+            self.starts_at[x.id] = {p for a in chain(x) for p in a.entries if p.kind == "Entry"}
         sets = {}
         for c in {id(c): c for a in ck + cl for c in a.constraints}.values():
-            if c.path[0] in first_names:
+            if c.path[0] in self.starts_at[x.id]:
                 sets.setdefault(c.text, (self.path_domain(c.path), []))[1].append(c.set)
         note = []
         for text in sorted(sets, key=lambda s: s.encode()):
@@ -1335,7 +1336,7 @@ class Judge:
         return note
 
     def phase7(self):
-        used = self.used()
+        used, self.starts_at = self.used(), {}
         concrete = [t for t in self.types if t.kind == "Container" and not t.hidden]
         for second in concrete:
             for one in concrete:
@@ -1414,10 +1415,16 @@ def text_value(t, text):
     if t.kind == "Boolean":
         return None if flag(text) is None else ("bool", flag(text))
     if t.kind == "String":
-        return ("text", text) if text_fault(t, text) is None else None
+        return ("text", text) if text_fault(t, text) is None and text_bits(t, text) <= 524288 else None
     if t.kind == "Binary":
         return bits_value(t, text)
     return None
+
+
+def text_bits(t, text):
+    """How many bits a text has with what fills it up or ends it."""
+    length, fixed, _, _ = text_form(t)
+    return 8 * (length if fixed else len(text.encode("utf-8")) + 1)
 
 
 def text_fault(t, text):

@@ -3,7 +3,8 @@
 
   run_model.py check FILE...                 run_model.py unpack TYPE HEXFILE FILE...
   run_model.py run SCRIPT FILE...            run_model.py pack TYPE JSONFILE FILE...
-  run_model.py demo N
+  run_model.py layout TYPE FILE...           run_model.py split TYPE BINFILE FILE...
+  run_model.py replay SESSION FILE...        run_model.py demo N
 
 Prints what `eds` prints and ends with its status. `answer(words, files, stage)` is the same as a function, with files a
 dict from names to bytes. A stage is a set of words of what is built; see STAGES.
@@ -15,8 +16,10 @@ import eds_model as m
 from components import Component, ComponentReader, component_references, twice_in_component
 from interfaces import Face, References, Resolution, cycle_breaks, twice_in_interface
 from activities import Primitive
+from layouts import text as layout_text
 from runs import Host, Rejected, Storm
 from scripts import BadLine, Script, end_report, event_text
+from sessions import replayed
 
 EVERYTHING = m.EVERYTHING | {"interfaces", "ends", "activities", "machines", "transactions"}
 STAGES = {"whole": EVERYTHING, "built": (m.EVERYTHING | {"interfaces", "ends"}) - {"inherit"}, "scalars": set()}
@@ -96,8 +99,19 @@ def run_answer(judge, octets):
     events = "".join(event_text(judge, time, event) for time, event in host.outs)
     if storm is not None:
         return (7, events + "limit deliveries 10000 at line %d\n" % storm)
-    report = events + end_report(judge, host)
+    return within_limit(events + end_report(judge, host))
+
+
+def within_limit(report):
+    """(status, report) of a report that is as long as it is."""
     return (0, report) if len(report.encode()) <= MOST_REPORT else (7, "limit report %d\n" % MOST_REPORT)
+
+
+def replay_answer(judge, octets):
+    """(status, report) of a session over an accepted sheet."""
+    if len(octets) > MOST_SCRIPT:
+        return (7, "limit input %d\n" % MOST_SCRIPT)
+    return replayed(judge, octets)
 
 
 def sheets_of(names, files):
@@ -117,7 +131,8 @@ def sheets_of(names, files):
     return sheets, None
 
 
-LEAST_WORDS = {"split": 4, "check": 2, "unpack": 4, "pack": 4, "run": 3, "demo": 2}
+LEAST_WORDS = {"split": 4, "check": 2, "unpack": 4, "pack": 4, "run": 3, "replay": 3, "layout": 3, "demo": 2}
+FIRST_SHEET = {"check": 1, "run": 2, "replay": 2, "layout": 2}
 
 
 def answer(words, files, stage=EVERYTHING):
@@ -127,16 +142,18 @@ def answer(words, files, stage=EVERYTHING):
         return (2, "usage: eds COMMAND ARGUMENTS\n")
     if command == "demo":
         return (0, demo_report(int(words[1])))
-    sheets, end = sheets_of(words[{"check": 1, "run": 2}.get(command, 3):], files)
+    sheets, end = sheets_of(words[FIRST_SHEET.get(command, 3):], files)
     if end is not None:
         return end
     try:
-        judge = judged(sheets, words[1] if command in ("unpack", "pack", "split") else None, stage)
+        judge = judged(sheets, words[1] if command in ("unpack", "pack", "split", "layout") else None, stage)
     except m.Refused as refused:
         return (1, refused.report())
     if command == "check":
         return (0, "accepted types %d containers %d interfaces %d components %d\n" % counts(judge))
-    return input_answer(command, judge, words[1 if command == "run" else 2], files)
+    if command == "layout":
+        return within_limit(layout_text(judge, judge.word))
+    return input_answer(command, judge, words[1 if command in ("run", "replay") else 2], files)
 
 
 def counts(judge):
@@ -166,8 +183,8 @@ def input_answer(command, judge, name, files):
     """(status, report) of a command that reads an input file, over an accepted sheet."""
     if name not in files:
         return (8, "no file %s\n" % name)
-    if command == "run":
-        return run_answer(judge, files[name])
+    if command in ("run", "replay"):
+        return (run_answer if command == "run" else replay_answer)(judge, files[name])
     if command == "split":
         return split_answer(judge, files[name])
     most = 1048576 if command == "unpack" else 4194304

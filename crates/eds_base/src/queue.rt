@@ -6,7 +6,7 @@ use std::collections::VecDeque;
 use std::marker::Model;
 
 /// Items that wait, the one that came first at the front.
-#[derive(Debug, Drop)]
+#[derive(Drop)]
 pub struct Queue<T> {
     inner: VecDeque<T>,
 }

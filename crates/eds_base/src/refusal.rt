@@ -3,10 +3,10 @@
 ghost use Rattle.eds_base.specs.Refusals.{comes_before, first_of, is_type_limit, keeps, phase_by, phase_of};
 ghost use Rattle.std.specs.Prelude.{◌≡◌, ◌↔◌, IsNone};
 
-use crate::{Items, Place, Rule, Text};
+use crate::{Boxed, Items, Place, Rule, Text};
 
 /// A number that an entry may have in both of two containers.
-#[derive(Debug, Drop)]
+#[derive(Drop)]
 pub struct CommonNumber {
     pub path: Text,
     pub number: i128,
@@ -14,7 +14,7 @@ pub struct CommonNumber {
 
 /// Two containers that cannot be told apart, their nearest common ancestor, and a common number for
 /// each entry that constraints of theirs name.
-#[derive(Debug, Drop)]
+#[derive(Drop)]
 pub struct OverlapNote {
     pub first: Text,
     pub second: Text,
@@ -23,11 +23,11 @@ pub struct OverlapNote {
 }
 
 /// What a refusal keeps to show.
-#[derive(Debug, Drop)]
+#[derive(Drop)]
 pub enum Kept {
     Nothing,
     Word(Text),
-    Overlap(OverlapNote),
+    Overlap(Boxed<OverlapNote>),
 }
 
 impl Kept {
@@ -49,7 +49,7 @@ impl Kept {
 }
 
 /// The rule that a sheet breaks, and the element at which it does.
-#[derive(Debug, Drop)]
+#[derive(Drop)]
 pub struct Refusal {
     pub rule: Rule,
     pub place: Place,

@@ -4,7 +4,7 @@ ghost use Rattle.eds_base.specs.Rules.{rule_name, rule_number};
 ghost use Rattle.std.specs.Prelude.{◌≡◌};
 
 /// A rule of the profile. Their numbers go from 1 in this order.
-#[derive(Clone, Copy, Debug, PartialEq, Eq)]
+#[derive(Clone, Copy, PartialEq, Eq)]
 pub enum Rule {
     /// The file is no JSON text.
     NotJson,

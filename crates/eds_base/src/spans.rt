@@ -9,7 +9,7 @@ use std::alloc::Global;
 use std::marker::Model;
 
 /// The whole numbers from the lowest to the highest, both among them.
-#[derive(Clone, Copy, Debug, PartialEq, Eq)]
+#[derive(Clone, Copy, PartialEq, Eq)]
 pub struct Span {
     pub low: i128,
     pub high: i128,
@@ -17,7 +17,7 @@ pub struct Span {
 
 /// A set of whole numbers from -2^64 to 2^64: a rising list of intervals, where between two neighbours at least one
 /// number is missing. So one set has one list.
-#[derive(Debug, Drop)]
+#[derive(Drop)]
 pub struct Spans {
     inner: Vec<Span>,
 }

@@ -17,7 +17,7 @@ use std::alloc::Global;
 use std::fmt;
 
 /// Why there is no sum.
-#[derive(Clone, Copy, Debug, PartialEq, Eq)]
+#[derive(Clone, Copy, PartialEq, Eq)]
 pub(crate) enum Stop {
     /// The sheet breaks a rule.
     Refused,

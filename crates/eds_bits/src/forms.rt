@@ -4,7 +4,7 @@ ghost use Rattle.std.specs.Prelude.{◌≡◌, ◌↔◌, ◌≤◌, IsSome, IfS
 ghost use Rattle.eds_bits.specs.Encodings.{IsForm};
 
 /// How a whole number lies in its bits.
-#[derive(Clone, Copy, Debug, PartialEq, Eq)]
+#[derive(Clone, Copy, PartialEq, Eq)]
 pub enum Encoding {
     Unsigned,
     TwosComplement,
@@ -17,7 +17,7 @@ pub enum Encoding {
 }
 
 /// Which octet of a number comes first: the one that counts most, or the one that counts least.
-#[derive(Clone, Copy, Debug, PartialEq, Eq)]
+#[derive(Clone, Copy, PartialEq, Eq)]
 pub enum ByteOrder {
     Big,
     Little,
@@ -25,7 +25,7 @@ pub enum ByteOrder {
 
 /// The form of a whole number of 1 to 64 bits. Decimal digits fill all bits, and an order other than
 /// big-endian has whole octets.
-#[derive(Clone, Copy, Debug, PartialEq, Eq)]
+#[derive(Clone, Copy, PartialEq, Eq)]
 pub struct IntForm {
     pub bits: u32,
     pub encoding: Encoding,
@@ -35,7 +35,7 @@ pub struct IntForm {
 
 /// The form of a text. A fixed text has `length` octets; another has at most `length` octets and then its
 /// termination octet. Its octets are ASCII or UTF-8.
-#[derive(Clone, Copy, Debug, PartialEq, Eq)]
+#[derive(Clone, Copy, PartialEq, Eq)]
 pub struct TextForm {
     /// In octets, 1 to 65,536.
     pub length: u32,
@@ -50,7 +50,7 @@ pub struct TextForm {
 
 /// The form of a truth value of 1 to 64 bits. All bits zero are one of the values, and every other pattern
 /// is the other.
-#[derive(Clone, Copy, Debug, PartialEq, Eq)]
+#[derive(Clone, Copy, PartialEq, Eq)]
 pub struct BoolForm {
     pub bits: u32,
     pub zero_is_false: bool,
@@ -60,7 +60,7 @@ pub struct BoolForm {
 
 /// A check over octets: their sum modulo 256, their exclusive or, or a cyclic redundancy check of 8 or of
 /// 16 bits.
-#[derive(Clone, Copy, Debug, PartialEq, Eq)]
+#[derive(Clone, Copy, PartialEq, Eq)]
 pub enum CheckKind {
     Checksum,
     Longitudinal,

@@ -11,7 +11,7 @@ use crate::encodings::{decimal, ones_complement, sign_magnitude, twos_complement
 use crate::{ByteOrder, Encoding, IntForm};
 
 /// The numbers of a form: all from the least to the greatest.
-#[derive(Clone, Copy, Debug, PartialEq, Eq)]
+#[derive(Clone, Copy, PartialEq, Eq)]
 pub struct Bounds {
     pub least: i128,
     pub greatest: i128,

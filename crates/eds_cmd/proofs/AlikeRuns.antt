@@ -38,7 +38,7 @@ pub record AlikeLaws : Type 0 where
 module _ (laws : AlikeLaws) (t : Table) (p q : List ComponentPlan) (alike : AreAlike p q) where
   -- ---- what lines come to
 
-  runs_alike : (ties : List Tie) (lines : List (ℕ × Told)) (outs : List (List Report)) (end : Option World) → Runs t p ties lines outs end → Runs t q ties lines outs end
+  pub runs_alike : (ties : List Tie) (lines : List (ℕ × Told)) (outs : List (List Report)) (end : Option World) → Runs t p ties lines outs end → Runs t q ties lines outs end
   runs_alike ties lines outs end r =
       let same : unbegun (system t p (other_end ties)) ≡ unbegun (system t q (other_end ties)) = ap unbegun (laws.systems t p q alike (other_end ties)) in
       subst (λ w. RunGoes (system t q (other_end ties)) (reading t q) (happenings lines) w outs end) same
@@ -93,7 +93,7 @@ module _ (laws : AlikeLaws) (t : Table) (p q : List ComponentPlan) (alike : AreA
   scripts_alike text status report r =
       subst (λ plot. RunsPlot t q plot status report) (laws.scripts t p q alike text) (plot_alike (script_of t p text) status report r)
 
-  pub valid_alike : (text : List ℕ) → IsValidScript t p text → IsValidScript t q text
+  unfoldable pub valid_alike : (text : List ℕ) → IsValidScript t p text → IsValidScript t q text
   valid_alike text v = record {
     plot = v.plot;
     good = sym (laws.scripts t p q alike text) ∙ v.good;

@@ -1,14 +1,18 @@
 -- What the answer of a command is, and is not.
-use Rattle.std.proofs.Common.{◌≡◌, ◌≢◌, ℕ, ◌<◌, ◌≤◌, List, codes, length, Bool, true, false, nat_le, inl, inr, Option, Some, None, Result, Ok, Err, refl, sym, ◌∙◌, subst, ◌⊎◌}
+use Rattle.std.proofs.Common.{◌≡◌, ◌≢◌, ℕ, ◌<◌, ◌≤◌, List, codes, length, Bool, true, false, nat_le, inl, inr, Option, Result, Ok, Err, refl, sym, ◌∙◌, subst, ◌⊎◌}
 use Rattle.std.proofs.lemmas.Bool.{le-leb, lt-leb}
 use Rattle.std.specs.Fmt.{digits}
 use Rattle.eds_io.specs.Files.{Files}
 use Rattle.eds_sheet.specs.Compiled.{SeenSheet}
 use Rattle.eds_sheet.specs.Firsts.{Firsts}
+use Rattle.eds_host.specs.Systems.{World}
 use Rattle.eds_host.specs.declared.wiring.HostFail.{HostFail}
 use Rattle.eds_host.specs.declared.wiring.Tie.{Tie}
 use Rattle.eds_plan.specs.Lines.{Told}
+use Rattle.eds_plan.specs.Outs.{Report}
 use Rattle.eds_plan.specs.declared.component.ComponentPlan.{ComponentPlan}
+use Rattle.eds_replay.specs.Sessions.{recordings, script_in}
+use Rattle.eds_replay.specs.declared.session.Recorded.{Recorded}
 use Rattle.eds_script.specs.Scripts.{Plot, script_of}
 use Rattle.eds_script.specs.declared.why.BadLine.{BadLine}
 use Rattle.eds_types.specs.Plain.{Plain}
@@ -24,10 +28,11 @@ use Rattle.eds_cmd.specs.declared.stop.Cause.{Cause}
 use Rattle.eds_cmd.specs.declared.stop.Cause.TheVariants as causes
 use Rattle.eds_cmd.specs.declared.stop.Stop.{Stop}
 use Rattle.eds_cmd.specs.Answer.{AnswersBy, AnswersCommand, AnswersFew, DoesBy, DoesOn, IsReached, Works, accepted, input_for}
-use Rattle.eds_cmd.specs.Command.{CommandWords, JobWords, TaskWords, by_type, run}
+use Rattle.eds_cmd.specs.Command.{CommandWords, TaskWords, WorkWords, by_type, check, layout, on_input, replay, run}
 use Rattle.eds_cmd.specs.Limits.{sheet_count}
 use Rattle.eds_cmd.specs.Outcome.{ComesTo, IsFault}
 use Rattle.eds_cmd.specs.Pack.{PacksGiven}
+use Rattle.eds_cmd.specs.Replay.{Compares, ReplaysOver, ReplaysPlot}
 use Rattle.eds_cmd.specs.Reports.{limit_line}
 use Rattle.eds_cmd.specs.Run.{RunsOver, RunsPlot, wired}
 use Rattle.eds_cmd.specs.Split.{Splits}
@@ -93,22 +98,37 @@ plot_end : (t : Table) (plan : List ComponentPlan) (p : Result Plot BadLine) (st
 plot_end t plan (Ok p) status report r = run_end t plan (wired plan p) p.lines status report r
 plot_end t plan (Err bad) status report s = stop_end _ status report s
 
+compared_end : (t : Table) (plan : List ComponentPlan) (recorded : List Recorded) (lines : List (ℕ × Told)) (outs : List (List Report)) (end : Option World) (status : Status) (report : List ℕ) → Compares t plan recorded lines outs end status report → IsEnd status
+compared_end t plan recorded lines outs end status report (inl r) = inl r.status_is
+compared_end t plan recorded lines outs end status report (inr (inl d)) = stop_end _ status report d.stop
+compared_end t plan recorded lines outs end status report (inr (inr s)) = stop_end _ status report s.stop
+
+replay_end : (t : Table) (plan : List ComponentPlan) (ties : Result (List Tie) HostFail) (lines : List (ℕ × Told)) (recorded : List Recorded) (status : Status) (report : List ℕ) → ReplaysOver t plan ties lines recorded status report → IsEnd status
+replay_end t plan (Ok ties) lines recorded status report r = compared_end t plan recorded lines r.outs r.end status report r.compares
+replay_end t plan (Err fail) lines recorded status report s = stop_end _ status report s
+
+session_end : (t : Table) (plan : List ComponentPlan) (p : Result Plot BadLine) (recorded : List Recorded) (status : Status) (report : List ℕ) → ReplaysPlot t plan p recorded status report → IsEnd status
+session_end t plan (Ok p) recorded status report r = replay_end t plan (wired plan p) p.lines recorded status report r
+session_end t plan (Err bad) recorded status report s = stop_end _ status report s
+
 task_end : (task : TaskWords) (sheet : SeenSheet) (input : Result (List ℕ) Stop) (status : Status) (report : List ℕ) → DoesOn task sheet input status report → IsEnd status
 task_end (by_type verb type_name) sheet (Ok input) status report d = work_end verb (type_of sheet) input status report d
 task_end run sheet (Ok input) status report d = plot_end sheet.table d.plan (script_of sheet.table d.plan input) status report d.runs
+task_end replay sheet (Ok input) status report d = session_end sheet.table d.plan (script_of sheet.table d.plan (script_in input)) (recordings input) status report d.replays
 task_end task sheet (Err stop) status report s = stop_end stop status report s
 
-does_end : (job : Option JobWords) (files : Files) (sheet : SeenSheet) (status : Status) (report : List ℕ) → DoesBy job files sheet status report → IsEnd status
-does_end None files sheet status report d = inl d.status_is
-does_end (Some job) files sheet status report d = task_end job.task sheet (input_for files job) status report d
+does_end : (work : WorkWords) (files : Files) (sheet : SeenSheet) (status : Status) (report : List ℕ) → DoesBy work files sheet status report → IsEnd status
+does_end check files sheet status report d = inl d.status_is
+does_end (layout type_name) files sheet status report d = inl d.status_is
+does_end (on_input job) files sheet status report d = task_end job.task sheet (input_for files job) status report d
 
-by_end : (job : Option JobWords) (files : Files) (sheet : Result SeenSheet Stop) (status : Status) (report : List ℕ) → AnswersBy job files sheet status report → IsEnd status
-by_end job files (Ok sheet) status report (inl w) = does_end job files sheet status report w.does
-by_end job files (Ok sheet) status report (inr p) = stop_end _ status report p.stop
-by_end job files (Err stop) status report s = stop_end stop status report s
+by_end : (work : WorkWords) (files : Files) (sheet : Result SeenSheet Stop) (status : Status) (report : List ℕ) → AnswersBy work files sheet status report → IsEnd status
+by_end work files (Ok sheet) status report (inl w) = does_end work files sheet status report w.does
+by_end work files (Ok sheet) status report (inr p) = stop_end _ status report p.stop
+by_end work files (Err stop) status report s = stop_end stop status report s
 
 few_end : (firsts : Firsts) (few : Bool) (files : Files) (c : CommandWords) (status : Status) (report : List ℕ) → AnswersFew firsts few c files status report → IsEnd status
-few_end firsts true files c status report a = by_end c.job files (accepted firsts files c) status report a
+few_end firsts true files c status report a = by_end c.work files (accepted firsts files c) status report a
 few_end firsts false files c status report s = stop_end _ status report s
 
 not_unread : (status : Status) (name : List ℕ) → IsEnd status → status ≡ statuses.ReadFault name → ⊥

@@ -7,6 +7,7 @@ pub mod SheetFiles
 pub mod AlikeRuns
 pub mod SheetRuns
 pub mod OneDemonstration
+pub mod OneLayout
 pub mod OneAnswer
 pub mod AnswerLemmas
 pub mod ValidLemmas
@@ -16,3 +17,12 @@ pub mod Handing
 pub mod Running
 pub mod OneRun
 pub mod SomeRun
+pub mod EventTexts
+pub mod BadScripts
+pub mod LineNumbers
+pub mod Judging
+pub mod AlikeReplays
+pub mod OneReplay
+pub mod ReplayEnds
+pub mod SomeReplay
+pub mod SheetReplays

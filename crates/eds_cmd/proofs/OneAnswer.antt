@@ -34,7 +34,7 @@ use Rattle.eds_cmd.specs.declared.status.Status.TheVariants as statuses
 use Rattle.eds_cmd.specs.declared.status.What.TheVariants as what
 use Rattle.eds_cmd.specs.declared.stop.Stop.{Stop}
 use Rattle.eds_cmd.specs.Answer.{AnswersBy, AnswersCommand, AnswersFew, AnswersWords, DoesBy, DoesOn, IsPast, IsWithin, Works, accepted, input_for, or_refused, sheet_files}
-use Rattle.eds_cmd.specs.Command.{CommandWords, JobWords, TaskWords, by_type, command_of, demo_of, job_type, run, task_type, type_name_of}
+use Rattle.eds_cmd.specs.Command.{CommandWords, JobWords, TaskWords, WorkWords, by_type, check, command_of, demo_of, layout, on_input, replay, run, runs_script, task_type, type_name_of, work_type}
 use Rattle.eds_cmd.specs.Demonstrated.{IsDemonstrated}
 use Rattle.eds_cmd.specs.Laws.{OneAnswer, SomeAnswer}
 use Rattle.eds_cmd.specs.Limits.{report_octets, sheet_count}
@@ -47,17 +47,21 @@ use Rattle.eds_cmd.specs.Target.{TypeIn, type_of}
 use Rattle.eds_cmd.specs.Unpack.{Begins, UnpacksBits, UnpacksFrame, frame_for}
 use Rattle.eds_cmd.proofs.Reporting.{not_done}
 use Rattle.eds_cmd.proofs.OneDemonstration.{one_demonstration}
+use Rattle.eds_cmd.proofs.OneLayout.{LayoutLaws, one_of_layout, some_of_layout}
+use Rattle.eds_cmd.proofs.SheetReplays.{SessionLaws, one_of_session, some_of_session}
 use Rattle.eds_cmd.proofs.SheetRuns.{ScriptLaws, one_of_sheet, some_of_sheet}
 use Rattle.eds_cmd.proofs.Splitting.{framing_for, one_way, some_way}
 
--- the laws of values and bits, and of runs
+-- the laws of values and bits, of layouts, of runs and of replays
 pub record ValueLaws : Type 0 where
   pub outcome : OneOutcome
   pub canonical : OneCanonical
   pub packing : PackingIsDecided
   pub empty : EmptyTypes
   pub cut : OneCut
+  pub layouts : LayoutLaws
   pub scripts : ScriptLaws
+  pub sessions : SessionLaws
 
 -- a stop ends a command as itself
 itself : (stop : Stop) → IsStop stop (status_of stop.cause) stop.report
@@ -212,70 +216,74 @@ accepted_sound sound firsts files c sheet is = go (sheet_files files 0 c.sheets)
 
 -- where a task is to run a script over the components of a sheet, there is a plan of these
 abbrev pub HasPlanFor : TaskWords → SeenSheet → Type 0
-HasPlanFor task sheet = task ≡ run → HasPlan sheet
+HasPlanFor task sheet = runs_script task ≡ true → HasPlan sheet
 
 module _ (laws : ValueLaws) (sheet : SeenSheet) where
   one_of_task : (task : TaskWords) (input : Result (List ℕ) Stop) → IsSound (task_type task) sheet → IsOfOne (DoesOn task sheet input)
   one_of_task (by_type verb name) (Ok input) sound = one_of_work laws (type_of sheet) (word_readable name sheet sound) (word_solid name sheet sound) verb input
   one_of_task run (Ok input) sound = one_of_sheet laws.scripts sheet sound input
+  one_of_task replay (Ok input) sound = one_of_session laws.sessions sheet sound input
   one_of_task task (Err stop) sound = one_stop stop
 
   some_of_task : (task : TaskWords) (input : Result (List ℕ) Stop) → IsSound (task_type task) sheet → HasPlanFor task sheet → IsOfSome (DoesOn task sheet input)
   some_of_task (by_type verb name) (Ok input) sound has = some_of_work laws (type_of sheet) (word_readable name sheet sound) (word_solid name sheet sound) verb input
   some_of_task run (Ok input) sound has = some_of_sheet laws.scripts sheet sound input (has refl)
+  some_of_task replay (Ok input) sound has = some_of_session laws.sessions sheet sound input (has refl)
   some_of_task task (Err stop) sound has = some_stop stop
 
 -- ---- the answer
 
--- the same of a job, where there is one
-abbrev pub HasPlanIn : Option JobWords → SeenSheet → Type 0
-HasPlanIn job sheet = (j : JobWords) → job ≡ Some j → HasPlanFor j.task sheet
+-- the same of a work, where it is on an input
+abbrev pub HasPlanIn : WorkWords → SeenSheet → Type 0
+HasPlanIn work sheet = (j : JobWords) → work ≡ on_input j → HasPlanFor j.task sheet
 
 module _ (laws : ValueLaws) (files : Files) where
-  one_by_sheet : (job : Option JobWords) (sheet : SeenSheet) → IsSound (job_type job) sheet → IsOfOne (DoesBy job files sheet)
-  one_by_sheet None sheet sound s o r l a b = (a.status_is ∙ sym b.status_is, a.report_is ∙ sym b.report_is)
-  one_by_sheet (Some job) sheet sound s o r l a b = one_of_task laws sheet job.task (input_for files job) sound s o r l a b
+  one_by_sheet : (work : WorkWords) (sheet : SeenSheet) → IsSound (work_type work) sheet → IsOfOne (DoesBy work files sheet)
+  one_by_sheet check sheet sound s o r l a b = (a.status_is ∙ sym b.status_is, a.report_is ∙ sym b.report_is)
+  one_by_sheet (layout type_name) sheet sound s o r l a b = one_of_layout laws.layouts (type_of sheet) s o r l a b
+  one_by_sheet (on_input job) sheet sound s o r l a b = one_of_task laws sheet job.task (input_for files job) sound s o r l a b
 
-  some_by_sheet : (job : Option JobWords) (sheet : SeenSheet) → IsSound (job_type job) sheet → HasPlanIn job sheet → IsOfSome (DoesBy job files sheet)
-  some_by_sheet None sheet sound has = inl (counts_line sheet.counts, record { status_is = refl; report_is = refl })
-  some_by_sheet (Some job) sheet sound has = some_of_task laws sheet job.task (input_for files job) sound (has job refl)
+  some_by_sheet : (work : WorkWords) (sheet : SeenSheet) → IsSound (work_type work) sheet → HasPlanIn work sheet → IsOfSome (DoesBy work files sheet)
+  some_by_sheet check sheet sound has = inl (counts_line sheet.counts, record { status_is = refl; report_is = refl })
+  some_by_sheet (layout type_name) sheet sound has = inl (some_of_layout laws.layouts (type_of sheet) sound.rules)
+  some_by_sheet (on_input job) sheet sound has = some_of_task laws sheet job.task (input_for files job) sound (has job refl)
 
   -- a report isn't both within its limit and past it
-  not_past : (job : Option JobWords) (sheet : SeenSheet) → IsSound (job_type job) sheet → (s o : Status) (r l : List ℕ) → IsWithin job files sheet s r → IsPast job files sheet o l → ⊥
-  not_past job sheet sound s o r l w p =
-      let one = one_by_sheet job sheet sound s statuses.Done r p.whole w.does p.does in
+  not_past : (work : WorkWords) (sheet : SeenSheet) → IsSound (work_type work) sheet → (s o : Status) (r l : List ℕ) → IsWithin work files sheet s r → IsPast work files sheet o l → ⊥
+  not_past work sheet sound s o r l w p =
+      let one = one_by_sheet work sheet sound s statuses.Done r p.whole w.does p.does in
       omega (arith, w.within one.0, p.past, ap length one.1)
 
-  one_by : (job : Option JobWords) (sheet : Result SeenSheet Stop) → ((found : SeenSheet) → sheet ≡ Ok found → IsSound (job_type job) found) → IsOfOne (AnswersBy job files sheet)
-  one_by job (Ok sheet) sound s o r l (inl w) (inl x) = one_by_sheet job sheet (sound sheet refl) s o r l w.does x.does
-  one_by job (Ok sheet) sound s o r l (inl w) (inr p) = absurd (not_past job sheet (sound sheet refl) s o r l w p)
-  one_by job (Ok sheet) sound s o r l (inr p) (inl w) = absurd (not_past job sheet (sound sheet refl) o s l r w p)
-  one_by job (Ok sheet) sound s o r l (inr p) (inr q) = one_stop _ s o r l p.stop q.stop
-  one_by job (Err stop) sound s o r l a b = one_stop stop s o r l a b
+  one_by : (work : WorkWords) (sheet : Result SeenSheet Stop) → ((found : SeenSheet) → sheet ≡ Ok found → IsSound (work_type work) found) → IsOfOne (AnswersBy work files sheet)
+  one_by work (Ok sheet) sound s o r l (inl w) (inl x) = one_by_sheet work sheet (sound sheet refl) s o r l w.does x.does
+  one_by work (Ok sheet) sound s o r l (inl w) (inr p) = absurd (not_past work sheet (sound sheet refl) s o r l w p)
+  one_by work (Ok sheet) sound s o r l (inr p) (inl w) = absurd (not_past work sheet (sound sheet refl) o s l r w p)
+  one_by work (Ok sheet) sound s o r l (inr p) (inr q) = one_stop _ s o r l p.stop q.stop
+  one_by work (Err stop) sound s o r l a b = one_stop stop s o r l a b
 
-  some_by : (job : Option JobWords) (sheet : Result SeenSheet Stop) → ((found : SeenSheet) → sheet ≡ Ok found → IsSound (job_type job) found × HasPlanIn job found) → (status : Status) × (report : List ℕ) × AnswersBy job files sheet status report
-  some_by job (Ok sheet) found = go (some_by_sheet job sheet (found sheet refl).0 (found sheet refl).1)
+  some_by : (work : WorkWords) (sheet : Result SeenSheet Stop) → ((found : SeenSheet) → sheet ≡ Ok found → IsSound (work_type work) found × HasPlanIn work found) → (status : Status) × (report : List ℕ) × AnswersBy work files sheet status report
+  some_by work (Ok sheet) found = go (some_by_sheet work sheet (found sheet refl).0 (found sheet refl).1)
     where
-      go : IsOfSome (DoesBy job files sheet) → (status : Status) × (report : List ℕ) × AnswersBy job files (Ok sheet) status report
+      go : IsOfSome (DoesBy work files sheet) → (status : Status) × (report : List ℕ) × AnswersBy work files (Ok sheet) status report
       go (inl d) = elim (cases_lt report_octets (length d.0)) [
         | inl past ↦ let stop = limited what.Report report_octets in
             (status_of stop.cause, stop.report, inr (record { whole = d.0; does = d.1; past = past; stop = itself stop }))
         | inr within ↦ (statuses.Done, d.0, inl (record { does = d.1; within = λ e. within }))
       ]
       go (inr k) = (status_of k.0.cause, k.0.report, inl (record { does = k.1; within = λ e. absurd (not_done k.0.cause e) }))
-  some_by job (Err stop) found = (status_of stop.cause, stop.report, itself stop)
+  some_by work (Err stop) found = (status_of stop.cause, stop.report, itself stop)
 
 module _ (laws : ValueLaws) (sound : SheetsAreSound) (firsts : Firsts) where
   one_of_few : (few : Bool) (c : CommandWords) (files : Files) → IsOfOne (AnswersFew firsts few c files)
-  one_of_few true c files = one_by laws files c.job (accepted firsts files c) (accepted_sound sound firsts files c)
+  one_of_few true c files = one_by laws files c.work (accepted firsts files c) (accepted_sound sound firsts files c)
   one_of_few false c files = one_stop _
 
   -- the accepted sheet of a command that runs a script has a plan to run
   abbrev HasPlanOf : CommandWords → Files → Type 0
-  HasPlanOf c files = (sheet : SeenSheet) → accepted firsts files c ≡ Ok sheet → HasPlanIn c.job sheet
+  HasPlanOf c files = (sheet : SeenSheet) → accepted firsts files c ≡ Ok sheet → HasPlanIn c.work sheet
 
   some_of_few : (few : Bool) (c : CommandWords) (files : Files) → HasPlanOf c files → (status : Status) × (report : List ℕ) × AnswersFew firsts few c files status report
-  some_of_few true c files has = some_by laws files c.job (accepted firsts files c) (λ sheet is. (accepted_sound sound firsts files c sheet is, has sheet is))
+  some_of_few true c files has = some_by laws files c.work (accepted firsts files c) (λ sheet is. (accepted_sound sound firsts files c sheet is, has sheet is))
   some_of_few false c files has = let stop = limited what.Files sheet_count in (status_of stop.cause, stop.report, itself stop)
 
   pub one_of_command : (c : CommandWords) (files : Files) → IsOfOne (AnswersCommand firsts c files)

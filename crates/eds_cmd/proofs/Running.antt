@@ -148,7 +148,7 @@ states_next t plan states i j s old new line whole lt e next n is h =
 
 -- ---- lists
 
-at_length : {A : Type 0} (xs : List A) (y : A) (ys : List A) → slice_get (xs ++ y ∷ ys) (length xs) ≡ Some y
+pub at_length : {A : Type 0} (xs : List A) (y : A) (ys : List A) → slice_get (xs ++ y ∷ ys) (length xs) ≡ Some y
 at_length [] y ys = refl
 at_length (x ∷ xs) y ys = at_length xs y ys
 

@@ -1,18 +1,19 @@
 -- Sheet files read one after another.
-use Rattle.std.proofs.Common.{◌≡◌, ℕ, ◌+◌, ◌<◌, ◌≤◌, nat_le, List, [], ◌∷◌, ◌++◌, length, take, drop, get_or, sum_by, true, Result, Ok, Err, IsOk, inl, refl, sym, ◌∙◌, ap, subst, arith}
+use Rattle.std.proofs.Common.{◌≡◌, ℕ, ◌+◌, ◌<◌, ◌≤◌, nat_le, List, [], ◌∷◌, ◌++◌, length, take, drop, get_or, sum_by, true, Result, Ok, Err, IsOk, inl, inr, refl, sym, ◌∙◌, ap, subst, arith}
 use Rattle.std.proofs.lemmas.Bool.{le-leb}
 use Rattle.std.proofs.lemmas.List.{drop_more, take-append-drop, take_more}
 use Rattle.std.proofs.lemmas.List.Sums.{sum_by-cons}
 use Rattle.eds_base.specs.Answering.{◌>>=◌}
 use Rattle.eds_io.specs.Files.{Files}
+use Rattle.eds_sheet.specs.Compiled.{SeenSheet}
 use Rattle.eds_sheet.specs.Firsts.{Firsts}
 use Rattle.eds_cmd.specs.declared.stop.Stop.{Stop}
 use Rattle.std.specs.Result.{IsErrAnd}
 use Rattle.eds_cmd.specs.declared.ended.Ended.{Ended}
 use Rattle.eds_cmd.specs.declared.ended.Ended.TheVariants.{Stopped, Unread, Memory}
 use Rattle.eds_cmd.specs.Endings.{EndedAs, OnUnread}
-use Rattle.eds_cmd.specs.Answer.{AreThere, IsReached, IsReachedSheet, sheet_file, sheet_files}
-use Rattle.eds_cmd.specs.Command.{CommandWords}
+use Rattle.eds_cmd.specs.Answer.{AreThere, IsReached, IsReachedInput, IsReachedSheet, accepted, sheet_file, sheet_files}
+use Rattle.eds_cmd.specs.Command.{CommandWords, ReadsInput, WorkWords, check, layout, on_input}
 use Rattle.eds_cmd.specs.Limits.{sheet_count, sheet_octets, sheets_octets}
 
 abbrev pub are : List (List ℕ) → Result (List (List ℕ)) Stop
@@ -124,6 +125,21 @@ pub ended_by_sheets : (firsts : Firsts) (files : Files) (c : CommandWords) (ende
 ended_by_sheets firsts files c (Stopped stop) few h = h
 ended_by_sheets firsts files c (Unread n) few h = record { few = few; reached = inl h }
 ended_by_sheets firsts files c Memory few h = h
+
+-- the input file of that name is reached, where the sheet is accepted
+input_reached : (firsts : Firsts) (files : Files) (c : CommandWords) (sheet : SeenSheet) (name : List ℕ) → accepted firsts files c ≡ Ok sheet → ReadsInput c.work name → IsReachedInput firsts files c name
+input_reached firsts files c sheet name judged reads = go c.work refl reads
+  where
+    go : (work : WorkWords) → c.work ≡ work → ReadsInput work name → IsReachedInput firsts files c name
+    go check same r = absurd r
+    go (layout type_name) same r = absurd r
+    go (on_input job) same r = let P : Result SeenSheet Stop → Type 0 = λ s. IsOk s in record { job = job; job_is = same; name_is = r; is_accepted = subst P (sym judged) refl }
+
+pub ended_by_input : (firsts : Firsts) (files : Files) (c : CommandWords) (sheet : SeenSheet) (ended : Ended) → length c.sheets ≤ sheet_count → accepted firsts files c ≡ Ok sheet
+    → OnUnread ended (ReadsInput c.work) → OnUnread ended (IsReached firsts files c)
+ended_by_input firsts files c sheet (Stopped stop) few judged h = h
+ended_by_input firsts files c sheet (Unread n) few judged h = record { few = few; reached = inr (input_reached firsts files c sheet n judged h) }
+ended_by_input firsts files c sheet Memory few judged h = h
 
 -- an error that is handed on
 pub handed_on : {X : Type 0} (r : Result X Ended) (ended : Ended) → IsErrAnd r (λ e. e ≡ ended) → r ≡ Err ended

@@ -82,7 +82,7 @@ sent_line t time end s None h = absurd h
 sent_line t time end s (Some e) h = member_line t time end e.level s (member_in (Some e) s.member) h
 
 -- what fits the plan has a line
-event_line : (t : Table) (plan : List ComponentPlan) (r : Report) → FitsPlan t plan r → (text : List ℕ) × IsEventLine t plan r text
+pub event_line : (t : Table) (plan : List ComponentPlan) (r : Report) → FitsPlan t plan r → (text : List ℕ) × IsEventLine t plan r text
 event_line t plan (left time s) h = sent_line t time (text_of_end plan s.end) s (end_at plan s.end) h
 event_line t plan (stopped time comp machine halt) h = (halt_line time (component_at plan comp).name (machine_name (component_at plan comp) machine) halt, refl)
 event_line t plan (refused time e number fault) h = (reject_line t time (text_of_end plan e) (member_name (end_at plan e) number) fault, refl)
@@ -116,11 +116,11 @@ module _ (laws : RunLaws) (t : Table) (plan : List ComponentPlan) (rules : Keeps
         record { course = c.0; goes = c.1; sound = laws.sound t plan (other_end ties) l w c.0 runnable m c.1 }
 
     -- lines one after another come to something, and what leaves the run may do so
-    record SomeEnd (ls : List Told) (w : World) : Type 0 where
-      outs : List (List Report)
-      end : Option World
-      goes : RunGoes sys (reading t plan) ls w outs end
-      fit : MayAllGoOut t plan (all_events outs)
+    pub record SomeEnd (ls : List Told) (w : World) : Type 0 where
+      pub outs : List (List Report)
+      pub end : Option World
+      pub goes : RunGoes sys (reading t plan) ls w outs end
+      pub fit : MayAllGoOut t plan (all_events outs)
 
     one_more : (l : Told) (ls : List Told) (w : World) → MayComeBy t plan l w → ((v : World) → IsSound t plan v → v.now ≡ time_after l w.now → SomeEnd ls v) → SomeEnd (l ∷ ls) w
     one_more l ls w m on = go (some_course l w m).course.end refl (some_course l w m).sound.world
@@ -164,7 +164,7 @@ module _ (laws : RunLaws) (t : Table) (plan : List ComponentPlan) (rules : Keeps
         (λ v sound e. rest_goes ls v sound (subst (λ n. MayAllGoOn t plan ties n ls) (sym (e ∙ ap (λ x. time_after x w.now) m.0)) others))
 
   -- the lines of a script come to something
-  script_goes : (text : List ℕ) (p : Plot) (ties : List Tie) → script_of t plan text ≡ Ok p → (tied : wired plan p ≡ Ok ties) → SomeEnd (map (asked_by plan) p.wires) ties tied (happenings p.lines) (unbegun (system t plan (other_end ties)))
+  pub script_goes : (text : List ℕ) (p : Plot) (ties : List Tie) → script_of t plan text ≡ Ok p → (tied : wired plan p ≡ Ok ties) → SomeEnd (map (asked_by plan) p.wires) ties tied (happenings p.lines) (unbegun (system t plan (other_end ties)))
   script_goes text p ties said tied =
       let w : World = unbegun (system t plan (other_end ties)) in
       let h : HostNow = record { table = t; plan = plan; wires = ties; world = w; phase = Fresh } in

@@ -19,10 +19,12 @@ use Rattle.eds_cmd.specs.declared.status.Status.TheVariants as statuses
 use Rattle.eds_cmd.specs.declared.status.What.{What}
 use Rattle.eds_cmd.specs.declared.status.What.TheVariants as what
 use Rattle.eds_cmd.specs.declared.stop.Stop.{Stop}
-use Rattle.eds_cmd.specs.Command.{CommandWords, JobWords, TaskWords, by_type, command_of, demo_of, input_most, run, type_name_of}
+use Rattle.eds_cmd.specs.Command.{CommandWords, JobWords, TaskWords, WorkWords, by_type, check, command_of, demo_of, input_most, layout, on_input, replay, run, type_name_of}
 use Rattle.eds_cmd.specs.Demonstrated.{IsDemonstrated}
 use Rattle.eds_cmd.specs.Hex.{hex_octets}
+use Rattle.eds_cmd.specs.Layout.{LaysOut}
 use Rattle.eds_cmd.specs.Pack.{Packs}
+use Rattle.eds_cmd.specs.Replay.{IsValidReplay, ReplaysSheet}
 use Rattle.eds_cmd.specs.Reports.{counts_line, usage_line}
 use Rattle.eds_cmd.specs.Run.{IsValidRun, RunsSheet}
 use Rattle.eds_cmd.specs.Split.{Splits, framing_of}
@@ -86,6 +88,7 @@ Works Split type input status report = Splits type input status report
 abbrev pub Does : TaskWords → SeenSheet → List ℕ → Status → List ℕ → Type 0
 Does (by_type verb type_name) sheet input status report = Works verb (type_of sheet) input status report
 Does run sheet input status report = RunsSheet sheet input status report
+Does replay sheet input status report = ReplaysSheet sheet input status report
 
 -- the same, where the input file may have ended the command
 abbrev pub DoesOn : TaskWords → SeenSheet → Result (List ℕ) Stop → Status → List ℕ → Type 0
@@ -98,30 +101,31 @@ pub record IsCounted (sheet : SeenSheet) (status : Status) (report : List ℕ) :
   pub report_is : report ≡ counts_line sheet.counts
 
 -- what is done by an accepted sheet comes to this status and report
-abbrev pub DoesBy : Option JobWords → Files → SeenSheet → Status → List ℕ → Type 0
-DoesBy None files sheet status report = IsCounted sheet status report
-DoesBy (Some job) files sheet status report = DoesOn job.task sheet (input_for files job) status report
+abbrev pub DoesBy : WorkWords → Files → SeenSheet → Status → List ℕ → Type 0
+DoesBy check files sheet status report = IsCounted sheet status report
+DoesBy (layout type_name) files sheet status report = LaysOut (type_of sheet) status report
+DoesBy (on_input job) files sheet status report = DoesOn job.task sheet (input_for files job) status report
 
 -- what is done by an accepted sheet comes to this status and report, and the report is no longer than a report may be
-pub record IsWithin (job : Option JobWords) (files : Files) (sheet : SeenSheet) (status : Status) (report : List ℕ) : Type 0 where
-  pub does : DoesBy job files sheet status report
+pub record IsWithin (work : WorkWords) (files : Files) (sheet : SeenSheet) (status : Status) (report : List ℕ) : Type 0 where
+  pub does : DoesBy work files sheet status report
   pub within : status ≡ statuses.Done → length report ≤ report_octets
 
 -- what is done by an accepted sheet comes to a report that is longer than a report may be, so that limit is passed
-pub record IsPast (job : Option JobWords) (files : Files) (sheet : SeenSheet) (status : Status) (report : List ℕ) : Type 0 where
+pub record IsPast (work : WorkWords) (files : Files) (sheet : SeenSheet) (status : Status) (report : List ℕ) : Type 0 where
   pub whole : List ℕ
-  pub does : DoesBy job files sheet statuses.Done whole
+  pub does : DoesBy work files sheet statuses.Done whole
   pub past : report_octets < length whole
   pub stop : IsStop (limited what.Report report_octets) status report
 
 -- what a command comes to by its sheet, which may have ended it
-abbrev pub AnswersBy : Option JobWords → Files → Result SeenSheet Stop → Status → List ℕ → Type 0
-AnswersBy job files (Ok sheet) status report = IsWithin job files sheet status report ⊎ IsPast job files sheet status report
-AnswersBy job files (Err stop) status report = IsStop stop status report
+abbrev pub AnswersBy : WorkWords → Files → Result SeenSheet Stop → Status → List ℕ → Type 0
+AnswersBy work files (Ok sheet) status report = IsWithin work files sheet status report ⊎ IsPast work files sheet status report
+AnswersBy work files (Err stop) status report = IsStop stop status report
 
 -- what a command comes to, given whether its sheet files are no more than there may be
 abbrev pub AnswersFew : Firsts → Bool → CommandWords → Files → Status → List ℕ → Type 0
-AnswersFew firsts true c files status report = AnswersBy c.job files (accepted firsts files c) status report
+AnswersFew firsts true c files status report = AnswersBy c.work files (accepted firsts files c) status report
 AnswersFew firsts false c files status report = IsStop (limited what.Files sheet_count) status report
 
 -- what a command over files comes to
@@ -150,7 +154,7 @@ pub record IsReachedSheet (files : Files) (names : List (List ℕ)) (name : List
 -- the input file has the name, and the sheet is accepted
 pub record IsReachedInput (firsts : Firsts) (files : Files) (c : CommandWords) (name : List ℕ) : Type 0 where
   pub job : JobWords
-  pub job_is : c.job ≡ Some job
+  pub job_is : c.work ≡ on_input job
   pub name_is : name ≡ job.input
   pub is_accepted : IsOk (accepted firsts files c)
 
@@ -188,6 +192,7 @@ IsValidInput Split type octets = (packets : List Packet) × AreCut (framing_of t
 abbrev pub IsValidTask : TaskWords → SeenSheet → List ℕ → Type 0
 IsValidTask (by_type verb type_name) sheet input = IsValidInput verb (type_of sheet) input
 IsValidTask run sheet text = IsValidRun sheet text
+IsValidTask replay sheet text = IsValidReplay sheet text
 
 -- the input file is there and within its limit, and valid for the sheet
 pub record IsValidJob (files : Files) (job : JobWords) (sheet : SeenSheet) : Type 0 where
@@ -196,10 +201,11 @@ pub record IsValidJob (files : Files) (job : JobWords) (sheet : SeenSheet) : Typ
   pub within : length input ≤ input_most job.task
   pub valid : IsValidTask job.task sheet input
 
--- a sheet that is only checked has no input
-abbrev pub IsValidFor : Files → Option JobWords → SeenSheet → Type 0
-IsValidFor files None sheet = ⊤
-IsValidFor files (Some job) sheet = IsValidJob files job sheet
+-- the input is valid for what is done by the sheet, where there is one
+abbrev pub IsValidFor : Files → WorkWords → SeenSheet → Type 0
+IsValidFor files check sheet = ⊤
+IsValidFor files (layout type_name) sheet = ⊤
+IsValidFor files (on_input job) sheet = IsValidJob files job sheet
 
 -- each sheet file is there and within its limit
 abbrev pub AreThere : Files → List (List ℕ) → List (List ℕ) → Type 0
@@ -217,5 +223,5 @@ pub record IsValid (firsts : Firsts) (files : Files) (c : CommandWords) : Type 0
   pub within : sum_by length octets ≤ sheets_octets
   pub sheet : SeenSheet
   pub sheet_accepted : compiled firsts octets (type_name_of c) ≡ Ok sheet
-  pub input_valid : IsValidFor files c.job sheet
-  pub short : (report : List ℕ) → DoesBy c.job files sheet statuses.Done report → length report ≤ report_octets
+  pub input_valid : IsValidFor files c.work sheet
+  pub short : (report : List ℕ) → DoesBy c.work files sheet statuses.Done report → length report ≤ report_octets

@@ -1,18 +1,18 @@
 -- Words have one answer over files, whatever function tells what variables start with.
-use Rattle.std.specs.Prelude.{◌≡◌, ℕ, List, Some, Ok}
+use Rattle.std.specs.Prelude.{◌≡◌, ℕ, List, true, Some, Ok}
 use Rattle.eds_io.specs.Files.{Files}
 use Rattle.eds_sheet.specs.Compiled.{SeenSheet}
 use Rattle.eds_sheet.specs.Firsts.{Firsts}
 use Rattle.eds_cmd.specs.declared.status.Status.{Status}
 use Rattle.eds_cmd.specs.declared.status.Status.TheVariants.{Done}
 use Rattle.eds_cmd.specs.Answer.{Answer, AnswersCommand, IsValid, accepted}
-use Rattle.eds_cmd.specs.Command.{CommandWords, JobWords, command_of, demo_of, run}
+use Rattle.eds_cmd.specs.Command.{CommandWords, JobWords, command_of, demo_of, on_input, runs_script}
 use Rattle.eds_cmd.specs.Demonstrated.{IsDemonstrated}
 use Rattle.eds_cmd.specs.Run.{HasPlan}
 
 -- where the words are to run a script over the components of an accepted sheet, there is a plan of these that may be run
 abbrev pub HasPlanToRun : Firsts → List (List ℕ) → Files → Type 0
-HasPlanToRun firsts words files = (c : CommandWords) (job : JobWords) (sheet : SeenSheet) → command_of words ≡ Some c → c.job ≡ Some job → job.task ≡ run → accepted firsts files c ≡ Ok sheet → HasPlan sheet
+HasPlanToRun firsts words files = (c : CommandWords) (job : JobWords) (sheet : SeenSheet) → command_of words ≡ Some c → c.work ≡ on_input job → runs_script job.task ≡ true → accepted firsts files c ≡ Ok sheet → HasPlan sheet
 
 -- where the words ask for a demonstration, the sheet of it may be compiled and its script be run
 abbrev pub HasDemonstration : Firsts → List (List ℕ) → Type 0

@@ -9,10 +9,14 @@ pub mod Target
 pub mod Unpack
 pub mod Pack
 pub mod Split
+pub mod Layout
 pub mod Tally
 pub mod Run
 pub mod Running
 pub mod RunLaws
+pub mod Replay
+pub mod Replaying
+pub mod ReplayLaws
 pub mod Demo
 pub mod Demonstrated
 pub mod Answer

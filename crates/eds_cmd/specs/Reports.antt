@@ -144,6 +144,16 @@ deliveries_line line = codes "limit deliveries 10000 at line " ++ decimal line +
 abbrev pub end_line : (time : ℕ) → List ℕ
 end_line time = codes "end " ++ decimal time ++ codes "\n"
 
+-- ---- sessions
+
+-- `agrees E respelled R`
+abbrev pub agrees_line : (agreed otherwise : ℕ) → List ℕ
+agrees_line agreed otherwise = codes "agrees " ++ decimal agreed ++ codes " respelled " ++ decimal otherwise ++ codes "\n"
+
+-- `differs at line N want WANT got GOT`
+abbrev pub differs_line : (line : ℕ) → (want got : List ℕ) → List ℕ
+differs_line line want got = codes "differs at line " ++ decimal line ++ codes " want " ++ want ++ codes " got " ++ got ++ codes "\n"
+
 -- ---- demonstrations
 
 -- `demo N types T containers C`

@@ -90,6 +90,18 @@ abbrev pub RunsPlot : Table → List ComponentPlan → Result Plot BadLine → S
 RunsPlot t plan (Ok p) status report = RunsOver t plan (wired plan p) p.lines status report
 RunsPlot t plan (Err bad) status report = IsStop (bad_line bad) status report
 
+-- the text is no script, and its first bad line is told
+pub record IsBadScript (t : Table) (plan : List ComponentPlan) (text : List ℕ) (status : Status) (report : List ℕ) : Type 0 where
+  pub bad : BadLine
+  pub is : script_of t plan text ≡ Err bad
+  pub stop : IsStop (bad_line bad) status report
+
+-- a wire of a script ties nothing, and the first such is told
+pub record IsBadlyWired (plan : List ComponentPlan) (p : Plot) (status : Status) (report : List ℕ) : Type 0 where
+  pub fail : HostFail
+  pub is : wired plan p ≡ Err fail
+  pub stop : IsStop (bad_wire fail) status report
+
 -- running the text of a script comes to this status and report
 abbrev pub RunsScript : Table → List ComponentPlan → List ℕ → Status → List ℕ → Type 0
 RunsScript t plan text status report = RunsPlot t plan (script_of t plan text) status report

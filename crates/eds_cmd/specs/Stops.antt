@@ -5,6 +5,7 @@ use Rattle.eds_base.specs.declared.fault.Reason.{Reason}
 use Rattle.eds_base.specs.declared.fault.Step.{Step}
 use Rattle.eds_base.specs.declared.refusal.Refusal.{Refusal}
 use Rattle.eds_host.specs.declared.wiring.HostFail.{HostFail}
+use Rattle.eds_replay.specs.declared.differs.Differs.{Differs}
 use Rattle.eds_script.specs.declared.why.BadLine.{BadLine}
 use Rattle.eds_types.specs.declared.reason.PackReason.{PackReason}
 use Rattle.eds_types.specs.Reasons as pack_reasons
@@ -20,7 +21,7 @@ use Rattle.eds_cmd.specs.declared.status.What.TheVariants.{Deliveries}
 use Rattle.eds_cmd.specs.declared.stop.Cause.{Cause}
 use Rattle.eds_cmd.specs.declared.stop.Cause.TheVariants.{Sheet as Refused, Data, Limit, NoFile}
 use Rattle.eds_cmd.specs.declared.stop.Stop.{Stop}
-use Rattle.eds_cmd.specs.Reports.{bad_line_line, deliveries_line, fault_line, limit_line, line_why_text, no_file_line, packet_fault_line, refusal_line, wire_why_text}
+use Rattle.eds_cmd.specs.Reports.{bad_line_line, deliveries_line, differs_line, fault_line, limit_line, line_why_text, no_file_line, packet_fault_line, refusal_line, wire_why_text}
 
 -- the status of a command that ends for this cause
 abbrev pub status_of : Cause → Status
@@ -87,3 +88,7 @@ bad_wire fail = record { cause = Data (faults.Wire fail); report = bad_line_line
 -- a line of a script is a storm, behind the lines of these events
 abbrev pub storm : (events : List ℕ) → (line : ℕ) → Stop
 storm events line = record { cause = Limit Deliveries line; report = events ++ deliveries_line line }
+
+-- a recording and what left the run don't agree
+abbrev pub differing : Differs → Stop
+differing d = record { cause = Data (faults.Differs d); report = differs_line d.line d.want d.got }

@@ -4,13 +4,13 @@ ghost use Rattle.std.specs.Prelude.{◌≡◌, ◌≤◌, ◌<◌, ◌∷◌, []
 ghost use Rattle.std.specs.Char.{is_ascii_digit};
 ghost use Rattle.std.specs.List.{list_all};
 ghost use Rattle.eds_base.specs.Numbers.{decimal_value};
-ghost use Rattle.eds_cmd.specs.Command.{check_of as check_in, command_of as command_in, demo_of as demo_in, input_most as most_input, is_plain_number as plain_number, job_of as job_in, packets_of as packets_in, run_of as run_in, task_type, task_words, verb_of as verb_in, type_name_of as type_name_in, words_of};
+ghost use Rattle.eds_cmd.specs.Command.{check_of as check_in, command_of as command_in, demo_of as demo_in, input_most as most_input, is_plain_number as plain_number, job_of as job_in, layout_of as layout_in, packets_of as packets_in, script_job_of as script_job_in, task_type, task_words, verb_of as verb_in, type_name_of as type_name_in, words_of, work_type, work_words};
 
 use crate::limits::{HEX_OCTETS, JSON_OCTETS, PACKETS_OCTETS, SCRIPT_OCTETS};
 use eds_base::Text;
 
 /// What is done with an input file by a type.
-#[derive(Clone, Copy, Debug, PartialEq, Eq)]
+#[derive(Clone, Copy, PartialEq, Eq)]
 pub enum Verb {
     /// Reads the value of a frame.
     Unpack,
@@ -21,12 +21,14 @@ pub enum Verb {
 }
 
 /// What is to be done with an input file.
-#[derive(Clone, Copy, Debug)]
+#[derive(Clone, Copy)]
 pub enum Task<'a> {
     /// Something by the type of that name.
     ByType(Verb, &'a str),
     /// It is a script, which is run over the components of the sheet.
     Run,
+    /// It is a session, which is compared with the run of its script.
+    Replay,
 }
 
 impl<'a> Task<'a> {
@@ -37,23 +39,47 @@ impl<'a> Task<'a> {
     {
         match self {
             Task::ByType(_, type_name) => Some(type_name),
-            Task::Run => None,
+            Task::Run | Task::Replay => None,
         }
     }
 }
 
 /// What is to be done with an input file, and the name of the file.
-#[derive(Clone, Copy, Debug)]
+#[derive(Clone, Copy)]
 pub struct Job<'a> {
     pub task: Task<'a>,
     pub input: &'a str,
 }
 
-/// A command: what is to be done by a sheet, None where it is only checked, and the names of its
-/// files.
-#[derive(Clone, Copy, Debug)]
+/// What is to be done by a sheet.
+#[derive(Clone, Copy)]
+pub enum Work<'a> {
+    /// It is only checked.
+    Check,
+    /// The layout of the type of that name is told.
+    Layout(&'a str),
+    /// Something with an input file.
+    OnInput(Job<'a>),
+}
+
+impl<'a> Work<'a> {
+    /// The name of the type by which it is done, if it is by one.
+    pub fn type_name(&self) -> Option<&'a str>
+        ensures name { option_map (λ w. w.now) result ≡ work_type (work_words self.now) }
+        ensures given { is_some result ≡ is_some (work_type (work_words self.now)) }
+    {
+        match self {
+            Work::Check => None,
+            Work::Layout(type_name) => Some(type_name),
+            Work::OnInput(job) => job.task.type_name(),
+        }
+    }
+}
+
+/// A command: what is to be done by a sheet, and the names of its files.
+#[derive(Clone, Copy)]
 pub struct Command<'a> {
-    pub job: Option<Job<'a>>,
+    pub work: Work<'a>,
     pub sheets: &'a [Text],
 }
 
@@ -63,7 +89,7 @@ impl<'a> Command<'a> {
         ensures name { option_map (λ w. w.now) result ≡ type_name_in (words_of self.now) }
         ensures given { is_some result ≡ is_some (type_name_in (words_of self.now)) }
     {
-        self.job?.task.type_name()
+        self.work.type_name()
     }
 }
 
@@ -88,8 +114,22 @@ fn check_of(words: &[Text]) -> Option<Command<'_>>
     match words {
         [] => None,
         [_, ..] => Some(Command {
-            job: None,
+            work: Work::Check,
             sheets: words,
+        }),
+    }
+}
+
+// The names of a type and of sheet files, of which there is at least one.
+fn layout_of(words: &[Text]) -> Option<Command<'_>>
+    ensures { option_map words_of result ≡ layout_in words.now }
+{
+    match words {
+        [] => None,
+        [_] => None,
+        [type_name, sheets @ ..] => Some(Command {
+            work: Work::Layout(type_name.as_str()),
+            sheets,
         }),
     }
 }
@@ -103,7 +143,7 @@ fn job_of(verb: Verb, words: &[Text]) -> Option<Command<'_>>
         [_] => None,
         [_, _] => None,
         [type_name, input, sheets @ ..] => Some(Command {
-            job: Some(Job {
+            work: Work::OnInput(Job {
                 task: Task::ByType(verb, type_name.as_str()),
                 input: input.as_str(),
             }),
@@ -112,16 +152,16 @@ fn job_of(verb: Verb, words: &[Text]) -> Option<Command<'_>>
     }
 }
 
-// The names of a script and of sheet files, of which there is at least one.
-fn run_of(words: &[Text]) -> Option<Command<'_>>
-    ensures { option_map words_of result ≡ run_in words.now }
+// The names of a script or a session, and of sheet files, of which there is at least one.
+fn script_job_of<'a>(task: Task<'a>, words: &'a [Text]) -> Option<Command<'a>>
+    ensures { option_map words_of result ≡ script_job_in (task_words task.entry) words.now }
 {
     match words {
         [] => None,
         [_] => None,
         [script, sheets @ ..] => Some(Command {
-            job: Some(Job {
-                task: Task::Run,
+            work: Work::OnInput(Job {
+                task,
                 input: script.as_str(),
             }),
             sheets,
@@ -138,8 +178,12 @@ pub fn command_of(words: &[Text]) -> Option<Command<'_>>
         [first, rest @ ..] => {
             if first.as_str() == "check" {
                 check_of(rest)
+            } else if first.as_str() == "layout" {
+                layout_of(rest)
             } else if first.as_str() == "run" {
-                run_of(rest)
+                script_job_of(Task::Run, rest)
+            } else if first.as_str() == "replay" {
+                script_job_of(Task::Replay, rest)
             } else {
                 job_of(verb_of(first.as_str())?, rest)
             }
@@ -222,6 +266,6 @@ pub fn input_most(task: &Task<'_>) -> u64
         Task::ByType(Verb::Unpack, _) => HEX_OCTETS,
         Task::ByType(Verb::Pack, _) => JSON_OCTETS,
         Task::ByType(Verb::Split, _) => PACKETS_OCTETS,
-        Task::Run => SCRIPT_OCTETS,
+        Task::Run | Task::Replay => SCRIPT_OCTETS,
     }
 }

@@ -5,7 +5,7 @@ use eds_base::{Fail, Memory, Text};
 use std::alloc::AllocError;
 
 /// What ends a command over a shelf before it is done.
-#[derive(Debug, Drop)]
+#[derive(Drop)]
 pub enum Ended {
     /// A status other than Done, with the report.
     Stopped(Stop),

@@ -8,7 +8,7 @@ use eds_base::{Fail, Memory};
 use std::alloc::Global;
 
 /// A text is not hex digits in pairs.
-#[derive(Clone, Copy, Debug, PartialEq, Eq)]
+#[derive(Clone, Copy, PartialEq, Eq)]
 pub struct NotHex;
 
 fn is_blank(c: u8) -> bool

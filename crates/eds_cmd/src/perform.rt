@@ -8,23 +8,27 @@ ghost use Rattle.eds_io.specs.Files.{Files};
 ghost use Rattle.eds_sheet.specs.Compiled.{compiled, seen_sheet};
 ghost use Rattle.eds_sheet.specs.Firsts.{WhereFirstsAreTold};
 ghost use Rattle.eds_cmd.specs.Answer.{AnswersFew, Does, DoesBy, IsReached, IsReachedSheet, Works, accepted, input_for as input_of, or_refused, sheet_file as sheet_of_name, sheet_files as sheets_of_names, whole_file as whole, within_report as within_limit};
-ghost use Rattle.eds_cmd.specs.Command.{ReadsFile, job_type, job_words, task_type, task_words, type_name_of, words_of};
+ghost use Rattle.eds_cmd.specs.Command.{ReadsFile, ReadsInput, job_words, on_input, task_type, task_words, type_name_of, words_of, work_type, work_words};
 ghost use Rattle.eds_cmd.specs.Endings.{Comes, CommandEndsAs, EndsAs, OnUnread, UpToLimit};
+ghost use Rattle.eds_cmd.specs.Layout.{LaysOut};
+ghost use Rattle.eds_cmd.specs.Replay.{ReplaysSheet};
 ghost use Rattle.eds_cmd.specs.Run.{IsRunnable, RunsSheet};
 ghost use Rattle.eds_cmd.specs.Target.{IsKnown, IsUsable, MayBeRead, type_in, type_of};
 
-use crate::command::{Command, Job, Task, Verb, input_most};
+use crate::command::{Command, Job, Task, Verb, Work, input_most};
 use crate::ended::Ended;
+use crate::layout::laid_out;
 use crate::limits::{PACKETS_OCTETS, REPORT_OCTETS, SHEET_OCTETS, SHEETS, SHEETS_OCTETS};
 use crate::pack::packed;
+use crate::replay::replay_session;
 use crate::report::{counts_line, octets_of};
 use crate::run::{Components, run_script};
 use crate::split::split;
-use crate::status::What;
+use crate::status::{Status, What};
 use crate::stop::{Stop, limited, missing, refused};
 use crate::target::{Target, target_of};
 use crate::unpack::unpacked;
-use eds_base::{Fail, Items, Octets, Text};
+use eds_base::{Fail, Items, Memory, Octets, Text};
 use eds_io::{ReadEnd, Shelf, read_whole};
 use eds_sheet::{Sheet, compile};
 use std::alloc::Global;
@@ -198,6 +202,15 @@ fn run_sheet(alloc: Global, sheet: &Sheet, script: &[u8]) -> Result<Octets, Fail
     run_script(alloc, &components, script)
 }
 
+// Compares a session with the run of its script over the components of a sheet.
+fn replay_sheet(alloc: Global, sheet: &Sheet, session: &[u8]) -> Result<Octets, Fail<Stop>>
+    requires { IsUsable sheet.now }
+    ensures { EndsAs (λ o. o) (ReplaysSheet (seen_sheet sheet.now) session.now) result }
+{
+    let components = components_of(sheet);
+    replay_session(alloc, &components, session)
+}
+
 // What is done with the octets of an input file by a sheet.
 fn do_task(
     alloc: Global,
@@ -213,6 +226,7 @@ fn do_task(
     match task {
         Task::ByType(verb, _) => do_by_type(alloc, *verb, sheet, input),
         Task::Run => run_sheet(alloc, sheet, input),
+        Task::Replay => replay_sheet(alloc, sheet, input),
     }
 }
 
@@ -238,7 +252,7 @@ fn run_job<S: Shelf>(
     requires usable { IsUsable sheet.now }
     requires given { is_some sheet.now.asked_type ≡ is_some (task_type (job_words job.now).task) }
     ensures told { (files : Files) → S.files shelf.old ≡ Some files
-        → CommandEndsAs (λ o. o) (UpToLimit (DoesBy (Some (job_words job.now)) files (seen_sheet sheet.now))) result }
+        → CommandEndsAs (λ o. o) (UpToLimit (DoesBy (on_input (job_words job.now)) files (seen_sheet sheet.now))) result }
     ensures calm { (other : List ℕ) → S.faults shelf.old other ≤ S.faults shelf.new other }
     ensures unread { IfErr result (λ ended. OnUnread ended
         (λ n. (n ≡ job.now.input.now) × HasRisen (S.faults shelf.old n) (S.faults shelf.new n))) }
@@ -247,25 +261,35 @@ fn run_job<S: Shelf>(
     Ok(do_task(alloc, &job.task, sheet, input.as_slice())?)
 }
 
+// Where each part of the type that a command names stands.
+fn lay_out(alloc: Global, sheet: &Sheet) -> Result<Octets, Memory>
+    requires { IsSomeAnd sheet.now.asked_type (λ id. id.0 < length sheet.now.table) }
+    ensures { IfOk result (λ report. UpToLimit (LaysOut (type_of (seen_sheet sheet.now))) Status.Done report) }
+{
+    let target = target_of(sheet);
+    laid_out(alloc, &target)
+}
+
 // What is done by an accepted sheet.
 fn report_for<S: Shelf>(
     alloc: Global,
-    job: Option<Job<'_>>,
+    work: Work<'_>,
     sheet: &Sheet,
     shelf: &mut S,
 ) -> Result<Octets, Ended>
     requires usable { IsUsable sheet.now }
-    requires given { is_some sheet.now.asked_type ≡ is_some (job_type (option_map job_words job)) }
+    requires given { is_some sheet.now.asked_type ≡ is_some (work_type (work_words work)) }
     ensures told { (files : Files) → S.files shelf.old ≡ Some files
-        → CommandEndsAs (λ o. o) (UpToLimit (DoesBy (option_map job_words job.entry) files (seen_sheet sheet.now))) result }
+        → CommandEndsAs (λ o. o) (UpToLimit (DoesBy (work_words work.entry) files (seen_sheet sheet.now))) result }
     ensures calm { (other : List ℕ) → S.faults shelf.old other ≤ S.faults shelf.new other }
     ensures cause { IfErr result (λ ended. OnUnread ended
         (λ n. HasRisen (S.faults shelf.old n) (S.faults shelf.new n))) }
-    ensures file { IfErr result (λ ended. OnUnread ended (λ n. IsSomeAnd job.entry (λ j. n ≡ j.input.now))) }
+    ensures file { IfErr result (λ ended. OnUnread ended (ReadsInput (work_words work.entry))) }
 {
-    match job {
-        Some(job) => run_job(alloc, &job, sheet, shelf),
-        None => Ok(octets_of(counts_line(alloc, sheet.counts)?)),
+    match work {
+        Work::Check => Ok(octets_of(counts_line(alloc, sheet.counts)?)),
+        Work::Layout(_) => Ok(lay_out(alloc, sheet)?),
+        Work::OnInput(job) => run_job(alloc, &job, sheet, shelf),
     }
 }
 
@@ -297,6 +321,6 @@ pub fn perform<S: Shelf>(
         → IfErr result (λ ended. OnUnread ended (IsReached firsts files (words_of command.now)))) }
 {
     let sheet = sheet_for(alloc, command, shelf)?;
-    let report = report_for(alloc, command.job, &sheet, shelf)?;
+    let report = report_for(alloc, command.work, &sheet, shelf)?;
     Ok(within_report(alloc, report)?)
 }

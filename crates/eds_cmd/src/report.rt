@@ -1,7 +1,7 @@
 //! The lines that are reported.
 
 ghost use Rattle.std.specs.Prelude.{◌≡◌, IfOk, string_bytes};
-ghost use Rattle.eds_cmd.specs.Reports.{bad_line_line as line_of_bad_line, bits_report as report_of_bits, common_text as text_of_common, count_text as text_of_count, counts_line as line_of_counts, deliveries_line as line_of_deliveries, demo_line as line_of_demo, end_line as line_of_end, fault_line as line_of_fault, fault_words as words_of_fault, kept_text as text_of_kept, limit_line as line_of_limit, line_why_text as text_of_line_why, no_file_line as line_of_no_file, packet_fault_line as line_of_packet_fault, packet_words as words_of_packet, place_text as text_of_place, read_fault_line as line_of_read_fault, refusal_line as line_of_refusal, rule_text as text_of_rule, run_words as words_of_run, sheet_words as words_of_sheet, what_text as text_of_what, wire_why_text as text_of_wire_why};
+ghost use Rattle.eds_cmd.specs.Reports.{agrees_line as line_of_agreement, bad_line_line as line_of_bad_line, bits_report as report_of_bits, common_text as text_of_common, count_text as text_of_count, counts_line as line_of_counts, deliveries_line as line_of_deliveries, demo_line as line_of_demo, differs_line as line_of_difference, end_line as line_of_end, fault_line as line_of_fault, fault_words as words_of_fault, kept_text as text_of_kept, limit_line as line_of_limit, line_why_text as text_of_line_why, no_file_line as line_of_no_file, packet_fault_line as line_of_packet_fault, packet_words as words_of_packet, place_text as text_of_place, read_fault_line as line_of_read_fault, refusal_line as line_of_refusal, rule_text as text_of_rule, run_words as words_of_run, sheet_words as words_of_sheet, what_text as text_of_what, wire_why_text as text_of_wire_why};
 
 use crate::status::What;
 use crate::tally::Tally;
@@ -36,6 +36,7 @@ fn kept_text(alloc: Global, kept: &Kept) -> Result<String, AllocError>
             Ok(format!(in alloc; " {word}")?)
         }
         Kept::Overlap(note) => {
+            let note = note.get();
             let first = note.first.as_str();
             let second = note.second.as_str();
             let mut text = format!(in alloc; " {first} {second}")?;
@@ -239,6 +240,25 @@ pub fn end_line(alloc: Global, time: u64) -> Result<String, AllocError>
     ensures { IfOk result (λ s. string_bytes s ≡ line_of_end time) }
 {
     Ok(format!(in alloc; "end {time}\n")?)
+}
+
+/// The line of a session whose recordings agree: how many there are, and how many of them are spelled otherwise.
+pub fn agrees_line(alloc: Global, agreed: u32, otherwise: u32) -> Result<String, AllocError>
+    ensures { IfOk result (λ s. string_bytes s ≡ line_of_agreement agreed otherwise) }
+{
+    Ok(format!(in alloc; "agrees {agreed} respelled {otherwise}\n")?)
+}
+
+/// The line of the first recording and event of a session that don't agree, by the number of the recording's line: the recording,
+/// and the text of the event.
+pub fn differs_line(alloc: Global, line: u32, want: &str, got: &str) -> Result<String, AllocError>
+    ensures { IfOk result (λ s. string_bytes s ≡ line_of_difference line want.now got.now) }
+{
+    let mut words = format!(in alloc; "differs at line {line} want {want}")?;
+    words.push_str(" got ")?;
+    words.push_str(got)?;
+    words.push_str("\n")?;
+    Ok(words)
 }
 
 fn sheet_words(alloc: Global, n: u64, counts: Counts) -> Result<String, AllocError>

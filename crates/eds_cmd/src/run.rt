@@ -3,7 +3,7 @@
 ghost use Rattle.std.specs.Prelude.{◌≡◌, ◌≤◌, ◌<◌, ◌∷◌, ◌++◌, ℕ, List, Ok, IfErr, IfOk, OnOk, length, map};
 ghost use Rattle.std.specs.List.{AllByRecursion};
 ghost use Rattle.eds_cmd.specs.Endings.{EndsAs, StopSays};
-ghost use Rattle.eds_cmd.specs.Run.{AreEventLines, IsRunnable, IsStormy, RunsOver, RunsScript, end_text as text_of_end, states_text, wired};
+ghost use Rattle.eds_cmd.specs.Run.{AreEventLines, IsBadScript, IsBadlyWired, IsRunnable, IsStormy, RunsOver, RunsScript, end_text as text_of_end, states_text, wired};
 ghost use Rattle.eds_cmd.specs.Running.{HasRun, IsReady, Tells};
 ghost use Rattle.eds_cmd.specs.Demonstrated.{RunsTo};
 ghost use Rattle.eds_cmd.specs.Tally.{CountsMore};
@@ -38,14 +38,14 @@ pub struct Components<'a> {
 }
 
 /// What is told of a run: a line for each event, and how many of them are counted.
-#[derive(Debug, Drop)]
+#[derive(Drop)]
 pub struct Telling {
     report: Vec<u8>,
     tally: Tally,
 }
 
 /// How much is counted in a run, and when it ends.
-#[derive(Clone, Copy, Debug)]
+#[derive(Clone, Copy)]
 pub struct Counted {
     pub tally: Tally,
     pub end: u64,
@@ -99,7 +99,7 @@ fn tell_line(
 {
     outs_may_be_printed();
     let mut outs = Outs::new(alloc);
-    let handled = host.handle(line, &mut outs)?;
+    let handled = host.handle(alloc, line, &mut outs)?;
     add_events(alloc, of, &outs, report)?;
     count_events(&outs, tally)?;
     Ok(handled)
@@ -173,11 +173,11 @@ fn add_end(
     add_states(alloc, of, host, report)
 }
 
-// The script of a text.
-fn script_for(alloc: Global, of: &Components<'_>, text: &[u8]) -> Result<Script, Fail<Stop>>
+/// The script of a text.
+pub fn script_for(alloc: Global, of: &Components<'_>, text: &[u8]) -> Result<Script, Fail<Stop>>
     requires { IsRunnable of.now.table.now of.now.plan.now }
     ensures script { IfOk result (λ s. script_of of.now.table.now of.now.plan.now text.now ≡ Ok (plot_seen s)) }
-    ensures bad { IfErr result (StopSays (RunsScript of.now.table.now of.now.plan.now text.now)) }
+    ensures bad { IfErr result (StopSays (IsBadScript of.now.table.now of.now.plan.now text.now)) }
 {
     plans_know_types();
     match parse_script(alloc, of.table, of.plan, text) {
@@ -187,13 +187,17 @@ fn script_for(alloc: Global, of: &Components<'_>, text: &[u8]) -> Result<Script,
     }
 }
 
-// A host of components over the wires of a script, before the start.
-fn host_for<'a>(alloc: Global, of: &Components<'a>, script: &Script) -> Result<Host<'a>, Fail<Stop>>
+/// A host of components over the wires of a script, before the start.
+pub fn host_for<'a>(
+    alloc: Global,
+    of: &Components<'a>,
+    script: &Script,
+) -> Result<Host<'a>, Fail<Stop>>
     requires runnable { IsRunnable of.now.table.now of.now.plan.now }
     requires script { (text : List ℕ) × (script_of of.now.table.now of.now.plan.now text ≡ Ok (plot_seen script.now)) }
     ensures ready { IfOk result (λ h. IsReady of.now.table.now of.now.plan.now (map numbered_told script.now.lines) h) }
     ensures wires { IfOk result (λ h. wired of.now.plan.now (plot_seen script.now) ≡ Ok h.wires) }
-    ensures bad { IfErr result (StopSays (RunsOver of.now.table.now of.now.plan.now (wired of.now.plan.now (plot_seen script.now)) (map numbered_told script.now.lines))) }
+    ensures bad { IfErr result (StopSays (IsBadlyWired of.now.plan.now (plot_seen script.now))) }
 {
     of.table.keeps_rules();
     scripts_may_run();

@@ -3,11 +3,12 @@
 use eds_base::{Fault, Refusal, Text};
 use eds_host::HostFail;
 use eds_pack::PackFail;
+use eds_replay::Differs;
 use eds_script::BadLine;
 use eds_value::ValueFail;
 
 /// What has passed its limit.
-#[derive(Clone, Copy, Debug, PartialEq, Eq)]
+#[derive(Clone, Copy, PartialEq, Eq)]
 pub enum What {
     /// The sheet files.
     Files,
@@ -26,7 +27,7 @@ pub enum What {
 }
 
 /// What is wrong with the input file.
-#[derive(Debug, Drop)]
+#[derive(Drop)]
 pub enum DataFault {
     /// It has an octet that is no hex digit and no blank, or an odd number of digits.
     Hex,
@@ -42,10 +43,12 @@ pub enum DataFault {
     Line(BadLine),
     /// A wire of a script ties nothing: the first one.
     Wire(HostFail),
+    /// A recording of a session and what left the run don't agree: the first pair.
+    Differs(Differs),
 }
 
 /// How a command ended.
-#[derive(Debug, Drop)]
+#[derive(Drop)]
 pub enum Status {
     /// It was done.
     Done,

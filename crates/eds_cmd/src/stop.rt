@@ -4,20 +4,21 @@ ghost use Rattle.std.specs.Prelude.{◌≡◌, IfOk};
 ghost use Rattle.eds_cmd.specs.Stops as stops;
 
 use crate::report::{
-    bad_line_line, deliveries_line, fault_line, limit_line, line_why_text, no_file_line, octets_of,
-    packet_fault_line, refusal_line, wire_why_text,
+    bad_line_line, deliveries_line, differs_line, fault_line, limit_line, line_why_text,
+    no_file_line, octets_of, packet_fault_line, refusal_line, wire_why_text,
 };
 use crate::status::{DataFault, Status, What};
 use eds_base::{Fault, Memory, Octets, Refusal, Text};
 use eds_host::HostFail;
 use eds_pack::PackFail;
+use eds_replay::Differs;
 use eds_script::BadLine;
 use eds_types::TypeTable;
 use eds_value::{ValueFail, path_text};
 use std::alloc::Global;
 
 /// What ends a command before it is done.
-#[derive(Debug, Drop)]
+#[derive(Drop)]
 pub enum Cause {
     /// A rule is broken.
     Sheet(Refusal),
@@ -44,7 +45,7 @@ impl Cause {
 }
 
 /// What ends a command before it is done, and the whole report.
-#[derive(Debug, Drop)]
+#[derive(Drop)]
 pub struct Stop {
     pub cause: Cause,
     pub report: Octets,
@@ -185,5 +186,21 @@ pub fn storm(alloc: Global, events: Vec<u8>, line: u32) -> Result<Stop, Memory>
     Ok(Stop {
         cause: Cause::Limit(What::Deliveries, u64::from(line)),
         report: Octets::from_vec(report),
+    })
+}
+
+/// A recording and what left the run don't agree.
+pub fn differing(alloc: Global, differs: Differs) -> Result<Stop, Memory>
+    ensures { IfOk result (λ s. s ≡ stops.differing differs) }
+{
+    let report = differs_line(
+        alloc,
+        differs.line,
+        differs.want.as_str(),
+        differs.got.as_str(),
+    )?;
+    Ok(Stop {
+        cause: Cause::Data(DataFault::Differs(differs)),
+        report: octets_of(report),
     })
 }

@@ -8,7 +8,7 @@ use eds_base::Memory;
 use eds_plan::Out;
 
 /// How many primitives are sent, and how many frames are refused.
-#[derive(Clone, Copy, Debug, PartialEq, Eq)]
+#[derive(Clone, Copy, PartialEq, Eq)]
 pub struct Tally {
     pub sent: u64,
     pub rejects: u64,

@@ -29,7 +29,7 @@ const USAGE: &str = "usage: eds COMMAND ARGUMENTS\n";
 const TOO_MANY_SHEETS: &str = "limit files 64\n";
 
 /// The status and the report of a command.
-#[derive(Debug, Drop)]
+#[derive(Drop)]
 pub struct Outcome {
     pub status: Status,
     pub report: Octets,

@@ -14,7 +14,7 @@ use eds_bits::{BitReader, put, put_octets};
 use std::alloc::Global;
 
 /// Fewer bits are left than a binary has.
-#[derive(Clone, Copy, Debug, PartialEq, Eq)]
+#[derive(Clone, Copy, PartialEq, Eq)]
 pub struct Short;
 
 /// Writes a binary of so many bits into the room from bit `at` on. Its octets are these bits, filled with zeros. All other

@@ -17,7 +17,7 @@ use eds_bits::{BitReader, TextForm, put_octets};
 use std::alloc::Global;
 
 /// Why a text is not written.
-#[derive(Clone, Copy, Debug, PartialEq, Eq)]
+#[derive(Clone, Copy, PartialEq, Eq)]
 pub enum TextFail {
     /// It is outside the encoding, or the termination octet stands in it.
     BadText,
@@ -28,7 +28,7 @@ pub enum TextFail {
 }
 
 /// Why no text is read.
-#[derive(Clone, Copy, Debug, PartialEq, Eq)]
+#[derive(Clone, Copy, PartialEq, Eq)]
 pub enum TextFault {
     /// The bits end before it does.
     Short,

@@ -25,10 +25,22 @@ fn least_of(
     requires lefts { AreAllLeft rows.now.rows.now rows.now.lists.now lefts.now }
     ensures { IfOk result (λ r. r ≡ least (breaks_of rows.now.rows.now rows.now.lists.now id.0)) }
 {
-    let targets = least_in::<ConstraintTarget>(alloc, rows, id)?;
     let values = least_in::<ConstraintValue>(alloc, rows, id)?;
     let empties = least_empty(alloc, rows, lefts, id)?;
-    Ok(Refusal::first(targets, Refusal::first(values, empties)))
+    let others = Refusal::first(values, empties);
+    let targets = least_in::<ConstraintTarget>(alloc, rows, id)?;
+    Ok(Refusal::first(targets, others))
+}
+
+// Whether a constraint of a container breaks one of them.
+fn is_broken_at(alloc: Global, rows: &AskedRows, lefts: &[Left], id: TypeId) -> Result<bool, Memory>
+    requires read { AreRead rows.now.rows.now }
+    requires rise { AreRising rows.now.rows.now }
+    requires lefts { AreAllLeft rows.now.rows.now rows.now.lists.now lefts.now }
+    ensures { IfOk result (λ b. b ≡ is_broken rows.now.rows.now rows.now.lists.now id.0) }
+{
+    let found = least_of(alloc, rows, lefts, id)?;
+    Ok(found.is_some())
 }
 
 /// For each type whether a constraint of its container breaks one of the three rules.
@@ -40,8 +52,8 @@ pub fn broken_containers(alloc: Global, rows: &AskedRows) -> Result<Vec<bool>, M
     let lefts = all_lefts(alloc, rows)?;
     let mut marks = Vec::new(alloc);
     for id in 0..rows.rows.len() {
-        let here = least_of(alloc, rows, lefts.as_slice(), TypeId(id as u32))?;
-        marks.push(here.is_some())?;
+        let broken = is_broken_at(alloc, rows, lefts.as_slice(), TypeId(id as u32))?;
+        marks.push(broken)?;
     }
     Ok(marks)
 }

@@ -83,10 +83,10 @@ fn put_one(
     ensures least { IfOk result (λ r. (before : List Posed) → IsLeft rows.now.rows.now paths.now before states.old → r ≡ least (empty_at rows.now.rows.now before (posed_by (number_of_id base) one.now))) }
     ensures left { OnOk result ((before : List Posed) → IsLeft rows.now.rows.now paths.now before states.old → IsLeft rows.now.rows.now paths.now (before ++ posed_by (number_of_id base) one.now ∷ []) states.new) }
 {
-    let set = rows.admitted(alloc, base, one)?;
     let Some(at) = paths.position(one.path.as_str()) else {
         return Ok(None);
     };
+    let set = rows.admitted(alloc, base, one)?;
     let after = left_by(alloc, &states.as_slice()[at], &set)?;
     let emptied = is_emptied(&states.as_slice()[at], &set, &after);
     states.set(at, after);
@@ -141,6 +141,25 @@ fn fresh(alloc: Global, asked: &[Asked]) -> Result<Items<Option<Spans>>, Memory>
     Ok(states)
 }
 
+// Goes on over the constraints of a container where no refusal is asked for: what is left on their paths.
+fn leave(
+    alloc: Global,
+    rows: &AskedRows,
+    base: Option<TypeId>,
+    asked: &[Asked],
+    paths: &NameList,
+    states: &mut Items<Option<Spans>>,
+) -> Result<(), Memory>
+    requires read { AreRead rows.now.rows.now }
+    requires paths { paths.now ≡ map path_of asked.now }
+    requires size { length states.old ≡ length asked.now }
+    ensures size { OnOk result (length states.new ≡ length states.old) }
+    ensures left { OnOk result ((before : List Posed) → IsLeft rows.now.rows.now paths.now before states.old → IsLeft rows.now.rows.now paths.now (before ++ map (posed_by (number_of_id base)) asked.now) states.new) }
+{
+    let _unjudged = go_on(alloc, rows, base, asked, paths, states)?;
+    Ok(())
+}
+
 fn own_left(alloc: Global, rows: &AskedRows, id: TypeId) -> Result<Left, Memory>
     requires { AreRead rows.now.rows.now }
     ensures { IfOk result (λ l. IsLeftOf rows.now.rows.now rows.now.lists.now id.0 l) }
@@ -149,7 +168,7 @@ fn own_left(alloc: Global, rows: &AskedRows, id: TypeId) -> Result<Left, Memory>
     let base = rows.base_of(id);
     let paths = own_paths(alloc, asked)?;
     let mut states = fresh(alloc, asked)?;
-    let _unjudged = go_on(alloc, rows, base, asked, &paths, &mut states)?;
+    leave(alloc, rows, base, asked, &paths, &mut states)?;
     Ok(Left { paths, states })
 }
 

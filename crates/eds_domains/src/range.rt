@@ -1,7 +1,7 @@
 //! The ranges of numbers.
 
 /// An end of a range: what is admitted on its side.
-#[derive(Clone, Copy, Debug, PartialEq, Eq)]
+#[derive(Clone, Copy, PartialEq, Eq)]
 pub enum End {
     /// No number is beyond it.
     Open,
@@ -12,7 +12,7 @@ pub enum End {
 }
 
 /// The numbers from a lower end to an upper one (CCSDS 876.0-B, minimum and maximum ranges).
-#[derive(Clone, Copy, Debug, PartialEq, Eq)]
+#[derive(Clone, Copy, PartialEq, Eq)]
 pub struct Range {
     /// The lower end.
     pub low: End,

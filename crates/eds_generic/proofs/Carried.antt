@@ -25,9 +25,9 @@ use Rattle.eds_generic.specs.declared.pair.Bound.TheVariants as bound
 use Rattle.eds_generic.specs.declared.pair.Pair.{Pair}
 use Rattle.eds_generic.specs.declared.used.FaceUse.{FaceUse}
 use Rattle.eds_generic.specs.Faces.{generics, bases, own, mapped, is_at}
-use Rattle.eds_generic.specs.Members.{id_or_first, argument_of, member_of, members_of, each_once, members, mapped_given, base_given, under}
+use Rattle.eds_generic.specs.Members.{id_or_first, type_in, argument_of, member_of, members_of, each_once, members, mapped_given, base_given, under}
 use Rattle.eds_generic.specs.NameRules.{is_unmapped, unmapped_of, unmapped_at, names_under, keeping, limit_of, duplicates_of, breaks_unmapped, breaks_unknown, breaks_generic_base}
-use Rattle.eds_generic.specs.Pairs.{bound_by, handed, meant, meant_by, below, below_by, gathered, reached, most, is_among, put, put_all}
+use Rattle.eds_generic.specs.Pairs.{handed, meant, meant_by, below, below_by, gathered, reached, most, is_among, put, put_all}
 use Rattle.eds_generic.specs.Resolved.{breaks_given}
 use Rattle.eds_generic.specs.Uses.{use_breaks, use_instance}
 use Rattle.eds_generic.proofs.Lists.{append-none, map-none, all-joined}
@@ -82,51 +82,51 @@ module _ (P : ℕ → Type 0) where
   -- a type with this
   abbrev BoundHas : Bound → Type 0
   BoundHas bound.Unmapped = ⊥
-  BoundHas bound.Unknown = ⊥
+  BoundHas (bound.Unknown face k) = ⊥
   BoundHas (bound.Sort id) = P id.0
 
   -- the same, or nothing, where no map gives it a type
   abbrev MayHave : Bound → Type 0
   MayHave bound.Unmapped = Unit {0}
-  MayHave bound.Unknown = ⊥
+  MayHave (bound.Unknown face k) = ⊥
   MayHave (bound.Sort id) = P id.0
 
   has-may : (b : Bound) → BoundHas b → MayHave b
   has-may bound.Unmapped h = tt
-  has-may bound.Unknown h = h
+  has-may (bound.Unknown face k) h = h
   has-may (bound.Sort id) h = h
 
-  handed-has : (b : Bound) → BoundHas b → BoundHas (handed b)
-  handed-has bound.Unmapped h = absurd h
-  handed-has bound.Unknown h = absurd h
-  handed-has (bound.Sort id) h = h
+  handed-has : (face : FaceId) (k : ℕ) (b : Bound) → BoundHas b → BoundHas (handed face k (Some b))
+  handed-has face k bound.Unmapped h = absurd h
+  handed-has face k (bound.Unknown f j) h = absurd h
+  handed-has face k (bound.Sort id) h = h
 
-  place-has : (types : List Bound) (k : ℕ) → AllByRecursion BoundHas types → k < length types → BoundHas (handed (bound_by (slice_get types k)))
-  place-has [] k h lt = absurd (omega (arith, lt))
-  place-has (b ∷ types) zero h lt = handed-has b h.0
-  place-has (b ∷ types) (suc k) h lt = place-has types k h.1 (omega (arith, lt))
+  place-has : (face : FaceId) (place : ℕ) (types : List Bound) (k : ℕ) → AllByRecursion BoundHas types → k < length types → BoundHas (handed face place (slice_get types k))
+  place-has face place [] k h lt = absurd (omega (arith, lt))
+  place-has face place (b ∷ types) zero h lt = handed-has face place b h.0
+  place-has face place (b ∷ types) (suc k) h lt = place-has face place types k h.1 (omega (arith, lt))
 
-  meant-has : (types : List Bound) (s : Source) → AllByRecursion BoundHas types → SourceHas (length types) s → BoundHas (meant types s)
-  meant-has types (source.Generic k) h s = place-has types k h s
-  meant-has types (source.Sort id) h s = s
+  meant-has : (face : FaceId) (types : List Bound) (s : Source) → AllByRecursion BoundHas types → SourceHas (length types) s → BoundHas (meant face types s)
+  meant-has face types (source.Generic k) h s = place-has face k types k h s
+  meant-has face types (source.Sort id) h s = s
 
-  mapped-has : (types : List Bound) (maps : List Mapped) (k : ℕ) → AllByRecursion BoundHas types → AllByRecursion (λ (m : Mapped). SourceHas (length types) m.source) maps → MayHave (meant_by types (mapped maps k))
-  mapped-has types [] k h s = tt
-  mapped-has types (m ∷ maps) k h s = go (is_at m.generic k) (mapped-has types maps k h s.1)
+  mapped-has : (face : FaceId) (types : List Bound) (maps : List Mapped) (k : ℕ) → AllByRecursion BoundHas types → AllByRecursion (λ (m : Mapped). SourceHas (length types) m.source) maps → MayHave (meant_by face types (mapped maps k))
+  mapped-has face types [] k h s = tt
+  mapped-has face types (m ∷ maps) k h s = go (is_at m.generic k) (mapped-has face types maps k h s.1)
     where
-      go : (b : Bool) → MayHave (meant_by types (mapped maps k)) → MayHave (meant_by types (if b then Some m.source else mapped maps k))
-      go true rest = has-may (meant types m.source) (meant-has types m.source h s.0)
+      go : (b : Bool) → MayHave (meant_by face types (mapped maps k)) → MayHave (meant_by face types (if b then Some m.source else mapped maps k))
+      go true rest = has-may (meant face types m.source) (meant-has face types m.source h s.0)
       go false rest = rest
 
-  names-have : (types : List Bound) (maps : List Mapped) → AllByRecursion BoundHas types → AllByRecursion (λ (m : Mapped). SourceHas (length types) m.source) maps
-      → (ks : List ℕ) → AllByRecursion MayHave (map (λ k. meant_by types (mapped maps k)) ks)
-  names-have types maps h s [] = tt
-  names-have types maps h s (k ∷ ks) = (mapped-has types maps k h s, names-have types maps h s ks)
+  names-have : (face : FaceId) (types : List Bound) (maps : List Mapped) → AllByRecursion BoundHas types → AllByRecursion (λ (m : Mapped). SourceHas (length types) m.source) maps
+      → (ks : List ℕ) → AllByRecursion MayHave (map (λ k. meant_by face types (mapped maps k)) ks)
+  names-have face types maps h s [] = tt
+  names-have face types maps h s (k ∷ ks) = (mapped-has face types maps k h s, names-have face types maps h s ks)
 
   -- where none of some names is unmapped, each stands for a type with this
   one-mapped : (name : List ℕ) (b : Bound) → (if is_unmapped b then name ∷ [] else []) ≡ [] → MayHave b → BoundHas b
   one-mapped name bound.Unmapped e h = absurd cc
-  one-mapped name bound.Unknown e h = h
+  one-mapped name (bound.Unknown face k) e h = h
   one-mapped name (bound.Sort id) e h = h
 
   names-mapped : (gs : List Generic) (bs : List Bound) → length bs ≡ length gs → unmapped_of gs bs ≡ [] → AllByRecursion MayHave bs → AllByRecursion BoundHas bs
@@ -139,15 +139,24 @@ module _ (P : ℕ → Type 0) where
 
   -- ---- own members
 
-  type-has : (b : Bound) → BoundHas b → P (id_or_first b).0
-  type-has bound.Unmapped h = absurd h
-  type-has bound.Unknown h = absurd h
-  type-has (bound.Sort id) h = h
+  bound-has : (b : Bound) → BoundHas b → P (id_or_first (Some b)).0
+  bound-has bound.Unmapped h = absurd h
+  bound-has (bound.Unknown face k) h = absurd h
+  bound-has (bound.Sort id) h = h
+
+  place-type : (types : List Bound) (k : ℕ) → AllByRecursion BoundHas types → k < length types → P (id_or_first (slice_get types k)).0
+  place-type [] k h lt = absurd (omega (arith, lt))
+  place-type (b ∷ types) zero h lt = bound-has b h.0
+  place-type (b ∷ types) (suc k) h lt = place-type types k h.1 (omega (arith, lt))
+
+  type-has : (types : List Bound) (s : Source) → AllByRecursion BoundHas types → SourceHas (length types) s → P (type_in types s).0
+  type-has types (source.Generic k) h s = place-type types k h s
+  type-has types (source.Sort id) h s = s
 
   arguments-have : (types : List Bound) (arguments : List OwnArgument) → AllByRecursion BoundHas types → AllByRecursion (λ (a : OwnArgument). SourceHas (length types) a.source) arguments
       → AllByRecursion (λ (a : Argument). P a.id.0) (map (argument_of types) arguments)
   arguments-have types [] h s = tt
-  arguments-have types (a ∷ arguments) h s = (type-has (meant types a.source) (meant-has types a.source h s.0), arguments-have types arguments h s.1)
+  arguments-have types (a ∷ arguments) h s = (type-has types a.source h s.0, arguments-have types arguments h s.1)
 
   member-has : (types : List Bound) (m : OwnMember) → AllByRecursion BoundHas types → MemberHas (length types) m → OnArguments P (member_of types m)
   member-has types (own_member.Parameter name s read_only) h o = tt
@@ -175,9 +184,9 @@ module _ (P : ℕ → Type 0) where
   abbrev IsReady : List Face → Pair → Type 0
   IsReady faces p = (length p.types ≡ length (generics faces p.face.0)) × AllByRecursion MayHave p.types
 
-  below-ready : (faces : List Face) (types : List Bound) (b : Base) → AllByRecursion BoundHas types → BaseHas (length types) b → IsReady faces (below_by faces types b)
-  below-ready faces types b h s =
-      (length-map-range_with_len (λ k. meant_by types (mapped b.maps k)) 0 (length (generics faces b.face.0)), names-have types b.maps h s (range_with_len 0 (length (generics faces b.face.0))))
+  below-ready : (faces : List Face) (face : FaceId) (types : List Bound) (b : Base) → AllByRecursion BoundHas types → BaseHas (length types) b → IsReady faces (below_by faces face types b)
+  below-ready faces face types b h s =
+      (length-map-range_with_len (λ k. meant_by face types (mapped b.maps k)) 0 (length (generics faces b.face.0)), names-have face types b.maps h s (range_with_len 0 (length (generics faces b.face.0))))
 
   maps-have : (own_names : List (List ℕ)) (ms : List (List ℕ × TypeId)) → AllByRecursion (λ (m : List ℕ × TypeId). P m.1.0) ms → AllByRecursion (λ (m : Mapped). SourceHas 0 m.source) (map (mapped_given own_names) ms)
   maps-have own_names [] h = tt
@@ -198,15 +207,15 @@ module _ (P : ℕ → Type 0) where
     pair-has : (p : Pair) → IsReady faces p → AllByRecursion BoundHas p.types → PairHas p
     pair-has p ready h = own-have p.types (own faces p.face.0) h (subst (λ n. AllByRecursion (MemberHas n) (own faces p.face.0)) (sym ready.0) (face-members faces p.face.0 known))
 
-    bases-have : (n : ℕ) (bounds : List Bound) → ((q : Pair) → IsReady faces q → AreMapped (reached n faces q) → AllByRecursion PairHas (gathered n faces q)) → AllByRecursion BoundHas bounds
-        → (bs : List Base) → AllByRecursion (BaseHas (length bounds)) bs → AreMapped (flat_map (reached n faces) (map (below_by faces bounds) bs)) → AllByRecursion PairHas (flat_map (gathered n faces) (map (below_by faces bounds) bs))
-    bases-have n bounds each h [] s none = tt
-    bases-have n bounds each h (b ∷ bs) s none =
-        let q = below_by faces bounds b in
-        let behind = map (below_by faces bounds) bs in
+    bases-have : (n : ℕ) (face : FaceId) (bounds : List Bound) → ((q : Pair) → IsReady faces q → AreMapped (reached n faces q) → AllByRecursion PairHas (gathered n faces q)) → AllByRecursion BoundHas bounds
+        → (bs : List Base) → AllByRecursion (BaseHas (length bounds)) bs → AreMapped (flat_map (reached n faces) (map (below_by faces face bounds) bs)) → AllByRecursion PairHas (flat_map (gathered n faces) (map (below_by faces face bounds) bs))
+    bases-have n face bounds each h [] s none = tt
+    bases-have n face bounds each h (b ∷ bs) s none =
+        let q = below_by faces face bounds b in
+        let behind = map (below_by faces face bounds) bs in
         let parts = append-none (flat_map (unmapped_at faces types) (reached n faces q)) (flat_map (unmapped_at faces types) (flat_map (reached n faces) behind))
         (sym (flat_map-append (unmapped_at faces types) (reached n faces q) (flat_map (reached n faces) behind)) ∙ none) in
-        all-joined PairHas (gathered n faces q) (flat_map (gathered n faces) behind) (each q (below-ready faces bounds b h s.0) parts.0) (bases-have n bounds each h bs s.1 parts.1)
+        all-joined PairHas (gathered n faces q) (flat_map (gathered n faces) behind) (each q (below-ready faces face bounds b h s.0) parts.0) (bases-have n face bounds each h bs s.1 parts.1)
 
     gathered-has : (n : ℕ) (p : Pair) → IsReady faces p → AreMapped (reached n faces p) → AllByRecursion PairHas (gathered n faces p)
     unfolding gathered reached
@@ -215,7 +224,7 @@ module _ (P : ℕ → Type 0) where
         let parts = append-none (unmapped_at faces types p) (flat_map (unmapped_at faces types) (flat_map (reached n faces) (below faces p))) none in
         let h = bounds-have p ready parts.0 in
         let named = subst (λ k. AllByRecursion (BaseHas k) (bases faces p.face.0)) (sym ready.0) (face-bases faces p.face.0 known) in
-        all-joined PairHas (flat_map (gathered n faces) (below faces p)) (p ∷ []) (bases-have n p.types (λ q r m. gathered-has n q r m) h (bases faces p.face.0) named parts.1) (pair-has p ready h, tt)
+        all-joined PairHas (flat_map (gathered n faces) (below faces p)) (p ∷ []) (bases-have n p.face p.types (λ q r m. gathered-has n q r m) h (bases faces p.face.0) named parts.1) (pair-has p ready h, tt)
 
     flat-has : (ps : List Pair) → AllByRecursion PairHas ps → AllByRecursion (OnArguments P) (flat_map (members_of faces) ps)
     flat-has [] h = tt
@@ -226,7 +235,7 @@ module _ (P : ℕ → Type 0) where
     unfolding members
     members-have face ms h none =
         let p = under faces face ms in
-        let ready = below-ready faces [] (base_given faces face ms) tt (maps-have _ ms h) in
+        let ready = below-ready faces face [] (base_given faces face ms) tt (maps-have _ ms h) in
         flat-has (each_once faces p) (put_all-has PairHas [] (gathered (most faces) faces p) tt (gathered-has (most faces) p ready none))
 
     -- where a use breaks no rule, its commands carry what its map and the interfaces name

@@ -37,7 +37,7 @@ unfolding gathered ends_within
 gathered-more zero m faces p e h = cc
 gathered-more (suc n) zero faces p e h = absurd (omega arith)
 gathered-more (suc n) (suc m) faces p e h =
-    ap (λ ps. ps ++ p ∷ []) (flat_map-alike (λ (b : Base). ends_within n faces b.face.0) (gathered m faces) (gathered n faces) (below_by faces p.types) (λ b k. gathered-more n m faces (below_by faces p.types b) k (omega arith)) (bases faces p.face.0) e)
+    ap (λ ps. ps ++ p ∷ []) (flat_map-alike (λ (b : Base). ends_within n faces b.face.0) (gathered m faces) (gathered n faces) (below_by faces p.face p.types) (λ b k. gathered-more n m faces (below_by faces p.face p.types b) k (omega arith)) (bases faces p.face.0) e)
 
 -- ---- what is closed
 
@@ -85,14 +85,14 @@ pub opened-at : {A : Type 0} (xs : List A) (i : ℕ) (x : A) → i < length xs �
 opened-at xs i x h e = drop-cons xs i x h ∙ rw add-one (rw (← e) refl)
 
 pub gather-step : (found new whole : List Pair) (n : ℕ) (faces : List Face) (p q : Pair) (bs : List Base) (i : ℕ) (b : Base) → i < length bs → b ≡ get_or bs i b
-    → q ≡ below_by faces p.types b → new ≡ put_all found (gathered n faces q)
-    → put_all found (flat_map (gathered n faces) (map (below_by faces p.types) (drop i bs))) ≡ whole
-    → put_all new (flat_map (gathered n faces) (map (below_by faces p.types) (drop (i + 1) bs))) ≡ whole
+    → q ≡ below_by faces p.face p.types b → new ≡ put_all found (gathered n faces q)
+    → put_all found (flat_map (gathered n faces) (map (below_by faces p.face p.types) (drop i bs))) ≡ whole
+    → put_all new (flat_map (gathered n faces) (map (below_by faces p.face p.types) (drop (i + 1) bs))) ≡ whole
 gather-step found new whole n faces p q bs i b h e u w inv =
     let opened = opened-at bs i b h e in
-    let rest : List Pair = flat_map (gathered n faces) (map (below_by faces p.types) (drop (i + 1) bs)) in
-    ap (λ fs. put_all fs rest) w ∙ ap (λ r. put_all (put_all found (gathered n faces r)) rest) u ∙ sym (put_all-append found (gathered n faces (below_by faces p.types b)) rest)
-    ∙ ap (λ cs. put_all found (flat_map (gathered n faces) (map (below_by faces p.types) cs))) (sym opened) ∙ inv
+    let rest : List Pair = flat_map (gathered n faces) (map (below_by faces p.face p.types) (drop (i + 1) bs)) in
+    ap (λ fs. put_all fs rest) w ∙ ap (λ r. put_all (put_all found (gathered n faces r)) rest) u ∙ sym (put_all-append found (gathered n faces (below_by faces p.face p.types b)) rest)
+    ∙ ap (λ cs. put_all found (flat_map (gathered n faces) (map (below_by faces p.face p.types) cs))) (sym opened) ∙ inv
 
 -- ---- too many members
 
@@ -108,12 +108,12 @@ module _ (faces : List Face) where
       put-many found mid n p e refl (many-grow faces 1024 mid (p ∷ []) (put mid p) refl h)
 
   pub bases-many : (first found : List Pair) (n : ℕ) (p q : Pair) (bs : List Base) (i : ℕ) (b : Base) → i < length bs → b ≡ get_or bs i b
-      → q ≡ below_by faces p.types b → bs ≡ bases faces p.face.0
-      → put_all found (flat_map (gathered n faces) (map (below_by faces p.types) (drop i bs))) ≡ put_all first (flat_map (gathered n faces) (map (below_by faces p.types) bs))
+      → q ≡ below_by faces p.face p.types b → bs ≡ bases faces p.face.0
+      → put_all found (flat_map (gathered n faces) (map (below_by faces p.face p.types) (drop i bs))) ≡ put_all first (flat_map (gathered n faces) (map (below_by faces p.face p.types) bs))
       → 1024 < declared_count faces (put_all found (gathered n faces q)) → 1024 < declared_count faces (put_all first (flat_map (gathered n faces) (below faces p)))
   bases-many first found n p q bs i b lt e u same inv h =
-      let rest : List Pair = flat_map (gathered n faces) (map (below_by faces p.types) (drop (i + 1) bs)) in
-      let whole : List Pair = put_all first (flat_map (gathered n faces) (map (below_by faces p.types) bs)) in
+      let rest : List Pair = flat_map (gathered n faces) (map (below_by faces p.face p.types) (drop (i + 1) bs)) in
+      let whole : List Pair = put_all first (flat_map (gathered n faces) (map (below_by faces p.face p.types) bs)) in
       let next = gather-step found (put_all found (gathered n faces q)) whole n faces p q bs i b lt e u refl inv in
       let many = many-grow faces 1024 (put_all found (gathered n faces q)) rest whole (sym next) h in
       rw same at many

@@ -35,7 +35,7 @@ unfolding reached ends_within
 reached-more zero m faces p e h = cc
 reached-more (suc n) zero faces p e h = absurd (omega arith)
 reached-more (suc n) (suc m) faces p e h =
-    ap (λ ps. p ∷ ps) (flat_map-alike (λ (b : Base). ends_within n faces b.face.0) (reached m faces) (reached n faces) (below_by faces p.types) (λ b k. reached-more n m faces (below_by faces p.types b) k (omega arith)) (bases faces p.face.0) e)
+    ap (λ ps. p ∷ ps) (flat_map-alike (λ (b : Base). ends_within n faces b.face.0) (reached m faces) (reached n faces) (below_by faces p.face p.types) (λ b k. reached-more n m faces (below_by faces p.face p.types b) k (omega arith)) (bases faces p.face.0) e)
 
 module _ (names : Names) (faces : List Face) (types : List (Option TypeId)) where
   abbrev of_pairs : List Pair → List (List ℕ)
@@ -78,20 +78,20 @@ module _ (names : Names) (faces : List Face) (types : List (Option TypeId)) wher
   -- ---- one base after another
 
   abbrev of_bases : ℕ → Pair → List Base → List (List ℕ)
-  of_bases n p bs = of_pairs (flat_map (reached n faces) (map (below_by faces p.types) bs))
+  of_bases n p bs = of_pairs (flat_map (reached n faces) (map (below_by faces p.face p.types) bs))
 
-  open-base : (n : ℕ) (p : Pair) (bs : List Base) (i : ℕ) (b : Base) → i < length bs → b ≡ get_or bs i b → of_bases n p (drop i bs) ≡ of_pairs (reached n faces (below_by faces p.types b)) ++ of_bases n p (drop (i + 1) bs)
-  open-base n p bs i b h e = ap (of_bases n p) (opened-at bs i b h e) ∙ flat_map-append (names faces types) (reached n faces (below_by faces p.types b)) (flat_map (reached n faces) (map (below_by faces p.types) (drop (i + 1) bs)))
+  open-base : (n : ℕ) (p : Pair) (bs : List Base) (i : ℕ) (b : Base) → i < length bs → b ≡ get_or bs i b → of_bases n p (drop i bs) ≡ of_pairs (reached n faces (below_by faces p.face p.types b)) ++ of_bases n p (drop (i + 1) bs)
+  open-base n p bs i b h e = ap (of_bases n p) (opened-at bs i b h e) ∙ flat_map-append (names faces types) (reached n faces (below_by faces p.face p.types b)) (flat_map (reached n faces) (map (below_by faces p.face p.types) (drop (i + 1) bs)))
 
-  pub base-some : (n : ℕ) (p q : Pair) (bs : List Base) (i : ℕ) (b : Base) (w : Option (List ℕ)) (x : List ℕ) (whole : Option (List ℕ)) → i < length bs → b ≡ get_or bs i b → q ≡ below_by faces p.types b
+  pub base-some : (n : ℕ) (p q : Pair) (bs : List Base) (i : ℕ) (b : Base) (w : Option (List ℕ)) (x : List ℕ) (whole : Option (List ℕ)) → i < length bs → b ≡ get_or bs i b → q ≡ below_by faces p.face p.types b
       → w ≡ first (of_pairs (reached n faces q)) → w ≡ Some x → first (of_bases n p (drop i bs)) ≡ whole → w ≡ whole
   base-some n p q bs i b w x whole h e u f s inv =
-      s ∙ sym (ap first (open-base n p bs i b h e) ∙ first-some (of_pairs (reached n faces (below_by faces p.types b))) _ x (ap (λ r. first (of_pairs (reached n faces r))) (sym u) ∙ sym f ∙ s)) ∙ inv
+      s ∙ sym (ap first (open-base n p bs i b h e) ∙ first-some (of_pairs (reached n faces (below_by faces p.face p.types b))) _ x (ap (λ r. first (of_pairs (reached n faces r))) (sym u) ∙ sym f ∙ s)) ∙ inv
 
-  pub base-none : (n : ℕ) (p q : Pair) (bs : List Base) (i : ℕ) (b : Base) (w whole : Option (List ℕ)) → i < length bs → b ≡ get_or bs i b → q ≡ below_by faces p.types b
+  pub base-none : (n : ℕ) (p q : Pair) (bs : List Base) (i : ℕ) (b : Base) (w whole : Option (List ℕ)) → i < length bs → b ≡ get_or bs i b → q ≡ below_by faces p.face p.types b
       → w ≡ first (of_pairs (reached n faces q)) → w ≡ None → first (of_bases n p (drop i bs)) ≡ whole → first (of_bases n p (drop (i + 1) bs)) ≡ whole
   base-none n p q bs i b w whole h e u f s inv =
-      let none : of_pairs (reached n faces (below_by faces p.types b)) ≡ [] = first-none _ (ap (λ r. first (of_pairs (reached n faces r))) (sym u) ∙ sym f ∙ s) in
+      let none : of_pairs (reached n faces (below_by faces p.face p.types b)) ≡ [] = first-none _ (ap (λ r. first (of_pairs (reached n faces r))) (sym u) ∙ sym f ∙ s) in
       sym (ap first (open-base n p bs i b h e) ∙ ap (λ ns. first (ns ++ of_bases n p (drop (i + 1) bs))) none) ∙ inv
 
 -- ---- there is one, or none

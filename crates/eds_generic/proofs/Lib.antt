@@ -1,5 +1,4 @@
 pub mod Once
-pub mod Judged
 pub mod Indexing
 pub mod RepeatedMembers
 pub mod Counting

@@ -7,7 +7,7 @@ use Rattle.eds_generic.specs.declared.face.Face.{Face}
 use Rattle.eds_generic.specs.declared.face.Generic.{Generic}
 use Rattle.eds_generic.specs.Cycles.{is_own_base, cycle_if}
 use Rattle.eds_generic.specs.Members.{under}
-use Rattle.eds_generic.specs.Resolved.{judged_first, pair_breaks}
+use Rattle.eds_generic.specs.Resolved.{pair_breaks}
 
 -- a rule at each of some interfaces, of which the first has the number g
 abbrev pub over_from : (ℕ → Face → List Refusal) → ℕ → List Face → List Refusal
@@ -34,7 +34,3 @@ alone_at faces types g x = pair_at faces g types x.place x.generics
 -- the same of all interfaces
 abbrev pub alone_breaks : List Face → List (Option TypeId) → List Refusal
 alone_breaks faces types = over_from (alone_at faces types) 0 faces
-
--- all that the interfaces of a sheet break: the rules under a map are judged only where none is its own base
-abbrev pub interface_breaks : List Face → List (Option TypeId) → List Refusal
-interface_breaks faces types = judged_first (own_cycles faces) (alone_breaks faces types)

@@ -1,5 +1,5 @@
 -- The members of an interface under a map of its generic names.
-use Rattle.std.specs.Prelude.{ℕ, Bool, List, [], ◌∷◌, ◌++◌, length, map, if◌then◌else◌}
+use Rattle.std.specs.Prelude.{ℕ, Bool, List, [], ◌∷◌, ◌++◌, length, map, Option, Some, None, slice_get, if◌then◌else◌}
 use Rattle.std.specs.List.{flat_map, list_any}
 use Rattle.eds_base.specs.Reading.{same}
 use Rattle.eds_base.specs.declared.ids.TypeId.{TypeId}
@@ -20,19 +20,21 @@ use Rattle.eds_generic.specs.declared.pair.Bound.TheVariants as bound
 use Rattle.eds_generic.specs.declared.pair.Pair.{Pair}
 use Rattle.eds_names.specs.Positions.{place_among}
 use Rattle.eds_generic.specs.Faces.{generics, names_of, own}
-use Rattle.eds_generic.specs.Pairs.{meant, below_by, gathered, most, put_all}
+use Rattle.eds_generic.specs.Pairs.{below_by, gathered, most, put_all}
 
 -- ---- own members, each generic name replaced
 
 -- the first type where there is none; in an interface that is not refused each generic name stands for a type
-abbrev pub id_or_first : Bound → TypeId
-id_or_first bound.Unmapped = record { 0 = 0 }
-id_or_first bound.Unknown = record { 0 = 0 }
-id_or_first (bound.Sort id) = id
+abbrev pub id_or_first : Option Bound → TypeId
+id_or_first None = record { 0 = 0 }
+id_or_first (Some bound.Unmapped) = record { 0 = 0 }
+id_or_first (Some (bound.Unknown face k)) = record { 0 = 0 }
+id_or_first (Some (bound.Sort id)) = id
 
 -- the type of a source under a map
 abbrev pub type_in : List Bound → Source → TypeId
-type_in types s = id_or_first (meant types s)
+type_in types (source.Generic k) = id_or_first (slice_get types k)
+type_in types (source.Sort id) = id
 
 -- an argument, its type being that under a map
 abbrev pub argument_of : List Bound → OwnArgument → Argument
@@ -74,7 +76,7 @@ base_given faces face ms = record { face = face; maps = map (mapped_given (names
 
 -- an interface under a given map
 abbrev pub under : List Face → FaceId → List (List ℕ × TypeId) → Pair
-under faces face ms = below_by faces [] (base_given faces face ms)
+under faces face ms = below_by faces face [] (base_given faces face ms)
 
 -- ---- names of members
 

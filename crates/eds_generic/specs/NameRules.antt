@@ -31,7 +31,7 @@ first (x ∷ xs) = Some x
 -- a generic name that no map gives a type
 abbrev pub is_unmapped : Bound → Bool
 is_unmapped bound.Unmapped = true
-is_unmapped bound.Unknown = false
+is_unmapped (bound.Unknown face k) = false
 is_unmapped (bound.Sort id) = false
 
 -- the generic names, each with what it stands for, that no map gives a type
@@ -75,7 +75,7 @@ derives (suc n) types from id = (id == from) || derived_by (derives n types from
 abbrev pub refuses : List (Option TypeId) → Option TypeId → Bound → Bool
 refuses types (Some from) (bound.Sort id) = if derives 16 types from.0 id.0 then false else true
 refuses types (Some from) bound.Unmapped = false
-refuses types (Some from) bound.Unknown = false
+refuses types (Some from) (bound.Unknown face k) = false
 refuses types None b = false
 
 -- the generic names, each with what it stands for, that stand for a type which they do not admit

@@ -1,6 +1,7 @@
 -- Interfaces under maps of their generic names.
 use Rattle.std.specs.Prelude.{◌≡◌, ℕ, zero, suc, List, [], ◌∷◌, ◌++◌, map, length, Bool, true, false, ◌&&◌, ◌==◌, if◌then◌else◌, Option, Some, None, slice_get, set}
 use Rattle.std.specs.List.{flat_map, list_any, list_all, range_with_len}
+use Rattle.eds_base.specs.declared.ids.FaceId.{FaceId}
 use Rattle.eds_base.specs.Reading.{same}
 use Rattle.eds_generic.specs.declared.face.Face.{Face}
 use Rattle.eds_generic.specs.declared.face.Base.{Base}
@@ -16,32 +17,29 @@ use Rattle.eds_generic.specs.Faces.{generics, bases, mapped}
 
 -- ---- what a name stands for
 
--- what a name stands for, unknown where nothing is said of it
-abbrev pub bound_by : Option Bound → Bound
-bound_by None = bound.Unknown
-bound_by (Some b) = b
-
--- a generic that stands for nothing has no type that could be handed on
-abbrev pub handed : Bound → Bound
-handed bound.Unmapped = bound.Unknown
-handed bound.Unknown = bound.Unknown
-handed (bound.Sort id) = bound.Sort id
+-- what the generic name of an interface at a position hands on: the name itself, where no map gives it a type; and what
+-- it stands for, be it a type or a name that was handed to it
+abbrev pub handed : FaceId → ℕ → Option Bound → Bound
+handed face k None = bound.Unknown face k
+handed face k (Some bound.Unmapped) = bound.Unknown face k
+handed face k (Some (bound.Unknown f j)) = bound.Unknown f j
+handed face k (Some (bound.Sort id)) = bound.Sort id
 
 -- a type as an interface names it, where its own generic names stand for these
-abbrev pub meant : List Bound → Source → Bound
-meant types (source.Generic k) = handed (bound_by (slice_get types k))
-meant types (source.Sort id) = bound.Sort id
+abbrev pub meant : FaceId → List Bound → Source → Bound
+meant face types (source.Generic k) = handed face k (slice_get types k)
+meant face types (source.Sort id) = bound.Sort id
 
 -- what an own generic name stands for by what the map of a base says of it, which may be nothing
-abbrev pub meant_by : List Bound → Option Source → Bound
-meant_by types None = bound.Unmapped
-meant_by types (Some s) = meant types s
+abbrev pub meant_by : FaceId → List Bound → Option Source → Bound
+meant_by face types None = bound.Unmapped
+meant_by face types (Some s) = meant face types s
 
 -- ---- the map of a base, rewritten by the outer map
 
 -- what the generic names of a base stand for, in their own order
-abbrev pub bound_types : List Bound → List Mapped → List Generic → List Bound
-bound_types types maps own = map (λ k. meant_by types (mapped maps k)) (range_with_len 0 (length own))
+abbrev pub bound_types : FaceId → List Bound → List Mapped → List Generic → List Bound
+bound_types face types maps own = map (λ k. meant_by face types (mapped maps k)) (range_with_len 0 (length own))
 
 -- a name that is no generic name of the base is a further one
 abbrev pub further_by : Option ℕ → Further → List Further
@@ -49,20 +47,20 @@ further_by None f = f ∷ []
 further_by (Some k) f = []
 
 -- a name of a map, where it is no generic name of its interface, with what it stands for
-abbrev pub further_of : List Bound → Mapped → List Further
-further_of types m = further_by m.generic (record { name = m.name; bound = meant types m.source })
+abbrev pub further_of : FaceId → List Bound → Mapped → List Further
+further_of face types m = further_by m.generic (record { name = m.name; bound = meant face types m.source })
 
 -- a base of an interface under the base's own map, whose types are first replaced by the outer map
-abbrev pub below_by : List Face → List Bound → Base → Pair
-below_by faces types b = record {
+abbrev pub below_by : List Face → FaceId → List Bound → Base → Pair
+below_by faces face types b = record {
   face = b.face;
-  types = bound_types types b.maps (generics faces b.face.0);
-  further = flat_map (further_of types) b.maps;
+  types = bound_types face types b.maps (generics faces b.face.0);
+  further = flat_map (further_of face types) b.maps;
 }
 
 -- the bases of an interface under a map, in order
 abbrev pub below : List Face → Pair → List Pair
-below faces p = map (below_by faces p.types) (bases faces p.face.0)
+below faces p = map (below_by faces p.face p.types) (bases faces p.face.0)
 
 -- ---- all that is reached
 
@@ -89,10 +87,10 @@ most faces = suc (suc (length faces))
 
 -- ---- two of one interface under one map
 
--- two names both stand for nothing, or both for what isn't known, or for one type
+-- two names both stand for nothing, or for one name that no map gives a type, or for one type
 abbrev pub same_bound : Bound → Bound → Bool
 same_bound bound.Unmapped bound.Unmapped = true
-same_bound bound.Unknown bound.Unknown = true
+same_bound (bound.Unknown f k) (bound.Unknown g j) = (f.0 == g.0) && (k == j)
 same_bound (bound.Sort a) (bound.Sort b) = a.0 == b.0
 same_bound _ _ = false
 
@@ -141,5 +139,5 @@ set_at None b bound = bound
 set_at (Some k) b bound = set bound k b
 
 -- what generic names stand for, where one name of a map is said anew
-abbrev pub noted : List Bound → Mapped → List Bound → List Bound
-noted types m bound = set_at m.generic (meant types m.source) bound
+abbrev pub noted : FaceId → List Bound → Mapped → List Bound → List Bound
+noted face types m bound = set_at m.generic (meant face types m.source) bound

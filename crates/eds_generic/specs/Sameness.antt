@@ -7,6 +7,7 @@ use Rattle.std.specs.Hash as fed
 use Rattle.std.specs.Hash.{HashWrites}
 use Rattle.std.proofs.lemmas.Bool.{eq-eqb, eqb-true}
 use Rattle.std.proofs.lemmas.Slice.Eq.{bytes_eq-Decides}
+use Rattle.eds_base.specs.declared.ids.FaceId.{FaceId}
 use Rattle.eds_base.specs.Reading.{same}
 use Rattle.eds_generic.specs.declared.pair.Bound.{Bound}
 use Rattle.eds_generic.specs.declared.pair.Bound.TheVariants as bound
@@ -47,7 +48,7 @@ text-itself (c ∷ cs) = and-both (c == c) (same cs cs) (eq-eqb c c refl) (text-
 
 bound-itself : (b : Bound) → same_bound b b ≡ true
 bound-itself bound.Unmapped = refl
-bound-itself bound.Unknown = refl
+bound-itself (bound.Unknown f k) = and-both (f.0 == f.0) (k == k) (eq-eqb f.0 f.0 refl) (eq-eqb k k refl)
 bound-itself (bound.Sort id) = eq-eqb id.0 id.0 refl
 
 types-itself : (ts : List Bound) → same_types ts ts ≡ true
@@ -75,13 +76,17 @@ pair-itself p =
 -- what two names stand for is equal, where it is found the same
 pub bound-equal : (a b : Bound) → same_bound a b ≡ true → a ≡ b
 bound-equal bound.Unmapped bound.Unmapped e = refl
-bound-equal bound.Unmapped bound.Unknown e = cc
+bound-equal bound.Unmapped (bound.Unknown g j) e = cc
 bound-equal bound.Unmapped (bound.Sort b) e = cc
-bound-equal bound.Unknown bound.Unmapped e = cc
-bound-equal bound.Unknown bound.Unknown e = refl
-bound-equal bound.Unknown (bound.Sort b) e = cc
+bound-equal (bound.Unknown f k) bound.Unmapped e = cc
+bound-equal (bound.Unknown f k) (bound.Unknown g j) e =
+    let ids : f.0 ≡ g.0 = eqb-true f.0 g.0 (and-left (f.0 == g.0) (k == j) e) in
+    let same_face : f ≡ g = ap (λ (n : ℕ). record { 0 = n }) ids in
+    let same_place : k ≡ j = eqb-true k j (and-right (f.0 == g.0) (k == j) e) in
+    ap (λ (i : FaceId). bound.Unknown i k) same_face ∙ ap (λ (n : ℕ). bound.Unknown g n) same_place
+bound-equal (bound.Unknown f k) (bound.Sort b) e = cc
 bound-equal (bound.Sort a) bound.Unmapped e = cc
-bound-equal (bound.Sort a) bound.Unknown e = cc
+bound-equal (bound.Sort a) (bound.Unknown g j) e = cc
 bound-equal (bound.Sort a) (bound.Sort b) e = let ids : a.0 ≡ b.0 = eqb-true a.0 b.0 e in let same_id : a ≡ b = ap (λ (n : ℕ). record { 0 = n }) ids in ap bound.Sort same_id
 
 -- what is found the same is equal
@@ -164,10 +169,11 @@ same_pair-partial = partial_equiv_from_equiv same_pair-is
 
 -- ---- hashing
 
--- what a name stands for: one octet that tells nothing, unknown and a type apart, and the type's number
+-- what a name stands for: one octet that tells nothing, a name and a type apart, and then the name's interface and position, or
+-- the type's number
 abbrev pub bound_input : Bound → HashWrites
 bound_input bound.Unmapped = fed.u8 0
-bound_input bound.Unknown = fed.u8 1
+bound_input (bound.Unknown f k) = fed.u8 1 ++ fed.u32 f.0 ++ fed.usize k
 bound_input (bound.Sort id) = fed.u8 2 ++ fed.u32 id.0
 
 -- the interface and what its generic names stand for

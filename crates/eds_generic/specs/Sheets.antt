@@ -4,14 +4,11 @@ use Rattle.eds_base.specs.declared.ids.FaceId.{FaceId}
 use Rattle.eds_base.specs.declared.ids.Place.{Place}
 use Rattle.eds_base.specs.declared.ids.TypeId.{TypeId}
 use Rattle.eds_base.specs.declared.refusal.Refusal.{Refusal}
-use Rattle.eds_base.specs.Refusals.{least}
 use Rattle.eds_tree.specs.declared.tree.Node.{Node}
-use Rattle.eds_tree.specs.ShapeCheck.{unless_broken}
 use Rattle.eds_names.specs.LookUp.{Names}
 use Rattle.eds_types.specs.Rows.{Table}
 use Rattle.eds_plan.specs.declared.instance.Instance.{Instance}
 use Rattle.eds_generic.specs.Reading.{faces_of}
-use Rattle.eds_generic.specs.Every.{interface_breaks}
 use Rattle.eds_generic.specs.Resolved.{resolved}
 
 -- for each type the one that it derives from
@@ -22,12 +19,3 @@ bases_of table = map (λ row. row.base) table
 -- broken there. The refusal stands at the place of the end or interface that is resolved.
 abbrev pub instance_in : List (List Node) → Names → Table → Place → FaceId → List (List ℕ × TypeId) → Result Instance Refusal
 instance_in trees names table at face map = resolved (faces_of trees names) (bases_of table) at face map
-
--- All that the interfaces of a sheet break: an interface is its own base; or, where none is, one without own generic
--- names breaks a rule under the empty map.
-abbrev pub face_breaks : List (List Node) → Names → Table → List Refusal
-face_breaks trees names table = interface_breaks (faces_of trees names) (bases_of table)
-
--- nothing, unless one of these rules is broken
-abbrev pub face_verdict : List (List Node) → Names → Table → Result (Unit {0}) Refusal
-face_verdict trees names table = unless_broken (least (face_breaks trees names table))

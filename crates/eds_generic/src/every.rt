@@ -1,12 +1,11 @@
-//! All interfaces of a sheet.
+//! The interfaces of a sheet without own generic names.
 
 ghost use Rattle.std.specs.Prelude.{◌≡◌, ◌<◌, ◌^◌, ℕ, length, true, IfOk, OnOk};
 ghost use Rattle.eds_generic.specs.Clean.{AreAllClean};
 ghost use Rattle.eds_base.specs.Refusals.{least};
 ghost use Rattle.eds_generic.specs.Pairs.{ends_within, most};
-ghost use Rattle.eds_generic.specs.Every.{alone_at as alone_at_in, alone_breaks, interface_breaks};
+ghost use Rattle.eds_generic.specs.Every.{alone_at as alone_at_in, alone_breaks};
 
-use crate::cycle::least_own_cycle;
 use crate::face::Face;
 use crate::found::PLACES;
 use crate::resolving::least_here;
@@ -60,22 +59,4 @@ pub(crate) fn least_alone(
         found = Refusal::first(found, here);
     }
     Ok(found)
-}
-
-/// The first rule that the interfaces of a sheet break: one of them is its own base; or, where none is, one without own generic
-/// names breaks a rule under the empty map.
-pub fn judge_faces(
-    alloc: Global,
-    faces: &[Face],
-    types: &[Option<TypeId>],
-) -> Result<Option<Refusal>, Memory>
-    ensures { IfOk result (λ r. r ≡ least (interface_breaks faces.now types.now)) }
-{
-    if faces.len() > u32::MAX as usize {
-        return Err(Memory);
-    }
-    match least_own_cycle(alloc, faces)? {
-        Some(refusal) => Ok(Some(refusal)),
-        None => least_alone(alloc, faces, types),
-    }
 }

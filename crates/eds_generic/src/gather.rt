@@ -113,7 +113,7 @@ fn gather_bases(
     ensures many { OnNamed result (1024 < declared_count faces.now (put_all gathered.old.found (flat_map (gathered_of depth faces.now) (below faces.now pair.now)))) }
 {
     for base in bases(faces, pair.face) {
-        let under = below_by(alloc, faces, pair.types.as_slice(), base)?;
+        let under = below_by(alloc, faces, pair.face, pair.types.as_slice(), base)?;
         gather(alloc, gathered, faces, depth, under)?;
     }
     Ok(())

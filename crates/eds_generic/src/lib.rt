@@ -21,9 +21,8 @@ mod used;
 pub use elements::{
     face_found, held_among, held_by, held_in_sets, own_name, place, read_only, text_of, type_found,
 };
-pub use every::judge_faces;
 pub use face::{Base, Face, Faces, Generic, Mapped, OwnArgument, OwnMember, Source};
 pub use read::read_faces;
 pub use resolving::resolve_face;
-pub use sheet::{bases_of, check_faces, resolve};
+pub use sheet::{bases_of, resolve};
 pub use used::{FaceUse, instance, judge_uses};

@@ -2,6 +2,7 @@
 
 ghost use Rattle.std.specs.Prelude.{◌≡◌, ◌≤◌, ◌<◌, ◌++◌, ◌∷◌, [], ℕ, List, Some, if◌then◌else◌, map, length, option_map, string_bytes, true, IfOk, OnOk};
 ghost use Rattle.std.specs.List.{flat_map};
+ghost use Rattle.std.specs.Option.{option_copied};
 ghost use Rattle.eds_names.specs.Repeats.{is_among};
 ghost use Rattle.eds_plan.specs.declared.instance.Member.{Member as member};
 ghost use Rattle.eds_generic.specs.Faces.{names_of as names_of_generics};
@@ -13,27 +14,29 @@ ghost use Rattle.eds_generic.specs.NameRules.{first};
 use crate::face::{Base, Face, Generic, Mapped, OwnArgument, OwnMember, Source, generics, own};
 use crate::found::Found;
 use crate::gather::{Gathered, TooMany, gather};
-use crate::pair::{Bound, Pair, below_by, meant};
+use crate::pair::{Bound, Pair, below_by};
 use eds_base::{FaceId, Fail, Items, Memory, Text, TypeId};
 use eds_names::NameList;
 use eds_plan::{Argument, Member};
 use indexmap::IndexSet;
 use std::alloc::Global;
 
-fn id_or_first(bound: Bound) -> TypeId
-    ensures { result ≡ id_or_first_of bound }
+fn id_or_first(bound: Option<&Bound>) -> TypeId
+    ensures { result ≡ id_or_first_of (option_copied bound.entry) }
 {
     match bound {
-        Bound::Unmapped => TypeId(0),
-        Bound::Unknown => TypeId(0),
-        Bound::Sort(id) => id,
+        Some(Bound::Sort(id)) => *id,
+        _ => TypeId(0),
     }
 }
 
 fn type_in(types: &[Bound], source: Source) -> TypeId
     ensures { result ≡ type_in_bounds types.now source }
 {
-    id_or_first(meant(types, source))
+    match source {
+        Source::Generic(k) => id_or_first(types.get(k)),
+        Source::Sort(id) => id,
+    }
 }
 
 fn argument_of(alloc: Global, types: &[Bound], own: &OwnArgument) -> Result<Argument, Memory>
@@ -216,7 +219,7 @@ pub(crate) fn under(
         face,
         maps: Items::from_vec(maps),
     };
-    below_by(alloc, faces, &[], &base)
+    below_by(alloc, faces, face, &[], &base)
 }
 
 fn name_of(member: &Member) -> &str

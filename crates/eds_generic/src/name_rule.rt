@@ -85,7 +85,7 @@ fn first_below<R: NameRule>(
     ensures clean { OnOk result (AreClean R.names faces.now types.now clean.new) }
 {
     for base in bases(faces, pair.face) {
-        let under = below_by(alloc, faces, pair.types.as_slice(), base)?;
+        let under = below_by(alloc, faces, pair.face, pair.types.as_slice(), base)?;
         let found = first_in::<R>(alloc, clean, faces, types, depth, under)?;
         if found.is_some() {
             return Ok(found);

@@ -18,8 +18,8 @@ use std::hash::{Hash, Hasher};
 pub enum Bound {
     /// It is not in the map.
     Unmapped,
-    /// It stands for a generic name that stands for nothing itself.
-    Unknown,
+    /// It was handed a generic name that no map gives a type: that of this interface, by its position there.
+    Unknown(FaceId, usize),
     Sort(TypeId),
 }
 
@@ -41,29 +41,29 @@ pub struct Pair {
 }
 
 /// A type as an interface names it, where its own generic names stand for these.
-pub(crate) fn meant(types: &[Bound], source: Source) -> Bound
-    ensures { result ≡ meant_in types.now source }
+fn meant(face: FaceId, types: &[Bound], source: Source) -> Bound
+    ensures { result ≡ meant_in face types.now source }
 {
     match source {
         Source::Sort(id) => Bound::Sort(id),
         Source::Generic(k) => match types.get(k) {
-            None => Bound::Unknown,
-            Some(Bound::Unmapped) => Bound::Unknown,
-            Some(Bound::Unknown) => Bound::Unknown,
+            None => Bound::Unknown(face, k),
+            Some(Bound::Unmapped) => Bound::Unknown(face, k),
+            Some(Bound::Unknown(first, place)) => Bound::Unknown(*first, *place),
             Some(Bound::Sort(id)) => Bound::Sort(*id),
         },
     }
 }
 
 /// Notes what a map says of a generic name.
-fn note(bound: &mut Vec<Bound>, types: &[Bound], one: &Mapped)
-    ensures { bound.new.items ≡ noted types.now one.now bound.old.items }
+fn note(bound: &mut Vec<Bound>, face: FaceId, types: &[Bound], one: &Mapped)
+    ensures { bound.new.items ≡ noted face types.now one.now bound.old.items }
 {
     match one.generic {
         None => (),
         Some(k) => {
             if k < bound.len() {
-                bound[k] = meant(types, one.source);
+                bound[k] = meant(face, types, one.source);
             }
         }
     }
@@ -72,17 +72,18 @@ fn note(bound: &mut Vec<Bound>, types: &[Bound], one: &Mapped)
 /// What so many generic names of a base stand for under the base's map and the outer one.
 fn bound_types(
     alloc: Global,
+    face: FaceId,
     types: &[Bound],
     maps: &[Mapped],
     count: usize,
 ) -> Result<Vec<Bound>, Memory>
-    ensures { IfOk result (λ b. b.items ≡ map (λ k. meant_by types.now (mapped maps.now k)) (range_with_len 0 count)) }
+    ensures { IfOk result (λ b. b.items ≡ map (λ k. meant_by face types.now (mapped maps.now k)) (range_with_len 0 count)) }
 {
     let mut bound = vec![in alloc; Bound::Unmapped; count]?;
     let mut left = maps.len();
     while left > 0 {
         left -= 1;
-        note(&mut bound, types, &maps[left]);
+        note(&mut bound, face, types, &maps[left]);
     }
     Ok(bound)
 }
@@ -90,10 +91,11 @@ fn bound_types(
 fn push_further(
     alloc: Global,
     further: &mut Vec<Further>,
+    face: FaceId,
     types: &[Bound],
     one: &Mapped,
 ) -> Result<(), Memory>
-    ensures { OnOk result (further.new.items ≡ further.old.items ++ further_of types.now one.now) }
+    ensures { OnOk result (further.new.items ≡ further.old.items ++ further_of face types.now one.now) }
 {
     if one.generic.is_some() {
         return Ok(());
@@ -101,33 +103,39 @@ fn push_further(
     let name = Text::of(alloc, one.name.as_str())?;
     further.push(Further {
         name,
-        bound: meant(types, one.source),
+        bound: meant(face, types, one.source),
     })?;
     Ok(())
 }
 
-fn further_names(alloc: Global, types: &[Bound], maps: &[Mapped]) -> Result<Vec<Further>, Memory>
-    ensures { IfOk result (λ f. f.items ≡ flat_map (further_of types.now) maps.now) }
+fn further_names(
+    alloc: Global,
+    face: FaceId,
+    types: &[Bound],
+    maps: &[Mapped],
+) -> Result<Vec<Further>, Memory>
+    ensures { IfOk result (λ f. f.items ≡ flat_map (further_of face types.now) maps.now) }
 {
     let mut further = Vec::new(alloc);
     for one in maps {
-        push_further(alloc, &mut further, types, one)?;
+        push_further(alloc, &mut further, face, types, one)?;
     }
     Ok(further)
 }
 
-/// A base under its own map, whose types are first replaced by the outer map.
+/// A base of an interface under its own map, whose types are first replaced by the outer map.
 pub(crate) fn below_by(
     alloc: Global,
     faces: &[Face],
+    face: FaceId,
     types: &[Bound],
     base: &Base,
 ) -> Result<Pair, Memory>
-    ensures { IfOk result (λ p. p ≡ below_by_base faces.now types.now base.now) }
+    ensures { IfOk result (λ p. p ≡ below_by_base faces.now face types.now base.now) }
 {
     let count = generics(faces, base.face).len();
-    let bound = bound_types(alloc, types, base.maps.as_slice(), count)?;
-    let further = further_names(alloc, types, base.maps.as_slice())?;
+    let bound = bound_types(alloc, face, types, base.maps.as_slice(), count)?;
+    let further = further_names(alloc, face, types, base.maps.as_slice())?;
     Ok(Pair {
         face: base.face,
         types: Items::from_vec(bound),
@@ -157,8 +165,8 @@ fn same_bound(one: Bound, other: Bound) -> bool
             Bound::Unmapped => true,
             _ => false,
         },
-        Bound::Unknown => match other {
-            Bound::Unknown => true,
+        Bound::Unknown(face, k) => match other {
+            Bound::Unknown(other_face, j) => face.0 == other_face.0 && k == j,
             _ => false,
         },
         Bound::Sort(a) => match other {
@@ -223,7 +231,11 @@ impl Hash for Bound {
     fn hash<H: Hasher>(&self, state: &mut H) {
         match self {
             Bound::Unmapped => state.write_u8(0),
-            Bound::Unknown => state.write_u8(1),
+            Bound::Unknown(face, k) => {
+                state.write_u8(1);
+                state.write_u32(face.0);
+                state.write_usize(*k);
+            }
             Bound::Sort(id) => {
                 state.write_u8(2);
                 state.write_u32(id.0);

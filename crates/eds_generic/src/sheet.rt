@@ -2,9 +2,8 @@
 
 ghost use Rattle.std.specs.Prelude.{◌≡◌, ◌<◌, ◌^◌, length, IfOk};
 ghost use Rattle.eds_base.specs.Answering.{Answers};
-ghost use Rattle.eds_generic.specs.Sheets.{bases_of as bases_in, instance_in, face_verdict};
+ghost use Rattle.eds_generic.specs.Sheets.{bases_of as bases_in, instance_in};
 
-use crate::every::judge_faces;
 use crate::read::read_faces;
 use crate::resolving::resolve_face;
 use eds_base::{FaceId, Fail, Memory, Place, Refusal, TypeId};
@@ -43,23 +42,4 @@ pub fn resolve(
     let faces = read_faces(alloc, trees.as_slice(), space)?;
     let types = bases_of(alloc, table)?;
     resolve_face(alloc, &faces, &types, at, face, map.as_slice())
-}
-
-/// Judges the interfaces of a sheet: none is its own base, and each without own generic names keeps the rules on generic names and
-/// on members under the empty map. The refusal is the first by place and then by number, and one of an interface that is its own
-/// base comes before all others.
-pub fn check_faces(
-    alloc: Global,
-    space: &Space,
-    trees: &Trees,
-    table: &TypeTable,
-) -> Result<(), Fail<Refusal>>
-    ensures { Answers (λ done. done) result (face_verdict trees.now space.now table.now) }
-{
-    let faces = read_faces(alloc, trees.as_slice(), space)?;
-    let types = bases_of(alloc, table)?;
-    match judge_faces(alloc, &faces, &types)? {
-        None => Ok(()),
-        Some(refusal) => Err(Fail::Named(refusal)),
-    }
 }

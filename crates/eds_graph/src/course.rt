@@ -1,10 +1,10 @@
 //! Where the ways from a number go.
 
 ghost use Rattle.std.specs.Prelude.{◌≡◌};
-ghost use Rattle.eds_graph.specs.Ways.{is_circular, is_endless, is_deeper};
+ghost use Rattle.eds_graph.specs.Ways.{is_circular, is_endless};
 
 /// Where the ways from a number go.
-#[derive(Clone, Copy, Debug, PartialEq, Eq)]
+#[derive(Clone, Copy, PartialEq, Eq)]
 pub enum Course {
     /// The number leads to itself over one step or more.
     OnCircle,
@@ -34,17 +34,6 @@ impl Course {
             Course::OnCircle => true,
             Course::ToCircle => true,
             Course::Ends(_) => false,
-        }
-    }
-
-    /// Whether a way of more than so many numbers starts at the number, counted with it.
-    pub fn is_deeper_than(self, limit: usize) -> bool
-        ensures { result ≡ is_deeper limit self }
-    {
-        match self {
-            Course::OnCircle => true,
-            Course::ToCircle => true,
-            Course::Ends(numbers) => numbers > limit,
         }
     }
 }

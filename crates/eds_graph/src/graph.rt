@@ -5,7 +5,7 @@ use std::alloc::Global;
 use std::marker::Model;
 
 /// At each number from 0 the numbers that it leads to in one step. A number for which nothing was pushed leads to nothing.
-#[derive(Debug, Drop)]
+#[derive(Drop)]
 pub struct Graph {
     lists: Items<Items<usize>>,
 }

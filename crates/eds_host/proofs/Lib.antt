@@ -4,6 +4,7 @@ pub mod Courses
 pub mod Sent
 pub mod Moments
 pub mod Deliveries
+pub mod Leavings
 pub mod Times
 pub mod Mirrored
 pub mod Framing
@@ -23,8 +24,10 @@ pub mod OneFrame
 pub mod FramedLines
 pub mod Once
 pub mod Outside
+pub mod ClearArguments
 pub mod Clock
 pub mod InTurn
-pub mod Marked
 pub mod Alike
 pub mod Sounding
+pub mod Firings
+pub mod Halting

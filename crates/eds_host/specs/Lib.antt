@@ -12,6 +12,7 @@ pub mod Comings
 pub mod Steps
 pub mod Hosts
 pub mod Resting
-pub mod Arguments
 pub mod Alike
 pub mod Worlds
+pub mod Firings
+pub mod Halts

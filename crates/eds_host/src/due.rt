@@ -9,7 +9,7 @@ pub struct Due {
 }
 
 /// A moment for which a component waits. Sooner moments come first, and of equal ones those of earlier components.
-#[derive(Clone, Copy, Debug, PartialEq, Eq, PartialOrd, Ord)]
+#[derive(Clone, Copy, PartialEq, Eq, PartialOrd, Ord)]
 pub struct When {
     pub moment: u64,
     pub comp: u32,

@@ -1,7 +1,7 @@
 //! How a line went.
 
 /// How a line went.
-#[derive(Clone, Copy, Debug, PartialEq, Eq)]
+#[derive(Clone, Copy, PartialEq, Eq)]
 pub enum Handled {
     /// Everything that it has happen happened.
     Done,

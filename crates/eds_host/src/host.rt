@@ -23,7 +23,7 @@ use std::alloc::Global;
 use std::marker::Model;
 
 /// How a host stands.
-#[derive(Clone, Copy, Debug, PartialEq, Eq)]
+#[derive(Clone, Copy, PartialEq, Eq)]
 pub enum Phase {
     /// The start is still to come.
     Fresh,
@@ -39,7 +39,6 @@ pub enum Phase {
 /// Clauses see its table, plan and wires, the world of the run, and how it stands.
 #[derive(Drop)]
 pub struct Host<'a> {
-    alloc: Global,
     segments: Segments<'a>,
     plan: &'a Plan,
     links: Links,
@@ -112,7 +111,7 @@ impl<'a> Host<'a> {
     ghost use Rattle.eds_host.specs.Runs.{time_after, unbegun};
     ghost use Rattle.eds_host.specs.Systems.{state_now};
     ghost use Rattle.eds_host.specs.Wires.{ties_of};
-    ghost use Rattle.eds_host.specs.declared.host.Phase.TheVariants.{Fresh, Rests, Spent};
+    ghost use Rattle.eds_host.specs.declared.host.Phase.TheVariants.{Fresh, Rests, Spent, Storm};
     ghost use Rattle.eds_plan.specs.Fitting.{PlanFits};
     ghost use Rattle.eds_plan.specs.Lines.{Told, told};
     ghost use Rattle.eds_plan.specs.Outs.{report};
@@ -139,7 +138,6 @@ impl<'a> Host<'a> {
         let links = links_of(alloc, plan, wires)?;
         let states = all_fresh(alloc, plan)?;
         Ok(Host {
-            alloc,
             segments,
             plan,
             links,
@@ -154,7 +152,7 @@ impl<'a> Host<'a> {
     /// Has one line happen, and puts what leaves the run behind what `out` has. A line is a storm where more than 10,000
     /// deliveries and firings would follow from it, or where an earlier line was one; `out` then has what left before. Once
     /// memory ran out in a line the host is spent: each further line ends so.
-    pub fn handle(&mut self, line: &Line, out: &mut Outs) -> Result<Handled, Memory>
+    pub fn handle(&mut self, alloc: Global, line: &Line, out: &mut Outs) -> Result<Handled, Memory>
         requires { MayBeHandled self.old.phase self.old (told line.now) }
         ensures table { self.new.table ≡ self.old.table }
         ensures plan { self.new.plan ≡ self.old.plan }
@@ -164,6 +162,7 @@ impl<'a> Host<'a> {
         ensures time { self.new.phase ≡ Rests → self.new.world.now ≡ time_after (told line.now) self.old.world.now }
         ensures more { (ls : List Told) → MayAllBeHandled self.old.phase self.old (told line.now ∷ ls) → MayAllBeHandled self.new.phase self.new ls }
         ensures fits { IfOk result (λ h. MayAllGoOut self.old.table self.old.plan (map report out.old) → MayAllGoOut self.old.table self.old.plan (map report out.new)) }
+        ensures storm { self.old.phase ≡ Storm → result ≡ Ok Handled.Storm }
         ensures spent { IfErr result (λ e. self.new.phase ≡ Spent) }
     {
         match self.phase {
@@ -177,7 +176,7 @@ impl<'a> Host<'a> {
                     links: &self.links,
                 };
                 any_line(
-                    self.alloc,
+                    alloc,
                     &setting,
                     line,
                     &mut self.phase,

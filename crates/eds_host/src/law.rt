@@ -1,8 +1,10 @@
 //! Laws of runs.
 
 ghost use Rattle.eds_host.specs.Alike.{AlikeReadings, AlikeRuns, AlikeSystems, AlikeWires};
+ghost use Rattle.eds_host.specs.Firings.{FirstFires, OthersStay, TimersReachOne, UntakenTimersPass};
+ghost use Rattle.eds_host.specs.Halts.{ActionsKeep, HaltsKeep};
 ghost use Rattle.eds_host.specs.Hosts.{ComponentsArePunctual, FirstMayBeHandled, FramesHaveOneOutcome, LinesTakeTheirTime, PlansReadOne, RunsGoOn, RunsHaveOneOutcome, RunsJoin, TimersFireOnce, UnnamedEndsAreOutside};
-ghost use Rattle.eds_host.specs.Laws.{CoursesAreChains, CoursesGoOnOrStorm, EachIsDelivered, NoneIsLate, TicksAdd, TimeGoesOn, TimersAreOnTime};
+ghost use Rattle.eds_host.specs.Laws.{ArrivalsSendOn, CoursesAreChains, CoursesGoOnOrStorm, EachIsDelivered, EachLeaves, NoneIsLate, SendingsAreSent, StartsSendOn, TicksAdd, TimeGoesOn, TimersAreOnTime};
 ghost use Rattle.eds_host.specs.Worlds.{LinesHaveCourses, LinesKeepSound};
 
 use eds_overlap::law::one_outcome;
@@ -24,6 +26,16 @@ pub fn each_is_delivered()
     ensures { EachIsDelivered }
 {}
 
+/// Every primitive that is sent at an end that isn't wired, and every halt, leaves the run exactly once, in order and at its
+/// time, and nothing else does: in the course of a line, at the start, and where a primitive arrives. What is sent at wired
+/// ends waits, in order, behind what waited.
+pub fn each_leaves()
+    ensures course { EachLeaves }
+    ensures sends { SendingsAreSent }
+    ensures start { StartsSendOn }
+    ensures arrival { ArrivalsSendOn }
+{}
+
 /// Time never goes back, where components wait for later moments once they have reacted; and no moment is passed over.
 pub fn time_goes_on()
     ensures goes_on { TimeGoesOn }
@@ -39,6 +51,27 @@ pub fn components_are_punctual()
 /// which has come. What is delivered takes no time.
 pub fn timers_are_on_time()
     ensures { TimersAreOnTime }
+{}
+
+/// Of equal moments that of the first component comes, and in it that of the first machine; no moment comes before a lesser
+/// one.
+pub fn first_fires()
+    ensures { FirstFires }
+{}
+
+/// A timer reaches its machine alone: the other machines of its component stay as they are, with what has passed for them; where
+/// its machine takes no transition, nothing else changes. What comes to a component leaves the other components as they are.
+pub fn timers_reach_one()
+    ensures machine { TimersReachOne }
+    ensures untaken { UntakenTimersPass }
+    ensures others { OthersStay }
+{}
+
+/// A halt keeps what was stored, sent and begun before it, and nothing of what follows it is done; where the activity of a machine
+/// halts, its component goes on from there.
+pub fn halts_keep()
+    ensures activity { HaltsKeep }
+    ensures machine { ActionsKeep }
 {}
 
 /// No timer fires twice: a machine that has fired waits for later moments alone.

@@ -1,7 +1,6 @@
 //! Runs of components: what they are, what holds of all of them, and hosts, which do them line by line.
 #![tactic(auto)]
 
-mod arguments;
 mod arriving;
 mod beginning;
 mod component;
@@ -20,7 +19,6 @@ mod states;
 mod step;
 mod wiring;
 
-pub use arguments::arguments_are_clear;
 pub use handled::Handled;
 pub use host::{Host, Phase};
 pub use wiring::{HostFail, WireWhy};

@@ -15,7 +15,7 @@ use std::collections::BTreeMap;
 use std::marker::Model;
 
 /// Why a wire ties nothing.
-#[derive(Clone, Copy, Debug, PartialEq, Eq)]
+#[derive(Clone, Copy, PartialEq, Eq)]
 pub enum WireWhy {
     /// Its lower end is no required one, or its upper end no provided one.
     WireEnd,
@@ -26,7 +26,7 @@ pub enum WireWhy {
 }
 
 /// The first wire that ties nothing, by the number of its line.
-#[derive(Clone, Copy, Debug, PartialEq, Eq)]
+#[derive(Clone, Copy, PartialEq, Eq)]
 pub struct HostFail {
     pub why: WireWhy,
     pub line: u32,
@@ -48,7 +48,7 @@ pub struct Tie {
 }
 
 /// An end, in the order of components and their ends.
-#[derive(Clone, Copy, Debug, PartialEq, Eq, PartialOrd, Ord)]
+#[derive(Clone, Copy, PartialEq, Eq, PartialOrd, Ord)]
 pub struct Place {
     pub comp: u32,
     pub face: u16,

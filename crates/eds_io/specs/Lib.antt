@@ -1,4 +1,5 @@
 pub mod Counts
+pub mod Faults
 pub mod Files
 pub mod Whole
 pub mod InMemory

@@ -6,7 +6,7 @@ use crate::files::Numbers;
 use std::marker::Model;
 
 /// The calls made so far, and the numbers of those that fail, the first call having number 1.
-#[derive(Debug, Drop)]
+#[derive(Drop)]
 pub(crate) struct Schedule {
     made: u64,
     failing: Numbers,

@@ -6,7 +6,7 @@ use crate::sink::{Sink, Wrote};
 use std::marker::Model;
 
 /// Files in memory, whose reads never fail.
-#[derive(Debug, Drop)]
+#[derive(Drop)]
 pub struct CalmShelf {
     files: NamedFiles,
 }
@@ -54,7 +54,7 @@ impl Shelf for CalmShelf {
 }
 
 /// A sink that takes every piece whole and keeps nothing of it.
-#[derive(Debug, Drop)]
+#[derive(Drop)]
 pub struct CalmSink {}
 
 impl CalmSink {

@@ -10,7 +10,7 @@ use crate::shelf::Got;
 use eds_base::{Items, Octets, Text};
 
 /// A file with its name.
-#[derive(Debug, Drop)]
+#[derive(Drop)]
 pub struct NamedFile {
     pub name: Text,
     pub octets: Octets,

@@ -31,7 +31,7 @@ impl<F> Opened<F> {
 
 /// The files of the system, of whose content nothing is told. The file that was read last stays
 /// open, so that a file is opened once for all its pieces. Each failure counts as one of every
-/// name.
+/// name, and nothing else is counted.
 #[derive(Drop)]
 pub struct HostShelf<R: Files + AllocGlobal> {
     rt: R,
@@ -101,7 +101,8 @@ fn read_on<F: Read + Seek>(opened: &mut Opened<F>, from: u64, room: &mut [u8]) -
 }
 
 impl<R: Files + AllocGlobal> Shelf for HostShelf<R> {
-    ghost use Rattle.std.specs.Prelude.{None, ⊤};
+    ghost use Rattle.std.specs.Prelude.{◌≡◌, ◌≤◌, ℕ, None, ⊤, length};
+    ghost use Rattle.eds_io.specs.Faults.{faults_after_read};
 
     ghost files = { λ _. None };
 
@@ -109,7 +110,10 @@ impl<R: Files + AllocGlobal> Shelf for HostShelf<R> {
 
     ghost gives = { λ _ _ _ _ _. ⊤ };
 
-    fn read_at(&mut self, name: &str, from: u64, room: &mut [u8]) -> Got {
+    fn read_at(&mut self, name: &str, from: u64, room: &mut [u8]) -> Got
+        ensures bound { (n : ℕ) → result ≡ Got.Bytes n → n ≤ length room.old }
+        ensures counts { self.new ≡ faults_after_read result self.old }
+    {
         match self.opened(name, from) {
             Ok(mut opened) => match read_on(&mut opened, from, room) {
                 Ok(n) => {

@@ -6,7 +6,8 @@ use crate::sink::{Sink, Wrote};
 use std::io::{self, Write};
 use std::marker::Model;
 
-/// Standard output, of whose content nothing is told. Each write is flushed.
+/// Standard output, of whose content nothing is told. Each write is flushed. Each failure is
+/// counted, and nothing else.
 #[derive(Drop)]
 pub struct HostSink<R: Print> {
     rt: R,
@@ -43,13 +44,17 @@ fn write_through<W: Write>(out: &mut W, piece: &[u8]) -> io::Result<usize>
 }
 
 impl<R: Print> Sink for HostSink<R> {
-    ghost use Rattle.std.specs.Prelude.{None};
+    ghost use Rattle.std.specs.Prelude.{◌≡◌, ◌≤◌, ℕ, None, length};
+    ghost use Rattle.eds_io.specs.Faults.{faults_after_write};
 
     ghost written = { λ _. None };
 
     ghost faults = { λ sink. sink };
 
-    fn write(&mut self, piece: &[u8]) -> Wrote {
+    fn write(&mut self, piece: &[u8]) -> Wrote
+        ensures bound { (n : ℕ) → result ≡ Wrote.Took n → n ≤ length piece.now }
+        ensures counts { self.new ≡ faults_after_write result (length piece.now) self.old }
+    {
         match write_through(&mut io::writer(&self.rt), piece) {
             Ok(n) => {
                 if n == 0 && !piece.is_empty() {

@@ -10,7 +10,7 @@ use std::marker::Model;
 
 /// Files in memory, of which a read gives at most so many octets, and whose reads fail where they
 /// are told to. It counts the faults of each file, and those of all other names together.
-#[derive(Debug, Drop)]
+#[derive(Drop)]
 pub struct MemShelf {
     files: NamedFiles,
     most: u32,

@@ -9,7 +9,7 @@ use std::marker::Model;
 
 /// Room for octets in memory, of which a write takes at most so many, and whose writes fail where
 /// they are told to, or where their octets would go past the room.
-#[derive(Debug, Drop)]
+#[derive(Drop)]
 pub struct MemSink {
     octets: Vec<u8>,
     room: u32,

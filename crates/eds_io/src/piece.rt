@@ -8,7 +8,7 @@ ghost use Rattle.eds_io.specs.Reads.{got_of_piece};
 use crate::shelf::{Got, Shelf};
 
 /// Why no piece of a file was read.
-#[derive(Clone, Copy, Debug, PartialEq, Eq)]
+#[derive(Clone, Copy, PartialEq, Eq)]
 pub enum PieceEnd {
     /// There is no file of that name.
     NoFile,

@@ -6,7 +6,7 @@ ghost use Rattle.eds_io.specs.Files.{Files, file_named, IsPiece};
 ghost use Rattle.eds_io.specs.Reads.{Given};
 
 /// What a read gave.
-#[derive(Clone, Copy, Debug, PartialEq, Eq)]
+#[derive(Clone, Copy, PartialEq, Eq)]
 pub enum Got {
     /// So many octets, which stand at the front of the room.
     Bytes(usize),

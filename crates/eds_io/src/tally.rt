@@ -6,7 +6,7 @@ use std::alloc::Global;
 use std::marker::Model;
 
 /// How many reads of each file have failed, and how many of all other names.
-#[derive(Debug, Drop)]
+#[derive(Drop)]
 pub(crate) struct Faults {
     files: Vec<u64>,
     others: u64,

@@ -12,7 +12,7 @@ use eds_base::{Fail, Memory, Octets};
 use std::alloc::Global;
 
 /// Why a file was not read whole.
-#[derive(Clone, Copy, Debug, PartialEq, Eq)]
+#[derive(Clone, Copy, PartialEq, Eq)]
 pub enum ReadEnd {
     /// There is no file of that name.
     NoFile,
@@ -23,7 +23,7 @@ pub enum ReadEnd {
 }
 
 /// A write failed.
-#[derive(Clone, Copy, Debug, PartialEq, Eq)]
+#[derive(Clone, Copy, PartialEq, Eq)]
 pub struct WriteFault;
 
 const ROOM: usize = 65536;

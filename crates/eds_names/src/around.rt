@@ -13,7 +13,7 @@ use std::alloc::Global;
 use std::marker::Model;
 
 /// For each element of a file the name around it: names, and for each element the position of its name among them.
-#[derive(Debug, Drop)]
+#[derive(Drop)]
 pub(crate) struct Around {
     names: Items<Text>,
     table: Items<Option<u32>>,

@@ -12,7 +12,7 @@ use eds_tree::Tree;
 use std::alloc::Global;
 
 /// A declared item, by its position among those of its kind.
-#[derive(Clone, Copy, Debug, PartialEq, Eq)]
+#[derive(Clone, Copy, PartialEq, Eq)]
 pub enum Item {
     Sort(TypeId),
     Face(FaceId),
@@ -55,7 +55,7 @@ impl Item {
 }
 
 /// A type, an interface or a component that a sheet declares.
-#[derive(Debug, Drop)]
+#[derive(Drop)]
 pub struct Declared {
     /// Its qualified name: the package's, the component's where it stands in one, and its own, joined by `/`.
     pub name: Text,
@@ -68,7 +68,7 @@ pub struct Declared {
 }
 
 /// What is declared.
-#[derive(Clone, Copy, Debug, PartialEq, Eq)]
+#[derive(Clone, Copy, PartialEq, Eq)]
 pub(crate) enum Kind {
     Sort,
     Face,
@@ -76,7 +76,7 @@ pub(crate) enum Kind {
 }
 
 /// How many types, interfaces and components come before an item.
-#[derive(Clone, Copy, Debug, PartialEq, Eq)]
+#[derive(Clone, Copy, PartialEq, Eq)]
 pub(crate) struct Counts {
     pub(crate) types: u32,
     pub(crate) faces: u32,

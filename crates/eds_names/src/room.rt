@@ -13,7 +13,7 @@ const MOST_READ: usize = 1 << 28;
 const LEAST_READ: usize = 1 << 10;
 
 /// How many octets more of names may be made.
-#[derive(Clone, Copy, Debug)]
+#[derive(Clone, Copy)]
 pub(crate) struct Room {
     pub(crate) left: usize,
 }

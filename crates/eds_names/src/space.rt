@@ -24,7 +24,7 @@ use std::alloc::Global;
 use std::marker::Model;
 
 /// The names of a sheet: what it declares, in the order of files and elements, and for each element the name around it.
-#[derive(Debug, Drop)]
+#[derive(Drop)]
 pub struct Space {
     declared: Items<Declared>,
     index: IndexMap<String, Item>,

@@ -11,7 +11,7 @@ use std::alloc::Global;
 
 /// An element, its parent, and the package and the component around it, by their numbers. The root is its own parent,
 /// and its number says that there is no package or no component.
-#[derive(Clone, Copy, Debug, PartialEq, Eq)]
+#[derive(Clone, Copy, PartialEq, Eq)]
 pub(crate) struct Standing {
     pub(crate) parent: u32,
     pub(crate) node: u32,

@@ -20,7 +20,7 @@ use std::alloc::Global;
 use std::collections::BTreeMap;
 
 /// The least number that the entry on a path can have in both of two containers.
-#[derive(Debug, Drop)]
+#[derive(Drop)]
 pub struct Common {
     pub path: EntryPath,
     pub number: i128,

@@ -20,7 +20,7 @@ use std::alloc::Global;
 
 /// Two concrete containers that overlap, the nearest base that both have, and for each path that is judged the least number
 /// that both can have there, in the order of the paths' texts.
-#[derive(Debug, Drop)]
+#[derive(Drop)]
 pub struct Overlap {
     pub first: TypeId,
     pub second: TypeId,

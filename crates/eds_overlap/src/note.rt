@@ -6,7 +6,7 @@ ghost use Rattle.eds_overlap.specs.Notes.{common_note, note_of as note_by_names,
 use crate::texts::path_text;
 use crate::{Common, Overlap};
 use eds_base::{
-    CommonNumber, Items, Kept, Memory, OverlapNote, Place, Refusal, Rule, Text, TypeId,
+    Boxed, CommonNumber, Items, Kept, Memory, OverlapNote, Place, Refusal, Rule, Text, TypeId,
 };
 use eds_types::TypeTable;
 use std::alloc::Global;
@@ -64,7 +64,7 @@ pub fn overlap_refusal(
 ) -> Result<Refusal, Memory>
     ensures { IfOk result (λ refusal. refusal ≡ refusal_of table.now overlap.now place) }
 {
-    let note = note_of(alloc, table, overlap)?;
+    let note = Boxed::new(alloc, note_of(alloc, table, overlap)?)?;
     Ok(Refusal {
         rule: Rule::Overlap,
         place,

@@ -8,7 +8,7 @@ use eds_base::Path;
 use eds_types::PackReason;
 
 /// The first fault of a value that is packed.
-#[derive(Debug, Drop)]
+#[derive(Drop)]
 pub struct PackFail {
     pub reason: PackReason,
     pub path: Path,

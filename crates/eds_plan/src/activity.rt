@@ -4,7 +4,7 @@ use eds_base::{Items, Text, TypeId};
 use eds_types::{EntryPath, Value};
 
 /// What a primitive or a statement does at a member.
-#[derive(Clone, Copy, Debug, PartialEq, Eq)]
+#[derive(Clone, Copy, PartialEq, Eq)]
 pub enum Op {
     Command,
     Get,
@@ -38,7 +38,7 @@ pub struct Action {
 }
 
 /// A calculation of two numbers.
-#[derive(Clone, Copy, Debug, PartialEq, Eq)]
+#[derive(Clone, Copy, PartialEq, Eq)]
 pub enum MathOp {
     Add,
     Subtract,
@@ -53,7 +53,7 @@ pub enum MathItem {
 }
 
 /// How two values are compared.
-#[derive(Clone, Copy, Debug, PartialEq, Eq)]
+#[derive(Clone, Copy, PartialEq, Eq)]
 pub enum Relation {
     Equal,
     NotEqual,

@@ -7,7 +7,7 @@ use eds_base::{Items, Text, TypeId};
 use eds_types::Value;
 
 /// The level of an interface (CCSDS 876.0-B, interface levels): how far it is from the bus.
-#[derive(Clone, Copy, Debug, PartialEq, Eq)]
+#[derive(Clone, Copy, PartialEq, Eq)]
 pub enum Level {
     Application,
     Functional,

@@ -12,7 +12,7 @@ pub struct State {
 }
 
 /// What a transition waits for.
-#[derive(Clone, Copy, Debug, PartialEq, Eq)]
+#[derive(Clone, Copy, PartialEq, Eq)]
 pub enum Trigger {
     Start,
     /// A command, by its end and member.

@@ -8,14 +8,14 @@ use eds_types::Value;
 pub type Values = Items<Value>;
 
 /// An end of a component.
-#[derive(Clone, Copy, Debug, PartialEq, Eq)]
+#[derive(Clone, Copy, PartialEq, Eq)]
 pub struct End {
     pub comp: CompId,
     pub face: u16,
 }
 
 /// To a provided end, or to a required one.
-#[derive(Clone, Copy, Debug, PartialEq, Eq)]
+#[derive(Clone, Copy, PartialEq, Eq)]
 pub enum Way {
     Down,
     Up,
@@ -32,7 +32,7 @@ pub struct Primitive {
 }
 
 /// Where a machine stands: its state, when it was entered, and the last moment that passed.
-#[derive(Clone, Copy, Debug, PartialEq, Eq)]
+#[derive(Clone, Copy, PartialEq, Eq)]
 pub struct MachineState {
     pub at: u16,
     pub entered: u64,
@@ -40,7 +40,7 @@ pub struct MachineState {
 }
 
 /// A transaction that is under way: its end and member, and its number.
-#[derive(Clone, Copy, Debug, PartialEq, Eq)]
+#[derive(Clone, Copy, PartialEq, Eq)]
 pub struct Outstanding {
     pub face: u16,
     pub member: u16,
@@ -56,7 +56,7 @@ pub struct CompState {
 }
 
 /// Why an activity stops.
-#[derive(Clone, Copy, Debug, PartialEq, Eq)]
+#[derive(Clone, Copy, PartialEq, Eq)]
 pub enum Halt {
     OutOfRange,
     BadArgument,
@@ -74,7 +74,7 @@ pub enum Send {
 pub type Sends = Items<Send>;
 
 /// Two ends that are tied, as a line of a script names them: a required end and the provided one to which it is tied.
-#[derive(Debug, Drop)]
+#[derive(Drop)]
 pub struct Wire {
     /// The number of the line.
     pub line: u32,

@@ -58,6 +58,20 @@ pub(crate) fn least_mismatch_in(
     least_mismatch(alloc, file, scope, links.as_slice())
 }
 
+/// The least break of BadReference and TypeMismatch in an element or below it.
+pub(crate) fn least_break_in(
+    alloc: Global,
+    file: u16,
+    scope: &Scope,
+    node: u32,
+) -> Result<Option<Refusal>, Memory>
+    ensures { IfOk result (λ r. r ≡ least (bad_references_in file (scope_of scope.now) node ++ mismatches_in file (scope_of scope.now) node)) }
+{
+    let reference = least_reference_in(alloc, file, scope, node)?;
+    let mismatch = least_mismatch_in(alloc, file, scope, node)?;
+    Ok(Refusal::first(reference, mismatch))
+}
+
 fn is_circular(courses: &[Course], number: usize) -> bool
     ensures { result ≡ circular_at courses.now number }
 {
@@ -99,11 +113,9 @@ fn least_at(
     ensures { IfOk result (λ r. r ≡ least (breaks_by file (scope_of scope.now) courses.now number node head.now)) }
 {
     let inner = with_head(scope, head);
-    let reference = least_reference_in(alloc, file, &inner, node)?;
-    let mismatch = least_mismatch_in(alloc, file, &inner, node)?;
+    let found = least_break_in(alloc, file, &inner, node)?;
     let circular = is_circular(courses, number);
     let cycle = cycle_where(alloc, file, node, head.name.as_str(), circular)?;
-    let found = Refusal::first(reference, mismatch);
     Ok(Refusal::first(found, cycle))
 }
 

@@ -6,7 +6,7 @@ ghost use Rattle.eds_read_act.specs.ActivitySorts.{inner_sort_of, statement_sort
 use eds_tree::Tree;
 
 /// What an element of an activity, a guard or an action is (CCSDS 876.0-B, activities and state machines).
-#[derive(Clone, Copy, Debug, PartialEq, Eq)]
+#[derive(Clone, Copy, PartialEq, Eq)]
 pub(crate) enum ActivitySort {
     Value,
     VariableRef,

@@ -133,9 +133,9 @@ impl<'a> Component<'a> {
         ensures activities { IfOk result (λ c. c.activities.now ≡ activities.now) }
         ensures transactions { IfOk result (λ c. c.transactions ≡ transactions.now) }
     {
-        let own = own_names(alloc, variables, activities, transactions)?;
-        let end_names = end_names(alloc, ends)?;
         let carried = carried_at_ends(alloc, ends)?;
+        let end_names = end_names(alloc, ends)?;
+        let own = own_names(alloc, variables, activities, transactions)?;
         Ok(Component {
             ends,
             variables,

@@ -11,7 +11,7 @@ ghost use Rattle.eds_read_act.specs.Scopes.{scope_of, with_known, with_arguments
 ghost use Rattle.eds_read_act.specs.Events.{carried_at};
 ghost use Rattle.eds_read_act.specs.States.{TellsStates};
 
-use crate::activity::{least_mismatch_in, least_reference_in};
+use crate::activity::{least_break_in, least_mismatch_in, least_reference_in};
 use crate::bad_reference::broken_if;
 use crate::event::{
     event_of, is_bad_timer, is_command, is_missing, lacks_operation_if, value_carried,
@@ -228,13 +228,13 @@ fn transition_break(
     ensures { IfOk result (λ r. r ≡ least (transition_breaks file (scope_of scope.now) states.now.machine transition)) }
 {
     let lacks = lacks_state(states, scope.tree, transition);
+    let inner = inner_break(alloc, lacks, file, scope, transition)?;
     let missing = broken_if(Rule::BadReference, file, transition, lacks);
     let wrong = is_bad_transition(scope, states, transition);
     let bad = broken_if(Rule::BadMachine, file, transition, wrong);
     let own = Refusal::first(missing, bad);
     let event = event_break(file, scope, event_of(scope.tree, transition));
     let found = Refusal::first(own, event);
-    let inner = inner_break(alloc, lacks, file, scope, transition)?;
     Ok(Refusal::first(found, inner))
 }
 
@@ -251,9 +251,7 @@ fn action_break(
     ensures { IfOk result (λ r. r ≡ least (action_breaks file (scope_of scope.now) node)) }
 {
     let inner = scope.with(Some(none));
-    let reference = least_reference_in(alloc, file, &inner, node)?;
-    let mismatch = least_mismatch_in(alloc, file, &inner, node)?;
-    Ok(Refusal::first(reference, mismatch))
+    least_break_in(alloc, file, &inner, node)
 }
 
 fn actions_over(
@@ -348,8 +346,8 @@ fn least_of_states(
     ensures { IfOk result (λ r. r ≡ least (state_breaks_of file (scope_of scope.now) states.now.machine)) }
 {
     let lacks = lacks_entry(alloc, scope.tree, states.machine)?;
-    let entry = broken_if(Rule::BadMachine, file, states.machine, lacks);
     let at_states = least_over_states(alloc, file, scope, states.nodes.as_slice())?;
+    let entry = broken_if(Rule::BadMachine, file, states.machine, lacks);
     Ok(Refusal::first(entry, at_states))
 }
 

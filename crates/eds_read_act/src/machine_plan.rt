@@ -121,8 +121,8 @@ fn transition_with(
     ensures { IfOk result (λ x. planned_transition x ≡ transition_in (scope_of scope.now) (with_known (scope_of scope.now) (option_copied arguments.entry)) states.now.machine node) }
 {
     let event = event_of(scope.tree, node);
-    let guard = guard_in(alloc, scope, arguments, node)?;
     let action = action_in(alloc, scope, arguments, "Do", node)?;
+    let guard = guard_in(alloc, scope, arguments, node)?;
     Ok(Transition {
         from: position(states.number(scope.tree, node, "fromState")),
         to: position(states.number(scope.tree, node, "toState")),

@@ -12,7 +12,7 @@ use eds_types::{EntryPath, Part, TypeTable};
 use std::alloc::Global;
 
 /// What a reference finds: a variable or argument by its position, the path to an entry of it, and the type there.
-#[derive(Debug, Drop)]
+#[derive(Drop)]
 pub(crate) struct Found {
     pub(crate) at: u16,
     pub(crate) path: EntryPath,

@@ -16,7 +16,7 @@ use eds_types::{Kind, TypeTable, Value, is_under, stored, text_value};
 use std::alloc::Global;
 
 /// What is wanted of an operand: a value of a type, or any number.
-#[derive(Clone, Copy, Debug, PartialEq, Eq)]
+#[derive(Clone, Copy, PartialEq, Eq)]
 pub(crate) enum Wanted {
     Type(TypeId),
     Number,

@@ -26,7 +26,7 @@ pub(crate) struct Taker {
 }
 
 /// A parameter at an end, with its type and whether it is read-only.
-#[derive(Clone, Copy, Debug)]
+#[derive(Clone, Copy)]
 pub(crate) struct Held {
     pub(crate) end: u16,
     pub(crate) member: u16,

@@ -280,11 +280,11 @@ fn choice_at(alloc: Global, scope: &Scope, depth: usize, node: u32) -> Result<St
     ensures { IfOk result (λ s. stmt s ≡ statement_as (scope_of scope.now) Choice (body_by (scope_of scope.now) (λ m. statement_in (scope_of scope.now) depth m)) node) }
 {
     let tree = scope.tree;
-    let condition = condition_under(alloc, scope, child_named(tree, node, "Condition"))?;
     let yes = child_named(tree, node, "OnConditionTrue");
     let on_true = statements_in(alloc, scope, depth, yes)?;
     let no = child_named(tree, node, "OnConditionFalse");
     let on_false = statements_in(alloc, scope, depth, no)?;
+    let condition = condition_under(alloc, scope, child_named(tree, node, "Condition"))?;
     Ok(Statement::If(condition, on_true, on_false))
 }
 
@@ -294,10 +294,10 @@ fn iteration_at(alloc: Global, scope: &Scope, depth: usize, node: u32) -> Result
 {
     let tree = scope.tree;
     let variable = variable_at(iterator_of(alloc, scope, node));
-    let start = bound_in(alloc, scope, "StartAt", node)?;
-    let end = bound_in(alloc, scope, "EndAt", node)?;
     let step = step_in(scope, child_named(tree, node, "Step"));
     let turn = statements_in(alloc, scope, depth, child_named(tree, node, "Do"))?;
+    let start = bound_in(alloc, scope, "StartAt", node)?;
+    let end = bound_in(alloc, scope, "EndAt", node)?;
     Ok(Statement::Iterate(variable, start, end, step, turn))
 }
 

@@ -3,7 +3,7 @@
 use eds_base::{Text, TypeId};
 
 /// A variable's name, type, and whether it is read-only.
-#[derive(Debug, Drop)]
+#[derive(Drop)]
 pub struct VariableHead {
     pub name: Text,
     pub id: TypeId,

@@ -24,5 +24,5 @@ pub under-same : (faces : List Face) (face : FaceId) (m n : List (List ℕ × Ty
     → under faces face m ≡ under faces face n
 under-same faces face m n s e h =
     pair-made (under faces face m) (under faces face n) refl
-    (each-same _ _ (λ k. ap (meant_by []) (told-same (names_of (generics faces face.0)) k m n s)) (range_with_len 0 (length (generics faces face.0))))
+    (each-same _ _ (λ k. ap (meant_by face []) (told-same (names_of (generics faces face.0)) k m n s)) (range_with_len 0 (length (generics faces face.0))))
     (e ∙ sym h)

@@ -1,11 +1,9 @@
 -- The interfaces that the ends of all components use, and what they break.
-use Rattle.std.specs.Prelude.{List, [], map, Option, Some, None, slice_get, Result}
+use Rattle.std.specs.Prelude.{List, [], map, Option, Some, None, slice_get}
 use Rattle.std.specs.List.{flat_map}
 use Rattle.eds_base.specs.declared.ids.Place.{Place}
 use Rattle.eds_base.specs.declared.refusal.Refusal.{Refusal}
-use Rattle.eds_base.specs.Refusals.{least}
 use Rattle.eds_tree.specs.declared.tree.Node.{Node}
-use Rattle.eds_tree.specs.ShapeCheck.{unless_broken}
 use Rattle.eds_names.specs.Declarations.{comps_in}
 use Rattle.eds_names.specs.LookUp.{Names}
 use Rattle.eds_types.specs.Rows.{Table}
@@ -36,7 +34,3 @@ all_uses trees names = flat_map (uses_at trees names) (component_places names)
 -- end, or without own generic names under the empty map.
 abbrev pub end_breaks : List (List Node) → Names → Table → List Refusal
 end_breaks trees names table = breaks_with_uses (faces_of trees names) (bases_of table) (all_uses trees names)
-
--- nothing, unless one of these rules is broken
-abbrev pub end_verdict : List (List Node) → Names → Table → Result (Unit {0}) Refusal
-end_verdict trees names table = unless_broken (least (end_breaks trees names table))

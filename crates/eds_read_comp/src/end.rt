@@ -14,7 +14,7 @@ use eds_tree::Tree;
 use std::alloc::Global;
 
 /// The element of an end, and whether the end is a required one.
-#[derive(Clone, Copy, Debug, PartialEq, Eq)]
+#[derive(Clone, Copy, PartialEq, Eq)]
 pub(crate) struct EndElement {
     pub(crate) node: u32,
     pub(crate) required: bool,

@@ -14,5 +14,4 @@ mod plan;
 mod sharing;
 mod variable;
 
-pub use faces::check_ends;
 pub use plan::read_components;

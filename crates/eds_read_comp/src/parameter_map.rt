@@ -20,7 +20,7 @@ use std::alloc::Global;
 
 /// What a parameter map names, where it is there: the positions of its end, of its parameter among the members of the end, and of
 /// its variable.
-#[derive(Clone, Copy, Debug, PartialEq, Eq)]
+#[derive(Clone, Copy, PartialEq, Eq)]
 pub(crate) struct Mapping {
     pub(crate) face: Option<usize>,
     pub(crate) member: Option<usize>,

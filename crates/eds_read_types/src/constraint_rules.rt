@@ -21,10 +21,11 @@ fn least_constraint(alloc: Global, asked: &AskedRows) -> Result<Option<Refusal>,
     requires { AreRead asked.now.rows.now }
     ensures { IfOk result (λ r. r ≡ least (breaks_target asked.now.rows.now asked.now.lists.now ++ (breaks_value asked.now.rows.now asked.now.lists.now ++ breaks_empty asked.now.rows.now asked.now.lists.now))) }
 {
-    let targets = constraint_target(alloc, asked)?;
     let values = constraint_value(alloc, asked)?;
     let empties = constraint_empty(alloc, asked)?;
-    Ok(Refusal::first(targets, Refusal::first(values, empties)))
+    let others = Refusal::first(values, empties);
+    let targets = constraint_target(alloc, asked)?;
+    Ok(Refusal::first(targets, others))
 }
 
 /// For each type whether a constraint of it breaks one of them.

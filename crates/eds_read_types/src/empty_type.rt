@@ -146,8 +146,8 @@ fn least_of_empties(
     ensures { IfOk result (λ r. r ≡ least (empties_of (is_unmarked marks.now) sheet.now.graph.now.sheet.now.trees.now sheet.now.graph.now.sheet.now.space.now (option_map (λ w. w.now) sheet.now.graph.now.sheet.now.asked))) }
 {
     let parts = least_of_all_parts(alloc, sheet, all, marks)?;
-    let items = least_of_items(sheet, all, marks);
     let word = least_of_word(alloc, sheet, all, marks)?;
+    let items = least_of_items(sheet, all, marks);
     Ok(Refusal::first(parts, Refusal::first(items, word)))
 }
 

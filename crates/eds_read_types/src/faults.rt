@@ -38,10 +38,11 @@ fn least_length(
 ) -> Result<Option<Refusal>, Memory>
     ensures { IfOk result (λ r. r ≡ least (length_breaks sheet.now.graph.now.sheet.now.trees.now sheet.now.graph.now.sheet.now.space.now id at)) }
 {
-    let types = AtParts::<LengthField>::least_at(alloc, sheet, id, at)?;
     let scales = AtPartElements::<LengthScale>::least_at(alloc, sheet.graph.sheet, at)?;
     let seconds = SecondLength::least_at(alloc, sheet, id, at)?;
-    Ok(Refusal::first(types, Refusal::first(scales, seconds)))
+    let others = Refusal::first(scales, seconds);
+    let types = AtParts::<LengthField>::least_at(alloc, sheet, id, at)?;
+    Ok(Refusal::first(types, others))
 }
 
 /// The first break of the rules on the texts and the checks of parts at those of a type.
@@ -66,14 +67,13 @@ fn least_fault(
 ) -> Result<Option<Refusal>, Memory>
     ensures { IfOk result (λ r. r ≡ least (part_breaks sheet.now.graph.now.sheet.now.trees.now sheet.now.graph.now.sheet.now.space.now id at)) }
 {
-    let names = DuplicateEntry::least_at(alloc, sheet, id, at)?;
-    let fields = AtParts::<ListField>::least_at(alloc, sheet, id, at)?;
     let lengths = least_length(alloc, sheet, id, at)?;
     let elements = least_element(alloc, sheet, at)?;
-    Ok(Refusal::first(
-        names,
-        Refusal::first(fields, Refusal::first(lengths, elements)),
-    ))
+    let bits = Refusal::first(lengths, elements);
+    let fields = AtParts::<ListField>::least_at(alloc, sheet, id, at)?;
+    let others = Refusal::first(fields, bits);
+    let names = DuplicateEntry::least_at(alloc, sheet, id, at)?;
+    Ok(Refusal::first(names, others))
 }
 
 /// Whether one of some parts is an entry or a list of a type that may be empty.

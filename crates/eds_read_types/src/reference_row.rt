@@ -4,7 +4,7 @@ ghost use Rattle.std.specs.Prelude.{◌≡◌, map, option_map};
 ghost use Rattle.eds_read_types.specs.References.{references, reference_of, row_for as row_in};
 
 /// What a reference is to find.
-#[derive(Clone, Copy, Debug, PartialEq, Eq)]
+#[derive(Clone, Copy, PartialEq, Eq)]
 pub(crate) enum Wanted {
     AnyType,
     /// An integer type or a sub-range.

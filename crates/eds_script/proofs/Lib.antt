@@ -1,13 +1,16 @@
 mod Among
 mod Carrying
 mod Digits
+mod Framing
 mod Handing
 mod Knowing
+mod OnlyOne
 mod Packing
-mod Pieces
+pub mod Pieces
 mod Places
 mod Printing
 mod Scripting
+mod TextLines
 mod Utf8
 pub mod Alike
 pub mod Untied

@@ -1,14 +1,16 @@
 -- A line that doesn't begin with the first letter of a wire line ties no ends.
-use Rattle.std.proofs.Common.{◌≡◌, ℕ, zero, suc, List, [], ◌∷◌, Bool, true, false, cond, ◌&&◌, ◌<◌, ◌≤◌, length, get_or, arith, Option, Some, None, Ok, Err, refl, ap, take, codes, nat_eq, option_map}
+use Rattle.std.proofs.Common.{◌≡◌, ℕ, zero, suc, ◌+◌, List, [], ◌∷◌, ◌++◌, Bool, true, false, cond, ◌&&◌, ◌||◌, ◌∙◌, sym, ◌<◌, ◌≤◌, length, get_or, arith, Option, Some, None, Ok, Err, refl, ap, take, codes, nat_eq, option_map}
 use Rattle.std.specs.List.{after_first, before_first, list_any, position_or_len}
-use Rattle.std.specs.Str.{is_utf8}
+use Rattle.std.specs.Str.{bytes_eq, is_utf8}
+use Rattle.std.proofs.lemmas.Bool.{eqb-true}
+use Rattle.std.proofs.lemmas.Slice.Eq.{bytes_eq-Decides}
 use Rattle.eds_base.specs.Answering.{or_stop}
 use Rattle.eds_base.specs.Reading.{◌>>=◌, only, same}
 use Rattle.eds_script.specs.declared.why.LineWhy.TheVariants.{Text, Words}
 use Rattle.eds_script.specs.declared.words.Verb.{Verb}
 use Rattle.eds_script.specs.declared.words.Verb.TheVariants.{Cmd, Frame, Get, Set, Val}
 use Rattle.eds_script.specs.Meaning.{tied}
-use Rattle.eds_script.specs.Words.{Saying, ticks, arrives, is_space, word_and_rest, last_word, two_words, asked_in, given_in, framed_in, said_by, said, form}
+use Rattle.eds_script.specs.Words.{Saying, ties, ticks, arrives, is_space, word_and_rest, last_word, two_words, asked_in, given_in, framed_in, said_by, said, form}
 
 -- ends that a saying ties, if there is one
 abbrev ends : Option Saying → List (List ℕ)
@@ -87,3 +89,55 @@ empty_line (c ∷ cs) few = absurd (omega arith)
 pub other_line : (line : List ℕ) → 1 ≤ length line → nat_eq (get_or line 0 0) 119 ≡ false → tied (form line) ≡ []
 other_line [] some e = absurd (omega arith)
 other_line (c ∷ cs) some e = judged (is_utf8 (c ∷ cs)) (said (c ∷ cs)) (said_ends c cs e)
+
+-- ---- a line that ties ends
+
+-- a line in which a space stands is cut there
+space-split : (line : List ℕ) → list_any is_space line ≡ true → line ≡ before_first is_space line ++ 32 ∷ after_first is_space line
+space-split [] some = cc
+space-split (c ∷ cs) some = go (is_space c) refl some (space-split cs)
+  where
+    go : (b : Bool) → is_space c ≡ b → (b || list_any is_space cs) ≡ true → (list_any is_space cs ≡ true → cs ≡ before_first is_space cs ++ 32 ∷ after_first is_space cs)
+        → c ∷ cs ≡ before_first is_space (c ∷ cs) ++ 32 ∷ after_first is_space (c ∷ cs)
+    go true e h others = rw e (ap (λ x. x ∷ cs) (eqb-true c 32 e))
+    go false e h others =
+        let next : 1 + position_or_len is_space cs + 1 ≡ suc (position_or_len is_space cs + 1) = omega arith in
+        let first : 1 + position_or_len is_space cs ≡ suc (position_or_len is_space cs) = omega arith in
+        rw (e, next, first) (ap (λ xs. c ∷ xs) (others h))
+
+-- a line that ties ends begins with the word `wire` and a space
+abbrev Begins : List ℕ → Type 0
+Begins line = same (take 5 line) (codes "wire ") ≡ true
+
+word-begins : (word rest line : List ℕ) → line ≡ word ++ 32 ∷ rest → same word (codes "wire") ≡ true → Begins line
+word-begins word rest line is e =
+    let word_is : word ≡ codes "wire" = (bytes_eq-Decides word (codes "wire")).0 e in
+    rw (is, word_is) refl
+
+tying-word : (word rest lower upper : List ℕ) → said_by word rest ≡ Some (ties lower upper) → same word (codes "wire") ≡ true
+tying-word word rest lower upper e = go (same word (codes "wire")) refl
+  where
+    go : (b : Bool) → same word (codes "wire") ≡ b → b ≡ true
+    go true is = refl
+    go false is = let none : lower ∷ upper ∷ [] ≡ [] = ap ends (sym e) ∙ other_ends word rest is in cc
+
+-- the first word and what is behind its space
+abbrev Cut : List ℕ → List ℕ × List ℕ
+Cut line = (before_first is_space line, after_first is_space line)
+
+tying-line : (line lower upper : List ℕ) → said line ≡ Some (ties lower upper) → Begins line
+unfolding said
+tying-line line lower upper e = go (list_any is_space line) refl e
+  where
+    go : (b : Bool) → list_any is_space line ≡ b → (only b (Cut line) >>= λ p. said_by p.0 p.1) ≡ Some (ties lower upper) → Begins line
+    go true some k =
+        word-begins (before_first is_space line) (after_first is_space line) line (space-split line some) (tying-word (before_first is_space line) (after_first is_space line) lower upper k)
+    go false some k = cc
+
+pub ties-begin : (line lower upper : List ℕ) → form line ≡ Ok (ties lower upper) → Begins line
+ties-begin line lower upper e = go (is_utf8 line) (said line) refl e
+  where
+    go : (b : Bool) (o : Option Saying) → said line ≡ o → cond b (or_stop Words o) (Err Text) ≡ Ok (ties lower upper) → Begins line
+    go true None s k = cc
+    go true (Some s) is k = let same : s ≡ ties lower upper = cc in tying-line line lower upper (is ∙ ap Some same)
+    go false o s k = cc

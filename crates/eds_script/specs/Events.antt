@@ -1,5 +1,6 @@
 -- The lines of what leaves a run: what components send, activities that halt, and frames that are refused.
 use Rattle.std.specs.Prelude.{◌≡◌, ℕ, List, [], ◌∷◌, ◌++◌, codes, decimal, Option, Some, None, slice_get}
+use Rattle.std.specs.Str.{IsUtf8}
 use Rattle.hex.specs.Hex.{encode_lower}
 use Rattle.eds_base.specs.Faults.{reason_name}
 use Rattle.eds_base.specs.declared.fault.Fault.{Fault}
@@ -108,3 +109,9 @@ abbrev pub IsEventLine : Table → List ComponentPlan → Report → List ℕ �
 IsEventLine t plan (left time s) text = IsSentLine t time (text_of_end plan s.end) s (end_at plan s.end) text
 IsEventLine t plan (stopped time component machine h) text = text ≡ halt_line time (component_at plan component).name (machine_name (component_at plan component) machine) h
 IsEventLine t plan (refused time e member fault) text = text ≡ reject_line t time (text_of_end plan e) (member_name (end_at plan e) member) fault
+
+-- ---- a line
+
+-- a text that is UTF-8, and a line feed behind it
+abbrev pub IsTextLine : List ℕ → Type 0
+IsTextLine line = (text : List ℕ) × IsUtf8 text × (line ≡ text ++ codes "\n")

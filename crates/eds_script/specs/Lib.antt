@@ -15,6 +15,7 @@ pub mod Places
 pub mod Names
 pub mod Fitting
 pub mod Events
+pub mod Frames
 pub mod States
 pub mod Laws
 pub mod Handing

@@ -10,7 +10,7 @@ ghost use Rattle.eds_script.specs.Known.{AreKnown};
 
 use crate::LineWhy;
 use crate::carries::{Facing, find_carrying};
-use crate::given::{frame_octets, given_arguments, given_value};
+use crate::given::{given_arguments, given_frame, given_value};
 use crate::members::{arriving, find_parameter};
 use crate::words::Verb;
 use eds_base::Fail;
@@ -87,7 +87,7 @@ fn frame_line(
     if command.fields.len() != 1 {
         return Err(Fail::Named(LineWhy::Args));
     }
-    let octets = frame_octets(alloc, hex)?;
+    let octets = given_frame(alloc, hex)?;
     Ok(Line::Frame(facing.end, command.place, octets))
 }
 

@@ -1,92 +1,36 @@
 //! The line of an event.
 
-ghost use Rattle.std.specs.Prelude.{◌≡◌, ◌≤◌, ◌++◌, IfOk, IfSome, Ok, OnOk, Some, codes, length, map, option_map, slice_get, string_bytes};
+ghost use Rattle.std.specs.Prelude.{◌≡◌, ◌≤◌, ◌++◌, IfOk, Ok, OnOk, Some, codes, length, map, slice_get, string_bytes};
 ghost use Rattle.hex.specs.Hex.{encode_lower};
 ghost use Rattle.eds_bits.specs.Bits.{Bits, octets_of};
 ghost use Rattle.eds_plan.specs.Carried.{carried_fields as carried_of};
 ghost use Rattle.eds_plan.specs.Outs.{report, signal};
 ghost use Rattle.eds_plan.specs.Plans.{component_at};
-ghost use Rattle.eds_plan.specs.declared.component.Level.TheVariants as level_is;
 ghost use Rattle.eds_types.specs.Plain.{Plain, plain};
 ghost use Rattle.eds_types.specs.Spelling.{Canon};
 ghost use Rattle.eds_value.specs.Json.{arguments_in, value_in};
 ghost use Rattle.eds_value.specs.JsonOfValue.{arguments_text, json_text};
 ghost use Rattle.eds_value.specs.Laws.{AreNamed, HasNoTypeEntry};
 ghost use Rattle.eds_plan.specs.Ends.{end_at as end_in};
-ghost use Rattle.eds_script.specs.Events.{IsCommandBy, IsEventLine, IsFrameLine, IsMemberLine, IsSentLine, frame_type as type_of_frame, front as front_text, given_line, halt_line as line_of_halt, halt_word as word_of_halt, op_word as word_of_op, parameter_line as line_of_parameter, reject_line as line_of_reject};
-ghost use Rattle.eds_script.specs.Fitting.{AreValuesOf, FitsMember, FitsParameter, FitsPlan, IsOneOf, IsValueOf};
+ghost use Rattle.eds_script.specs.Events.{IsCommandBy, IsEventLine, IsMemberLine, IsSentLine, IsTextLine, frame_type as type_of_frame, given_line, halt_line as line_of_halt, halt_word as word_of_halt, op_word as word_of_op, parameter_line as line_of_parameter, reject_line as line_of_reject};
+ghost use Rattle.eds_script.specs.Fitting.{AreValuesOf, FitsMember, FitsParameter, FitsPlan, IsValueOf};
+ghost use Rattle.eds_script.specs.Frames.{IsFramed, framed};
 ghost use Rattle.eds_script.specs.Laws.{ArgumentsRead, EventReads, MemberReads, SentReads};
 ghost use Rattle.eds_script.specs.Places.{place_text};
 ghost use Rattle.eds_script.specs.Names.{machine_name as name_of_machine, member_at, member_name as name_in_end, text_of_end as text_in};
 
-use crate::members::{carried_fields, goes};
-use crate::names::{
-    Place, component_name, end_at, machine_name, member_in, member_name_at, place_of_end,
-    push_place,
-};
+use crate::frame::{Frame, Spot, command_frame, front, sent_at};
+use crate::members::carried_fields;
+use crate::names::{Place, component_name, machine_name, member_name_at, place_of_end};
 use crate::print::{add, line_given, line_of, value_at};
-use eds_base::{CompId, Fail, Fault, Memory, Octets, Text, TypeId};
+use eds_base::{CompId, Fail, Fault, Memory, Octets, TypeId};
 use eds_pack::{pack, pack_into};
-use eds_plan::{
-    Argument, End, EndPlan, FieldList, Halt, Level, Member, Op, Out, Plan, Primitive, Way,
-};
+use eds_plan::{Argument, End, FieldList, Halt, Level, Member, Op, Out, Plan, Primitive};
 use eds_types::{TypeTable, Value, Values};
 use eds_value::{args_to_json, path_text, to_json};
-use itoa::Buffer;
-use std::alloc::{AllocError, Global};
-
-/// When and where something happens: the time in nanoseconds, and an end and the name of its member, or a component and the
-/// name of its machine.
-#[derive(Clone, Copy)]
-struct Spot<'a> {
-    time: u64,
-    place: Place<'a>,
-    name: &'a str,
-}
-
-/// The octets for which a line has room at first: few lines are longer.
-const LINE_ROOM: usize = 96;
-
-// `T WORD PLACE NAME`.
-#[tactic(auto, unfolding(crate::specs::Events::front))]
-fn front(alloc: Global, spot: &Spot<'_>, word: &str) -> Result<String, AllocError>
-    ensures { IfOk result (λ s. string_bytes s ≡ front_text spot.now.time word.now (place_text spot.now.place) spot.now.name.now) }
-{
-    let mut number = Buffer::new();
-    let mut text = String::with_capacity(alloc, LINE_ROOM)?;
-    text.push_str(number.format(spot.time))?;
-    text.push_str(" ")?;
-    text.push_str(word)?;
-    text.push_str(" ")?;
-    push_place(&mut text, spot.place)?;
-    text.push_str(" ")?;
-    text.push_str(spot.name)?;
-    Ok(text)
-}
+use std::alloc::Global;
 
 // ---- commands
-
-fn only_type(fields: &[(Text, TypeId)]) -> Option<TypeId>
-    ensures { result ≡ type_of_frame level_is.Subnetwork fields.now }
-{
-    match fields {
-        [] => None,
-        [field] => Some(field.1),
-        [_, _, ..] => None,
-    }
-}
-
-// The type of the argument that is written as a frame.
-fn frame_type(level: Level, fields: &[(Text, TypeId)]) -> Option<TypeId>
-    ensures { result ≡ type_of_frame level fields.now }
-{
-    match level {
-        Level::Subnetwork => only_type(fields),
-        Level::Access => None,
-        Level::Functional => None,
-        Level::Application => None,
-    }
-}
 
 // The octets of the canonical bits of a value.
 fn packed(alloc: Global, table: &TypeTable, id: TypeId, value: &Value) -> Result<Octets, Memory>
@@ -146,23 +90,15 @@ fn add_frame(
     }
 }
 
-// A frame of one value.
-fn frame_line(
-    alloc: Global,
-    table: &TypeTable,
-    spot: &Spot<'_>,
-    id: TypeId,
-    values: &[Value],
-) -> Result<Octets, Memory>
-    requires { IsOneOf table.now id (map plain values.now) }
-    ensures { IfOk result (λ o. IsFrameLine table.now spot.now.time (place_text spot.now.place) spot.now.name.now id (map plain values.now) o) }
+// The line of a frame.
+fn frame_line(alloc: Global, table: &TypeTable, frame: &Frame<'_>) -> Result<Octets, Memory>
+    requires { IsValueOf table.now frame.now.id.0 (plain frame.now.value.now) }
+    ensures line { IfOk result (λ o. IsFramed table.now (framed frame.now) o) }
+    ensures text { IfOk result IsTextLine }
 {
-    let Some(value) = value_at(values, 0) else {
-        unreachable!()
-    };
-    let mut line = front(alloc, spot, "frame")?.into_bytes();
+    let mut line = frame.head(alloc)?.into_bytes();
     line.push(b' ')?;
-    add_frame(alloc, &mut line, table, id, value)?;
+    add_frame(alloc, &mut line, table, frame.id, frame.value)?;
     line.push(b'\n')?;
     Ok(Octets::from_vec(line))
 }
@@ -188,6 +124,7 @@ fn arguments_line(
     values: &[Value],
 ) -> Result<Octets, Memory>
     requires { AreValuesOf table.now fields.now (map plain values.now) }
+    ensures text { IfOk result IsTextLine }
     ensures line { IfOk result (λ o. o ≡ given_line spot.now.time (codes "cmd") (place_text spot.now.place) spot.now.name.now (arguments_text table.now fields.now (map plain values.now))) }
     ensures reads { HasNoTypeEntry table.now → IfOk result (λ o. AreNamed fields.now → arguments_in table.now fields.now (arguments_text table.now fields.now (map plain values.now)) ≡ Ok (map plain values.now)) }
 {
@@ -195,25 +132,6 @@ fn arguments_line(
     let list = listed(alloc, values)?;
     let json = args_to_json(alloc, table, fields, &list)?;
     Ok(line_given(head, json.as_slice())?)
-}
-
-// A command: a frame of its one argument, or else the JSON of what it carries.
-fn command_line(
-    alloc: Global,
-    table: &TypeTable,
-    spot: &Spot<'_>,
-    level: Level,
-    fields: &FieldList,
-    values: &[Value],
-) -> Result<Octets, Memory>
-    requires { AreValuesOf table.now fields.now (map plain values.now) }
-    ensures line { IfOk result (λ o. IsCommandBy (type_of_frame level fields.now) table.now spot.now.time (place_text spot.now.place) spot.now.name.now fields.now (map plain values.now) o) }
-    ensures reads { HasNoTypeEntry table.now → IfOk result (λ o. ArgumentsRead (type_of_frame level fields.now) table.now fields.now (map plain values.now)) }
-{
-    match frame_type(level, fields.as_slice()) {
-        Some(id) => frame_line(alloc, table, spot, id, values),
-        None => arguments_line(alloc, table, spot, fields, values),
-    }
 }
 
 // ---- parameters
@@ -239,6 +157,7 @@ fn parameter_line(
     values: &[Value],
 ) -> Result<Octets, Memory>
     requires { FitsParameter table.now id op (map plain values.now) }
+    ensures text { IfOk result IsTextLine }
     ensures line { IfOk result (λ o. o ≡ line_of_parameter table.now spot.now.time (place_text spot.now.place) spot.now.name.now op (map plain values.now)) }
     ensures reads { HasNoTypeEntry table.now → IfOk result (λ o. (v : Plain) → slice_get (map plain values.now) 0 ≡ Some v → value_in table.now id.0 (json_text table.now v) ≡ Ok v) }
 {
@@ -254,24 +173,7 @@ fn parameter_line(
 
 // ---- what is sent
 
-// The type of the one argument of a command, where it goes that way and is written as a frame.
-fn framed_type(level: Level, way: Way, arguments: &[Argument]) -> Option<TypeId>
-    ensures { IfSome result (λ id. type_of_frame level (carried_of way arguments.now) ≡ Some id) }
-{
-    let Level::Subnetwork = level else {
-        return None;
-    };
-    match arguments {
-        [argument] => if goes(way, argument.mode) {
-            Some(argument.id)
-        } else {
-            None
-        },
-        _ => None,
-    }
-}
-
-// A command that is sent: most frames need no list of what the command carries.
+// A command that is sent: a frame of its one argument, or else the JSON of what it carries.
 fn sent_command(
     alloc: Global,
     table: &TypeTable,
@@ -282,14 +184,14 @@ fn sent_command(
 ) -> Result<Octets, Memory>
     requires { AreValuesOf table.now (carried_of primitive.now.way arguments.now) (map plain primitive.now.arguments) }
     ensures line { IfOk result (λ o. IsCommandBy (type_of_frame level (carried_of primitive.now.way arguments.now)) table.now spot.now.time (place_text spot.now.place) spot.now.name.now (carried_of primitive.now.way arguments.now) (map plain primitive.now.arguments) o) }
+    ensures text { IfOk result IsTextLine }
     ensures reads { HasNoTypeEntry table.now → IfOk result (λ o. ArgumentsRead (type_of_frame level (carried_of primitive.now.way arguments.now)) table.now (carried_of primitive.now.way arguments.now) (map plain primitive.now.arguments)) }
 {
-    let values = primitive.arguments.as_slice();
-    if let Some(id) = framed_type(level, primitive.way, arguments) {
-        return frame_line(alloc, table, spot, id, values);
+    if let Some(frame) = command_frame(*spot, level, arguments, primitive) {
+        return frame_line(alloc, table, &frame);
     }
     let fields = carried_fields(alloc, primitive.way, arguments)?;
-    command_line(alloc, table, spot, level, &fields, values)
+    arguments_line(alloc, table, spot, &fields, primitive.arguments.as_slice())
 }
 
 // What is sent for a member of an end, which is written so.
@@ -303,6 +205,7 @@ fn member_line(
     primitive: &Primitive,
 ) -> Result<Octets, Memory>
     requires { FitsMember table.now (signal primitive.now) (Some member.now) }
+    ensures text { IfOk result IsTextLine }
     ensures line { IfOk result (λ o. IsMemberLine table.now time (place_text place.entry) level (signal primitive.now) (Some member.now) o) }
     ensures reads { HasNoTypeEntry table.now → IfOk result (λ o. MemberReads table.now level (signal primitive.now) (Some member.now)) }
 {
@@ -327,16 +230,6 @@ fn member_line(
     }
 }
 
-// What the plan has of the end and member of a primitive, which are there.
-fn sent_at<'a>(plan: &'a Plan, primitive: &Primitive) -> Option<(&'a EndPlan, &'a Member)>
-    ensures member { option_map (λ p. p.1.now) result ≡ member_at plan.now primitive.now.end primitive.now.member }
-    ensures end { IfSome result (λ p. end_in plan.now primitive.now.end ≡ Some p.0.now) }
-{
-    let end = end_at(plan, primitive.end)?;
-    let member = member_in(end, primitive.member)?;
-    Some((end, member))
-}
-
 fn sent_line(
     alloc: Global,
     table: &TypeTable,
@@ -345,6 +238,7 @@ fn sent_line(
     primitive: &Primitive,
 ) -> Result<Octets, Memory>
     requires { FitsMember table.now (signal primitive.now) (member_at plan.now primitive.now.end primitive.now.member) }
+    ensures text { IfOk result IsTextLine }
     ensures line { IfOk result (λ o. IsSentLine table.now time (text_in plan.now primitive.now.end) (signal primitive.now) (end_in plan.now primitive.now.end) o) }
     ensures reads { HasNoTypeEntry table.now → IfOk result (λ o. SentReads table.now (signal primitive.now) (end_in plan.now primitive.now.end)) }
 {
@@ -370,7 +264,8 @@ fn halt_word(halt: Halt) -> &'static str
 }
 
 fn halt_line(alloc: Global, spot: &Spot<'_>, halt: Halt) -> Result<Octets, Memory>
-    ensures { IfOk result (λ o. o ≡ line_of_halt spot.now.time (place_text spot.now.place) spot.now.name.now halt) }
+    ensures text { IfOk result IsTextLine }
+    ensures line { IfOk result (λ o. o ≡ line_of_halt spot.now.time (place_text spot.now.place) spot.now.name.now halt) }
 {
     let head = front(alloc, spot, "halt")?;
     Ok(line_given(head, halt_word(halt).as_bytes())?)
@@ -384,7 +279,8 @@ fn halted_line(
     machine: u16,
     halt: Halt,
 ) -> Result<Octets, Memory>
-    ensures { IfOk result (λ o. o ≡ line_of_halt time (component_at plan.now comp.0).name (name_of_machine (component_at plan.now comp.0) machine) halt) }
+    ensures text { IfOk result IsTextLine }
+    ensures line { IfOk result (λ o. o ≡ line_of_halt time (component_at plan.now comp.0).name (name_of_machine (component_at plan.now comp.0) machine) halt) }
 {
     let spot = Spot {
         time,
@@ -400,14 +296,15 @@ fn reject_line(
     spot: &Spot<'_>,
     fault: &Fault,
 ) -> Result<Octets, Memory>
-    ensures { IfOk result (λ o. o ≡ line_of_reject table.now spot.now.time (place_text spot.now.place) spot.now.name.now fault.now) }
+    ensures text { IfOk result IsTextLine }
+    ensures line { IfOk result (λ o. o ≡ line_of_reject table.now spot.now.time (place_text spot.now.place) spot.now.name.now fault.now) }
 {
     let head = front(alloc, spot, "reject")?;
     let path = path_text(alloc, table, &fault.path)?;
     let reason = fault.reason.name();
     let path = path.as_str();
     let what = format!(in alloc; "{reason} at {path}")?;
-    Ok(line_given(head, what.as_bytes())?)
+    Ok(line_given(head, what.as_str().as_bytes())?)
 }
 
 fn rejected_line(
@@ -419,7 +316,8 @@ fn rejected_line(
     member: u16,
     fault: &Fault,
 ) -> Result<Octets, Memory>
-    ensures { IfOk result (λ o. o ≡ line_of_reject table.now time (text_in plan.now end) (name_in_end (end_in plan.now end) member) fault.now) }
+    ensures text { IfOk result IsTextLine }
+    ensures line { IfOk result (λ o. o ≡ line_of_reject table.now time (text_in plan.now end) (name_in_end (end_in plan.now end) member) fault.now) }
 {
     let spot = Spot {
         time,
@@ -435,7 +333,7 @@ fn rejected_line(
 /// halts, or a frame that is refused. At an end of the level `subnetwork` a command that carries exactly one argument in its
 /// way is written as a frame: the octets of the argument's canonical bits in lower-case hex, the last octet filled with
 /// zeros. What else is sent has its values as JSON. Where no entry of the table is named `$type`, as in every sheet, this JSON
-/// is read again, over the arguments or the parameter, as the values that were sent.
+/// is read again, over the arguments or the parameter, as the values that were sent. The line is UTF-8, and ends with a line feed.
 pub fn print_event(
     alloc: Global,
     table: &TypeTable,
@@ -443,6 +341,7 @@ pub fn print_event(
     event: &Out,
 ) -> Result<Octets, Memory>
     requires { FitsPlan table.now plan.now (report event.now) }
+    ensures text { IfOk result IsTextLine }
     ensures line { IfOk result (λ o. IsEventLine table.now plan.now (report event.now) o) }
     ensures reads { HasNoTypeEntry table.now → IfOk result (λ o. EventReads table.now plan.now (report event.now)) }
 {

@@ -1,6 +1,6 @@
 //! What is given behind a member's name: JSON, or hex.
 
-ghost use Rattle.std.specs.Prelude.{◌≡◌, ◌<◌, ◌∷◌, [], IfOk, length, map};
+ghost use Rattle.std.specs.Prelude.{◌≡◌, ◌<◌, ◌≤◌, ◌∷◌, [], IfOk, IfSome, length, map};
 ghost use Rattle.eds_base.specs.Answering.{Answers, or_stop};
 ghost use Rattle.eds_types.specs.PackedSizes.{packs as packs_as};
 ghost use Rattle.eds_types.specs.Plain.{plain};
@@ -21,21 +21,32 @@ use std::alloc::Global;
 /// A frame has no more octets.
 const FRAME_OCTETS: usize = 65_536;
 
-/// The octets of pairs of hex digits, at most 65,536.
+/// The octets of pairs of hex digits in either case. None exactly where the text is no such pairs, or has more than 65,536 octets.
 #[tactic(auto, unfolding(crate::specs::Given::frame_octets))]
-pub(crate) fn frame_octets(alloc: Global, hex: &str) -> Result<Octets, Fail<LineWhy>>
-    ensures { Answers (λ o. o) result (or_stop Hex (octets_in hex.now)) }
+pub fn frame_octets(alloc: Global, hex: &[u8]) -> Result<Option<Octets>, Memory>
+    ensures octets { IfOk result (λ o. o ≡ octets_in hex.now) }
+    ensures few { IfOk result (λ o. IfSome o (λ os. length os ≤ 65536)) }
 {
     match hex::decode(alloc, hex) {
         Ok(octets) => {
             if octets.len() <= FRAME_OCTETS {
-                Ok(Octets::from_vec(octets))
+                Ok(Some(Octets::from_vec(octets)))
             } else {
-                Err(Fail::Named(LineWhy::Hex))
+                Ok(None)
             }
         }
-        Err(hex::FromHexError::OutOfMemory) => Err(Fail::Memory),
-        Err(_) => Err(Fail::Named(LineWhy::Hex)),
+        Err(hex::FromHexError::OutOfMemory) => Err(Memory),
+        Err(_) => Ok(None),
+    }
+}
+
+/// The octets of a frame that a line gives in hex.
+pub(crate) fn given_frame(alloc: Global, hex: &str) -> Result<Octets, Fail<LineWhy>>
+    ensures { Answers (λ o. o) result (or_stop Hex (octets_in hex.now)) }
+{
+    match frame_octets(alloc, hex.as_bytes())? {
+        Some(octets) => Ok(octets),
+        None => Err(Fail::Named(LineWhy::Hex)),
     }
 }
 

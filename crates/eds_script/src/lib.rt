@@ -4,6 +4,7 @@
 mod arrival;
 mod carries;
 mod event;
+mod frame;
 mod given;
 pub mod law;
 mod lines;
@@ -19,6 +20,9 @@ mod wired;
 mod words;
 
 pub use event::print_event;
+pub use frame::{Frame, frame_of};
+pub use given::frame_octets;
+pub use lines::{cut, is_skipped, without_return};
 pub use script::{Lines, Script, parse_script};
 pub use state::print_state;
 pub use why::{BadLine, LineWhy};

@@ -9,14 +9,14 @@ use eds_base::Memory;
 use std::alloc::Global;
 
 /// A line and its number.
-#[derive(Clone, Copy, Debug)]
+#[derive(Clone, Copy)]
 pub(crate) struct ScriptLine<'a> {
     pub(crate) number: u32,
     pub(crate) text: &'a [u8],
 }
 
-// A line without the one carriage return at its end.
-fn without_return(line: &[u8]) -> &[u8]
+/// A line without the one carriage return at its end.
+pub fn without_return(line: &[u8]) -> &[u8]
     ensures { result.now ≡ without_last_return line.now }
 {
     match line.last() {
@@ -31,8 +31,8 @@ fn without_return(line: &[u8]) -> &[u8]
     }
 }
 
-// Whether a line is empty or begins with `#`.
-fn is_skipped(line: &[u8]) -> bool
+/// Whether a line is empty or begins with `#`.
+pub fn is_skipped(line: &[u8]) -> bool
     ensures { result ≡ skipped line.now }
 {
     match line {
@@ -48,8 +48,8 @@ fn feed_at(octets: &[u8]) -> Option<usize>
     octets.iter().position(|c| *c == b'\n')
 }
 
-// The first line of a text and what stands behind its line feed, where there is one.
-fn cut(octets: &[u8]) -> Option<(&[u8], &[u8])>
+/// The first line of a text and what stands behind its line feed, None exactly where there is no line feed.
+pub fn cut(octets: &[u8]) -> Option<(&[u8], &[u8])>
     ensures some { IfSome result (λ p. pieces octets.now ≡ p.0.now ∷ pieces p.1.now) }
     ensures shorter { IfSome result (λ p. length p.1.now < length octets.now) }
     ensures none { IfNone result (pieces octets.now ≡ octets.now ∷ []) }

@@ -46,9 +46,10 @@ pub(crate) fn state_name(machine: &Machine, at: u16) -> &str
 pub(crate) fn transaction_name(component: &ComponentPlan, number: u32) -> &str
     ensures { result.now ≡ name_of_transaction component.now number }
 {
-    match component.transactions.get(number as usize) {
-        Some(name) => name.as_str(),
-        None => "",
+    if (number as usize) < component.transactions.len() {
+        component.transaction(number).as_str()
+    } else {
+        ""
     }
 }
 

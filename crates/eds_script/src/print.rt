@@ -2,7 +2,9 @@
 
 ghost use Rattle.std.specs.Prelude.{◌≡◌, ◌++◌, IfOk, OnOk, codes, map, option_map, slice_get, string_bytes};
 ghost use Rattle.std.specs.Option.{option_copied};
+ghost use Rattle.std.specs.Str.{IsUtf8};
 ghost use Rattle.eds_types.specs.Plain.{plain};
+ghost use Rattle.eds_script.specs.Events.{IsTextLine};
 
 use eds_base::{Memory, Octets};
 use eds_types::Value;
@@ -17,7 +19,9 @@ pub(crate) fn add(text: &mut Vec<u8>, octets: &[u8]) -> Result<(), Memory>
 
 /// A line that ends in what is given behind a space.
 pub(crate) fn line_given(front: String, given: &[u8]) -> Result<Octets, Memory>
-    ensures { IfOk result (λ o. o ≡ string_bytes front ++ codes " " ++ given.now ++ codes "\n") }
+    requires { IsUtf8 given.now }
+    ensures line { IfOk result (λ o. o ≡ string_bytes front ++ codes " " ++ given.now ++ codes "\n") }
+    ensures text { IfOk result IsTextLine }
 {
     let mut line = front.into_bytes();
     line.push(b' ')?;
@@ -28,7 +32,8 @@ pub(crate) fn line_given(front: String, given: &[u8]) -> Result<Octets, Memory>
 
 /// A line.
 pub(crate) fn line_of(front: String) -> Result<Octets, Memory>
-    ensures { IfOk result (λ o. o ≡ string_bytes front ++ codes "\n") }
+    ensures line { IfOk result (λ o. o ≡ string_bytes front ++ codes "\n") }
+    ensures text { IfOk result IsTextLine }
 {
     let mut line = front.into_bytes();
     line.push(b'\n')?;

@@ -1,7 +1,7 @@
 //! Why a line of a script isn't one.
 
 /// What is wrong with a line, in the order in which it is judged.
-#[derive(Clone, Copy, Debug, PartialEq, Eq)]
+#[derive(Clone, Copy, PartialEq, Eq)]
 pub enum LineWhy {
     /// The line isn't UTF-8.
     Text,
@@ -36,7 +36,7 @@ pub enum LineWhy {
 }
 
 /// The first bad line of a script.
-#[derive(Clone, Copy, Debug, PartialEq, Eq)]
+#[derive(Clone, Copy, PartialEq, Eq)]
 pub struct BadLine {
     /// Its number, from 1.
     pub line: u32,

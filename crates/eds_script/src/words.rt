@@ -8,7 +8,7 @@ ghost use Rattle.eds_script.specs.Words.{asked_in as asked_of, form as form_of, 
 use crate::LineWhy;
 
 /// What arrives at an end, by the first word of its line.
-#[derive(Clone, Copy, Debug, PartialEq, Eq)]
+#[derive(Clone, Copy, PartialEq, Eq)]
 pub(crate) enum Verb {
     Cmd,
     Frame,
@@ -18,7 +18,7 @@ pub(crate) enum Verb {
 }
 
 /// What a line says, in words.
-#[derive(Clone, Copy, Debug)]
+#[derive(Clone, Copy)]
 pub(crate) enum Saying<'a> {
     /// A required end is tied to a provided one.
     Ties(&'a str, &'a str),

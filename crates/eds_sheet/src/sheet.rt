@@ -24,7 +24,7 @@ use eds_types::{Kind, TypeRow, TypeTable, Used};
 use std::alloc::Global;
 
 /// How many types, containers among them, interfaces and components a sheet declares.
-#[derive(Clone, Copy, Debug, PartialEq, Eq)]
+#[derive(Clone, Copy, PartialEq, Eq)]
 pub struct Counts {
     pub types: u32,
     pub containers: u32,

@@ -11,7 +11,7 @@ ghost use Rattle.eds_tree.specs.Trees.{links_of};
 ghost use Rattle.eds_tree.specs.Breaks.{refusal_if, breaks_in, breaks_of};
 
 use crate::link::Link;
-use crate::tree::{Tree, Trees};
+use crate::tree::Tree;
 use eds_base::{Items, Kept, Memory, Place, Refusal, Rule, Text};
 use std::alloc::Global;
 
@@ -110,14 +110,4 @@ pub(crate) fn walks(alloc: Global, trees: &[Tree]) -> Result<Items<Items<Link>>,
         walks.push(tree.links(alloc)?)?;
     }
     Ok(walks)
-}
-
-/// The first break of a rule in the files of a sheet, by place, where there is one.
-pub fn first_break<R: ElementRule>(alloc: Global, trees: &Trees) -> Result<Option<Refusal>, Memory>
-    requires { length trees.now ≤ 64 }
-    ensures { IfOk result (λ r. r ≡ least (breaks_of R.breaks trees.now)) }
-{
-    let trees = trees.as_slice();
-    let walks = walks(alloc, trees)?;
-    least_of::<R>(alloc, trees, &walks)
 }

@@ -8,6 +8,7 @@ mod element;
 mod groups;
 mod halves;
 pub mod law;
+mod least_with;
 mod link;
 mod order;
 mod read;
@@ -25,7 +26,7 @@ mod table;
 mod texts;
 mod tree;
 
-pub use breaks::{ElementRule, first_break, refusal};
+pub use breaks::{ElementRule, refusal};
 pub use eds_base::{flag_value, whole_number};
 pub use link::{Link, is_passed_over};
 pub use read::read_tree;

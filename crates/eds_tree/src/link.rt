@@ -8,7 +8,7 @@ use crate::tree::Node;
 use eds_base::{Memory, Text};
 
 /// An element and its parent, by their numbers; the root is its own parent.
-#[derive(Clone, Copy, Debug, PartialEq, Eq)]
+#[derive(Clone, Copy, PartialEq, Eq)]
 pub struct Link {
     pub parent: u32,
     pub node: u32,

@@ -7,8 +7,9 @@ ghost use Rattle.eds_base.specs.Refusals.{least};
 ghost use Rattle.eds_tree.specs.Trees.{links_of, children_named, children_at as children_in, children_of};
 ghost use Rattle.eds_tree.specs.Limits.{stands_under as stands_below, count_links, places_from, limit_at, breaks_count, limit_in, machines_of, surplus_machine as surplus_machine_of, breaks_counts, breaks_limit};
 
-use crate::breaks::{ElementRule, least_of};
+use crate::breaks::ElementRule;
 use crate::groups::is_member;
+use crate::least_with::least_with;
 use crate::link::{Link, children_at, is_passed_over, name_at};
 use crate::tree::{Node, Tree};
 use eds_base::{Items, Kept, Memory, Place, Refusal, Rule, Text};
@@ -275,8 +276,7 @@ pub(crate) fn least_limit(
     ensures { IfOk result (λ r. r ≡ least (breaks_limit trees.now)) }
 {
     let surplus = least_surplus(alloc, trees, walks)?;
-    let machines = least_of::<Machines>(alloc, trees, walks)?;
-    let children = least_of::<Children>(alloc, trees, walks)?;
-    let found = Refusal::first(surplus, machines);
-    Ok(Refusal::first(found, children))
+    let machines = least_with::<Machines>(alloc, surplus, trees, walks)?;
+    let children = least_with::<Children>(alloc, machines, trees, walks)?;
+    Ok(children)
 }

@@ -10,6 +10,7 @@ ghost use Rattle.eds_tree.specs.Breaks.{breaks_of};
 ghost use Rattle.eds_tree.specs.ShapeCheck.{element_breaks, shape_breaks, shape_verdict};
 
 use crate::breaks::{least_of, walks};
+use crate::least_with::least_with;
 use crate::link::Link;
 use crate::rule_attribute::BadAttribute;
 use crate::rule_limit::least_limit;
@@ -32,9 +33,9 @@ fn least_of_elements(
     ensures { IfOk result (λ r. r ≡ least (element_breaks trees.now)) }
 {
     let unknown = least_of::<UnknownElement>(alloc, trees, walks)?;
-    let unsupported = least_of::<Unsupported>(alloc, trees, walks)?;
-    let missing = least_of::<MissingAttribute>(alloc, trees, walks)?;
-    Ok(Refusal::first(Refusal::first(unknown, unsupported), missing))
+    let unsupported = least_with::<Unsupported>(alloc, unknown, trees, walks)?;
+    let missing = least_with::<MissingAttribute>(alloc, unsupported, trees, walks)?;
+    Ok(missing)
 }
 
 // The least break of these rules and of those on attributes.
@@ -48,9 +49,9 @@ fn least_with_attributes(
     ensures { IfOk result (λ r. r ≡ least (element_breaks trees.now ++ breaks_of breaks_attribute trees.now ++ breaks_of breaks_name trees.now)) }
 {
     let elements = least_of_elements(alloc, trees, walks)?;
-    let attribute = least_of::<BadAttribute>(alloc, trees, walks)?;
-    let name = least_of::<BadName>(alloc, trees, walks)?;
-    Ok(Refusal::first(Refusal::first(elements, attribute), name))
+    let attribute = least_with::<BadAttribute>(alloc, elements, trees, walks)?;
+    let name = least_with::<BadName>(alloc, attribute, trees, walks)?;
+    Ok(name)
 }
 
 // The least break of all rules.

@@ -6,7 +6,7 @@ use std::alloc::Global;
 use std::marker::Model;
 
 /// An element: its name without a prefix, its attributes with their texts, and the numbers of its children.
-#[derive(Debug, Drop)]
+#[derive(Drop)]
 pub struct Node {
     pub name: Text,
     pub attributes: Items<(Text, Text)>,
@@ -26,7 +26,7 @@ impl Node {
 }
 
 /// The elements of one file in document order, which is the order in which they open.
-#[derive(Debug, Drop)]
+#[derive(Drop)]
 pub struct Tree {
     nodes: Items<Node>,
 }

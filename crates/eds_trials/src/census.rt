@@ -6,7 +6,7 @@ use eds_types::{TypeRow, Value};
 use std::alloc::Global;
 
 /// What was found of a type, of all lists of so many bits at most.
-#[derive(Clone, Copy, Debug, PartialEq, Eq)]
+#[derive(Clone, Copy, PartialEq, Eq)]
 pub(crate) struct Found {
     /// How many values have a canonical spelling among the lists.
     pub(crate) values: u32,

@@ -21,7 +21,7 @@ use std::alloc::Global;
 pub(crate) use values::{bits_of, pattern};
 
 /// Whether any spelling counts, or the canonical one alone.
-#[derive(Clone, Copy, Debug, PartialEq, Eq)]
+#[derive(Clone, Copy, PartialEq, Eq)]
 pub(crate) enum Spelling {
     Any,
     Canonical,

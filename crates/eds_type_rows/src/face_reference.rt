@@ -16,7 +16,7 @@ use indexmap::IndexSet;
 use std::alloc::Global;
 
 /// What a reference inside an interface or a component is to find.
-#[derive(Clone, Copy, Debug, PartialEq, Eq)]
+#[derive(Clone, Copy, PartialEq, Eq)]
 pub enum Sought {
     /// The interface that a base names.
     BaseInterface,

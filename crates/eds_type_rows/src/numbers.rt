@@ -15,7 +15,7 @@ use eds_tree::Tree;
 use std::alloc::Global;
 
 /// The form of an integer type or sub-range, and its domain.
-#[derive(Debug, Drop)]
+#[derive(Drop)]
 pub struct FormAndDomain {
     pub form: IntForm,
     pub spans: Spans,

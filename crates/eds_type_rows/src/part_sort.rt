@@ -4,7 +4,7 @@ ghost use Rattle.std.specs.Prelude.{◌≡◌};
 ghost use Rattle.eds_type_rows.specs.PartSorts.{part_sort_of};
 
 /// What sort of part of a container an element is (CCSDS 876.0-B, container entries).
-#[derive(Clone, Copy, Debug, PartialEq, Eq)]
+#[derive(Clone, Copy, PartialEq, Eq)]
 pub enum PartSort {
     Entry,
     FixedValue,

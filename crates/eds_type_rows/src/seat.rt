@@ -12,7 +12,7 @@ use std::alloc::Global;
 
 /// Where the element of a part stands: the number of the container that has it, and its position among that container's
 /// entries and then its trailers.
-#[derive(Clone, Copy, Debug, PartialEq, Eq)]
+#[derive(Clone, Copy, PartialEq, Eq)]
 pub struct Seat {
     pub container: usize,
     pub place: usize,

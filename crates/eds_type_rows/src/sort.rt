@@ -4,7 +4,7 @@ ghost use Rattle.std.specs.Prelude.{◌≡◌};
 ghost use Rattle.eds_type_rows.specs.Sorts.{sort_of};
 
 /// What sort of type an element declares (CCSDS 876.0-B, data types).
-#[derive(Clone, Copy, Debug, PartialEq, Eq)]
+#[derive(Clone, Copy, PartialEq, Eq)]
 pub enum Sort {
     Integer,
     Enumerated,

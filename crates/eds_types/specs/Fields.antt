@@ -49,11 +49,6 @@ has_value (part.List name id y i) = true
 has_value (part.Length name id c0 c1) = false
 has_value (part.Check name id k) = false
 
--- the part, which is there, has a value in the fields
-abbrev pub has_value_in : Option Part → Bool
-has_value_in None = false
-has_value_in (Some p) = has_value p
-
 -- the values, each with the part that holds it, in turn
 abbrev pub paired : List Placed → List Plain → List Field
 paired [] vs = []

@@ -1,5 +1,5 @@
 -- The value that the text of an attribute stands for: a value that would pack as the kind.
-use Rattle.std.specs.Prelude.{◌≡◌, ℕ, ℤ, ◌*◌, List, length, Bool, true, false, ◌&&◌, nat_le, Option, Some, None, is_some, option_map}
+use Rattle.std.specs.Prelude.{◌≡◌, ℕ, ℤ, ◌*◌, List, length, Bool, true, false, ◌&&◌, nat_le, Option, Some, None, is_some, option_map, IsTrue, slice_get}
 use Rattle.std.specs.Result.{result_ok}
 use Rattle.hex.specs.Hex.{decode_of}
 use Rattle.eds_base.specs.declared.spans.Span.{Span}
@@ -8,11 +8,14 @@ use Rattle.eds_base.specs.Reading.{only, ◌>>=◌}
 use Rattle.eds_bits.specs.declared.forms.TextForm.{TextForm}
 use Rattle.eds_types.specs.declared.row.Kind.{Kind}
 use Rattle.eds_types.specs.declared.row.Kind.TheVariants as kind
+use Rattle.eds_types.specs.declared.row.TypeRow.{TypeRow}
 use Rattle.eds_types.specs.Fields.{listed}
-use Rattle.eds_types.specs.PackedSizes.{text_fits, has_bits, is_filled}
+use Rattle.eds_types.specs.PackedSizes.{text_bits, text_fits, has_bits, is_filled, packs}
+use Rattle.eds_types.specs.Packing.{most_bits}
 use Rattle.eds_types.specs.Plain.{Plain, num, label, truth, text, bits}
 use Rattle.eds_types.specs.Reading.{is_within}
-use Rattle.eds_types.specs.Rules.{KindKeeps, IsValueOf}
+use Rattle.eds_types.specs.Rows.{Table}
+use Rattle.eds_types.specs.Rules.{KeepsRules, IsValueOf}
 
 -- a whole number of the domain
 abbrev pub number_value : List Span → List ℕ → Option Plain
@@ -26,9 +29,13 @@ label_value listing s = only (is_some (listed listing s)) (label s)
 abbrev pub truth_value : List ℕ → Option Plain
 truth_value s = option_map truth (flag_value s)
 
--- a text of the encoding, without the termination octet and not too long
+-- the bits that spell the text are no more than a value may be packed into
+abbrev pub is_short : TextForm → List ℕ → Bool
+is_short form s = nat_le (text_bits form.fixed form.length (length s)) most_bits
+
+-- a text of the encoding, without the termination octet, not too long, and with room for what ends it
 abbrev pub string_value : TextForm → List ℕ → Option Plain
-string_value form s = only (text_fits form s && nat_le (length s) form.length) (text s)
+string_value form s = only ((text_fits form s && nat_le (length s) form.length) && is_short form s) (text s)
 
 -- how many bits the octets of a binary hold: all of an open one's octets, else so many as it has
 abbrev pub bits_in : ℕ → Bool → List ℕ → ℕ
@@ -59,6 +66,10 @@ text_value_of (kind.Con c) s = None
 abbrev pub TextsAreValues : Type 0
 TextsAreValues = (k : Kind) (s : List ℕ) (v : Plain) → text_value_of k s ≡ Some v → IsValueOf k v
 
--- each value of a kind that keeps the rules has a text that stands for it
+-- what a text stands for packs as the type
+abbrev pub TextsPack : Type 0
+TextsPack = (t : Table) (id : ℕ) (row : TypeRow) (s : List ℕ) (v : Plain) → KeepsRules t → slice_get t id ≡ Some row → text_value_of row.kind s ≡ Some v → IsTrue (packs t id v)
+
+-- each value that packs as a type of a table which keeps the rules has a text that stands for it
 abbrev pub ValuesHaveTexts : Type 0
-ValuesHaveTexts = (k : Kind) (v : Plain) → KindKeeps k → IsValueOf k v → (s : List ℕ) × (text_value_of k s ≡ Some v)
+ValuesHaveTexts = (t : Table) (id : ℕ) (row : TypeRow) (v : Plain) → KeepsRules t → slice_get t id ≡ Some row → IsValueOf row.kind v → IsTrue (packs t id v) → (s : List ℕ) × (text_value_of row.kind s ≡ Some v)

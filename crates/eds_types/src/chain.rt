@@ -7,7 +7,7 @@ use std::marker::Model;
 const MOST: usize = 16;
 
 /// The types from the root of a type's bases down to the type itself: at most 16, seen as the list of them.
-#[derive(Debug, Drop)]
+#[derive(Drop)]
 pub struct Chain {
     // They fill the end: a chain is put together from its last type up.
     ids: [TypeId; 16],

@@ -1,6 +1,6 @@
 //! Laws of types and values: functions with no body, whose contracts are what was proved.
 
-ghost use Rattle.eds_types.specs.TextValues.{TextsAreValues, ValuesHaveTexts};
+ghost use Rattle.eds_types.specs.TextValues.{TextsAreValues, TextsPack, ValuesHaveTexts};
 ghost use Rattle.eds_types.specs.Laws.{OneSize, HasCanonical, OneCanonical, LeastIsLeast, EmptyTypes, PackingIsDecided};
 
 /// A value that is spelled has exactly one canonical spelling, and all its spellings have as many bits.
@@ -26,8 +26,9 @@ pub fn packing_is_decided()
     ensures { PackingIsDecided }
 {}
 
-/// What a text of an attribute stands for is a value of the kind, and each value of a kind that keeps the rules has a text.
+/// What a text of an attribute stands for is a value of the kind, and packs; and each value that packs has a text.
 pub fn texts_of_values()
     ensures values { TextsAreValues }
+    ensures packs { TextsPack }
     ensures texts { ValuesHaveTexts }
 {}

@@ -1,7 +1,7 @@
 //! Why a value doesn't pack.
 
 /// Why a value doesn't pack as its type.
-#[derive(Clone, Copy, Debug, PartialEq, Eq)]
+#[derive(Clone, Copy, PartialEq, Eq)]
 pub enum PackReason {
     /// The value is of another kind, or its fields are no container's or have another number.
     WrongKind,

@@ -4,7 +4,7 @@ ghost use Rattle.std.specs.Prelude.{◌≡◌, ◌++◌, ◌<◌, ◌≤◌, Som
 ghost use Rattle.std.specs.List.{flat_map};
 ghost use Rattle.std.specs.Option.{option_copied};
 ghost use Rattle.eds_types.specs.Rows.{id_of, chain, family, address, entry_places, trailer_places, sequence, container_of, entries_of, trailers_of, constraints_of, is_concrete};
-ghost use Rattle.eds_types.specs.Fields.{part_at, has_value_in};
+ghost use Rattle.eds_types.specs.Fields.{part_at};
 ghost use Rattle.eds_types.specs.Domains.{int_domain};
 ghost use Rattle.eds_types.specs.LeastSize.{least_size};
 ghost use Rattle.eds_types.specs.Rules.{KeepsRules};
@@ -116,16 +116,6 @@ impl TypeTable {
         ensures { option_copied result ≡ part_at self.now (id, place) }
     {
         look::part_at(self.rows.as_slice(), id, place)
-    }
-
-    /// Whether there is a part at this position of a container that has a value among its fields.
-    pub fn has_value_at(&self, id: TypeId, place: u16) -> bool
-        ensures { result ≡ has_value_in (part_at self.now (id, place)) }
-    {
-        match self.part_at(id, place) {
-            Some(part) => part.has_value(),
-            None => false,
-        }
     }
 
     /// A container's own constraints; any other type has none.

@@ -7,13 +7,16 @@ ghost use Rattle.eds_types.specs.Fields.{listed};
 ghost use Rattle.eds_types.specs.Plain.{plain, stored as stored_of};
 ghost use Rattle.eds_types.specs.PackedSizes.{text_fits as text_fits_of};
 ghost use Rattle.eds_types.specs.Reading.{is_within};
-ghost use Rattle.eds_types.specs.TextValues.{number_value as number_value_of, label_value as label_value_of, truth_value as truth_value_of, string_value as string_value_of, octets_value as octets_value_of, binary_value as binary_value_of, text_value_of};
+ghost use Rattle.eds_types.specs.TextValues.{is_short as is_short_of, number_value as number_value_of, label_value as label_value_of, truth_value as truth_value_of, string_value as string_value_of, octets_value as octets_value_of, binary_value as binary_value_of, text_value_of};
 
 use crate::{Kind, Listing, Value, is_binary};
 use eds_base::{Items, Memory, Spans, Text, flag_value, whole_number};
 use eds_bits::TextForm;
 use hex::FromHexError;
 use std::alloc::Global;
+
+// The octets that a value of the most bits fills.
+const MOST_OCTETS: u32 = 65_536;
 
 fn is_in(spans: &Spans, number: i128) -> bool
     ensures { result ≡ is_within spans.now number }
@@ -76,10 +79,22 @@ fn text_fits(form: TextForm, text: &str) -> bool
     is_coded(form.ascii, text) && !has_octet(text, form.stop)
 }
 
+// Whether the bits that spell a text are no more than a value may be packed into: all octets of a fixed one, else its own and
+// the termination octet.
+fn is_short(form: TextForm, text: &str) -> bool
+    ensures { result ≡ is_short_of form text.now }
+{
+    if form.fixed {
+        form.length <= MOST_OCTETS
+    } else {
+        text.len() < MOST_OCTETS as usize
+    }
+}
+
 fn string_value(alloc: Global, form: TextForm, text: &str) -> Result<Option<Value>, Memory>
     ensures { IfOk result (λ v. option_map plain v ≡ string_value_of form text.now) }
 {
-    if text_fits(form, text) && text.len() <= form.length as usize {
+    if text_fits(form, text) && text.len() <= form.length as usize && is_short(form, text) {
         Ok(Some(Value::Text(Text::of(alloc, text)?)))
     } else {
         Ok(None)
@@ -120,7 +135,8 @@ fn binary_value(
 }
 
 /// The value of the kind that the text of an attribute stands for: a whole number of its domain; one of its labels; `true`,
-/// `1`, `false` or `0`; a text of its encoding, without the termination octet and not too long; or the hex of just so many
+/// `1`, `false` or `0`; a text of its encoding, without the termination octet, not too long, and with room for what ends it; or
+/// the hex of just so many
 /// octets, in either case and without spaces, with zeros behind the last bit. For an open binary it is the hex of whole
 /// octets, at most as many as fit its size in bits. None exactly where it is no value of that kind, or the kind is an array
 /// or a container.

@@ -9,7 +9,7 @@ use eds_types::{Part, TypeTable};
 use std::alloc::Global;
 
 /// An entry or list of a container, or an argument.
-#[derive(Clone, Copy, Debug)]
+#[derive(Clone, Copy)]
 pub struct Entry<'a> {
     /// The step to it from its container. No step leads to an argument: its path begins at its own value.
     pub step: Option<Step>,

@@ -3,7 +3,7 @@
 use eds_base::Path;
 
 /// Why a text stands for no value of a type.
-#[derive(Debug, Drop)]
+#[derive(Drop)]
 pub enum ValueFail {
     /// The text is no JSON.
     NotJson,

@@ -1,4 +1,4 @@
-use Rattle.eds_host.proofs.Marked.{used_clear}
+use Rattle.eds_host.proofs.ClearArguments.{used_clear}
 use Rattle.eds_cmd.proofs.perform.components_of.Goals as goal
 
 pub returns-clause-runnable : goal.returns-clause-runnable

@@ -11,6 +11,6 @@ returns c =
     let targets = flat_map (target_at rows) (posed_of rows lists c.args.id.0) in
     let values = flat_map (value_at rows) (posed_of rows lists c.args.id.0) in
     let empties = empties_of rows lists c.args.id.0 in
-    least-joined targets (values ++ empties) c.in_ok-targets.targets c.first.result c.first-2.result c.in_ok-targets.ensures
-    (least-joined values empties c.in_ok-values.values c.in_ok-empties.empties c.first.result c.in_ok-values.ensures c.in_ok-empties.ensures c.first.ensures.first)
-    c.first-2.ensures.first
+    least-joined targets (values ++ empties) c.in_ok-targets.targets c.first-others.result c.first.result c.in_ok-targets.ensures
+    (least-joined values empties c.in_ok-values.values c.in_ok-empties.empties c.first-others.result c.in_ok-values.ensures c.in_ok-empties.ensures c.first-others.ensures.first)
+    c.first.ensures.first

@@ -13,7 +13,7 @@ decreases-first_below g l = 2 * l.depth + 1
 
 abbrev pub invariant-first_below-loop-base : goal.invariant-first_below-loop-base
 invariant-first_below-loop-base g l = record {
-  first : first (flat_map (g.R.NameRule.names l.faces l.types) (flat_map (reached l.depth l.faces) (map (below_by l.faces l.pair.types) (drop l.base-index l.base-items)))) ≡ first (flat_map (g.R.NameRule.names l.faces l.types) (flat_map (reached l.depth l.faces) (map (below_by l.faces l.pair.types) l.base-items)));
+  first : first (flat_map (g.R.NameRule.names l.faces l.types) (flat_map (reached l.depth l.faces) (map (below_by l.faces l.pair.face l.pair.types) (drop l.base-index l.base-items)))) ≡ first (flat_map (g.R.NameRule.names l.faces l.types) (flat_map (reached l.depth l.faces) (map (below_by l.faces l.pair.face l.pair.types) l.base-items)));
   ends : list_all (λ (b : Base). ends_within l.depth l.faces b.face.0) (drop l.base-index l.base-items) ≡ true;
   clean : AreClean (g.R.NameRule.names) l.faces l.types l.clean;
 }

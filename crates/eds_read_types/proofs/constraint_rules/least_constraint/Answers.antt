@@ -7,6 +7,6 @@ pub returns : goal.returns
 returns c =
     let rows = c.args.asked.now.rows.now in
     let lists = c.args.asked.now.lists.now in
-    least-joined (breaks_target rows lists) (breaks_value rows lists ++ breaks_empty rows lists) c.in_ok-targets.targets c.first.result c.first-2.result c.in_ok-targets.ensures
-    (least-joined (breaks_value rows lists) (breaks_empty rows lists) c.in_ok-values.values c.in_ok-empties.empties c.first.result c.in_ok-values.ensures c.in_ok-empties.ensures c.first.ensures.first)
-    c.first-2.ensures.first
+    least-joined (breaks_target rows lists) (breaks_value rows lists ++ breaks_empty rows lists) c.in_ok-targets.targets c.first-others.result c.first.result c.in_ok-targets.ensures
+    (least-joined (breaks_value rows lists) (breaks_empty rows lists) c.in_ok-values.values c.in_ok-empties.empties c.first-others.result c.in_ok-values.ensures c.in_ok-empties.ensures c.first-others.ensures.first)
+    c.first.ensures.first

@@ -17,6 +17,6 @@ returns c =
     let fields = judged_parts list_field_at trees (table_rows trees names) c.args.id c.args.at in
     let lengths = length_breaks trees names c.args.id c.args.at in
     let elements = element_breaks trees names c.args.at in
-    least-joined doubles (fields ++ (lengths ++ elements)) c.in_ok-names.names c.first-2.result c.first-3.result (c.in_ok-names.ensures ∙ ap (λ t. least (duplicates_at trees t c.args.id c.args.at)) read)
-    (least-joined fields (lengths ++ elements) c.in_ok-fields.fields c.first.result c.first-2.result (c.in_ok-fields.ensures ∙ ap (λ t. least (judged_parts list_field_at trees t c.args.id c.args.at)) read)
-    (least-joined lengths elements c.in_ok-lengths.lengths c.in_ok-elements.elements c.first.result c.in_ok-lengths.ensures c.in_ok-elements.ensures c.first.ensures.first) c.first-2.ensures.first) c.first-3.ensures.first
+    least-joined doubles (fields ++ (lengths ++ elements)) c.in_ok-names.names c.first-others.result c.first.result (c.in_ok-names.ensures ∙ ap (λ t. least (duplicates_at trees t c.args.id c.args.at)) read)
+    (least-joined fields (lengths ++ elements) c.in_ok-fields.fields c.first-bits.result c.first-others.result (c.in_ok-fields.ensures ∙ ap (λ t. least (judged_parts list_field_at trees t c.args.id c.args.at)) read)
+    (least-joined lengths elements c.in_ok-lengths.lengths c.in_ok-elements.elements c.first-bits.result c.in_ok-lengths.ensures c.in_ok-elements.ensures c.first-bits.ensures.first) c.first-others.ensures.first) c.first.ensures.first

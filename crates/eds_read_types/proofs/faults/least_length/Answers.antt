@@ -15,5 +15,5 @@ returns c =
     let types = judged_parts length_field_at trees (table_rows trees names) c.args.id c.args.at in
     let scales = judged_elements scale_at trees names c.args.at in
     let seconds = second_length_at trees (table_rows trees names) c.args.id c.args.at in
-    least-joined types (scales ++ seconds) c.in_ok-types.types c.first.result c.first-2.result (c.in_ok-types.ensures ∙ ap (λ t. least (judged_parts length_field_at trees t c.args.id c.args.at)) read)
-    (least-joined scales seconds c.in_ok-scales.scales c.in_ok-seconds.seconds c.first.result c.in_ok-scales.ensures (c.in_ok-seconds.ensures ∙ ap (λ t. least (second_length_at trees t c.args.id c.args.at)) read) c.first.ensures.first) c.first-2.ensures.first
+    least-joined types (scales ++ seconds) c.in_ok-types.types c.first-others.result c.first.result (c.in_ok-types.ensures ∙ ap (λ t. least (judged_parts length_field_at trees t c.args.id c.args.at)) read)
+    (least-joined scales seconds c.in_ok-scales.scales c.in_ok-seconds.seconds c.first-others.result c.in_ok-scales.ensures (c.in_ok-seconds.ensures ∙ ap (λ t. least (second_length_at trees t c.args.id c.args.at)) read) c.first-others.ensures.first) c.first.ensures.first

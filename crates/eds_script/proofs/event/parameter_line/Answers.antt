@@ -17,7 +17,7 @@ pub returns-in_ok-line_of-in-None-clause-line : goal.returns-in_ok-line_of-in-No
 returns-in_ok-line_of-in-None-clause-line c =
     let none : slice_get (map plain c.args.values.now) 0 ≡ None = sym c.in-None.ensures in
     let head = c.in_ok-head.ensures ∙ ap (λ (w : List ℕ). front c.args.spot.now.time w (place_text c.args.spot.now.place) c.args.spot.now.name.now) c.op_word.ensures in
-    rw none (c.in_ok-line_of-in-None.ensures ∙ ap (λ (h : List ℕ). h ++ codes "\n") (head ∙ sym (append-nil (front c.args.spot.now.time (op_word c.args.op) (place_text c.args.spot.now.place) c.args.spot.now.name.now))))
+    rw none (c.in_ok-line_of-in-None.ensures.line ∙ ap (λ (h : List ℕ). h ++ codes "\n") (head ∙ sym (append-nil (front c.args.spot.now.time (op_word c.args.op) (place_text c.args.spot.now.place) c.args.spot.now.name.now))))
 
 pub returns-in_ok-line_of-in-None-clause-reads : goal.returns-in_ok-line_of-in-None-clause-reads
 returns-in_ok-line_of-in-None-clause-reads c bare v e = let none : slice_get (map plain c.args.values.now) 0 ≡ None = sym c.in-None.ensures in cc
@@ -28,7 +28,7 @@ returns-in_ok-line_given-in-Some-clause-line c =
     let head = c.in_ok-head.ensures ∙ ap (λ (w : List ℕ). front c.args.spot.now.time w (place_text c.args.spot.now.place) c.args.spot.now.name.now) c.op_word.ensures in
     let json = c.as_slice.ensures ∙ c.in_ok-json-in-Some.ensures.text in
     let together = append_assoc (front c.args.spot.now.time (op_word c.args.op) (place_text c.args.spot.now.place) c.args.spot.now.name.now) (codes " ") (json_text c.args.table.now (plain c.in-Some.value.now)) in
-    rw some (c.in_ok-line_given-in-Some.ensures ∙ ap₂ (λ (h : List ℕ) (g : List ℕ). h ++ codes " " ++ g ++ codes "\n") head json ∙ ap (λ (xs : List ℕ). xs ++ codes "\n") together)
+    rw some (c.in_ok-line_given-in-Some.ensures.line ∙ ap₂ (λ (h : List ℕ) (g : List ℕ). h ++ codes " " ++ g ++ codes "\n") head json ∙ ap (λ (xs : List ℕ). xs ++ codes "\n") together)
 
 pub returns-in_ok-line_given-in-Some-clause-reads : goal.returns-in_ok-line_given-in-Some-clause-reads
 returns-in_ok-line_given-in-Some-clause-reads c bare v e =

@@ -1,3 +1,5 @@
+use Rattle.std.proofs.Common.{refl}
+use Rattle.eds_base.specs.Refusals.{least}
 use Rattle.eds_tree.specs.Breaks.{breaks_of}
 use Rattle.eds_tree.specs.Limits.{breaks_counts, breaks_machines, breaks_children}
 use Rattle.eds_tree.proofs.Least.{least-of_three}
@@ -7,5 +9,5 @@ pub returns : goal.returns
 returns c =
     let ts = c.args.trees.now in
     least-of_three (breaks_counts ts) (breaks_of breaks_machines ts) (breaks_of breaks_children ts)
-    c.in_ok-surplus.surplus c.in_ok-machines.machines c.in_ok-children.children c.first-found.result c.first.result
-    c.in_ok-surplus.ensures c.in_ok-machines.ensures c.in_ok-children.ensures c.first-found.ensures.first c.first.ensures.first
+    c.in_ok-surplus.surplus (least (breaks_of breaks_machines ts)) (least (breaks_of breaks_children ts)) c.in_ok-machines.machines c.in_ok-children.children
+    c.in_ok-surplus.ensures refl refl c.in_ok-machines.ensures c.in_ok-children.ensures

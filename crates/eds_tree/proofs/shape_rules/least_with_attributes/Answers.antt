@@ -1,3 +1,5 @@
+use Rattle.std.proofs.Common.{refl}
+use Rattle.eds_base.specs.Refusals.{least}
 use Rattle.eds_tree.specs.Breaks.{breaks_of}
 use Rattle.eds_tree.specs.BadAttribute.{breaks_attribute}
 use Rattle.eds_tree.specs.BadName.{breaks_name}
@@ -9,5 +11,5 @@ pub returns : goal.returns
 returns c =
     let ts = c.args.trees.now in
     least-of_three (element_breaks ts) (breaks_of breaks_attribute ts) (breaks_of breaks_name ts)
-    c.in_ok-elements.elements c.in_ok-attribute.attribute c.in_ok-name.name c.first.result c.first-2.result
-    c.in_ok-elements.ensures c.in_ok-attribute.ensures c.in_ok-name.ensures c.first.ensures.first c.first-2.ensures.first
+    c.in_ok-elements.elements (least (breaks_of breaks_attribute ts)) (least (breaks_of breaks_name ts)) c.in_ok-attribute.attribute c.in_ok-name.name
+    c.in_ok-elements.ensures refl refl c.in_ok-attribute.ensures c.in_ok-name.ensures

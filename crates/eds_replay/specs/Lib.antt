@@ -1,0 +1,9 @@
+pub mod Shown
+pub mod Sessions
+pub mod Frames
+pub mod Agreement
+pub mod Differences
+pub mod Judges
+pub mod Pairs
+pub mod Laws
+pub mod Alike
