@@ -5,7 +5,7 @@
 the cases and examples run), that of eds_cases, that of eds_trials, and the #[test] functions. A function leads to those whose
 names stand in it as calls, by what the sources say alone: a method's name stands for each method of that name below. So a row
 may name too much, and a call that none of these leads to is executed by nothing. A function that does nothing but call laws is a
-law: there is nothing to execute. The calls of WAITING aren't executed today, for the reason that stands there.
+law: there is nothing to execute. A call of WAITING, a table of names with reasons, isn't executed for the reason that stands there.
 """
 
 import collections
@@ -15,15 +15,7 @@ import sys
 
 TOP = os.path.dirname(os.path.dirname(os.path.realpath(__file__)))
 PROGRAMS = {"eds_prog": "program", "eds_cases": "cases", "eds_trials": "trials", "eds_bench": ""}
-UNUSED = "nothing calls it; it goes as soon as its crate is changed"
-WAITING = {
-    "eds_tree::first_break": UNUSED,
-    "eds_types::TypeTable::has_value_at": UNUSED,
-    "eds_graph::Course::is_deeper_than": UNUSED,
-    "eds_generic::judge_faces": UNUSED,
-    "eds_generic::check_faces": UNUSED,
-    "eds_read_comp::check_ends": UNUSED,
-}
+WAITING = {}
 
 
 class Call(collections.namedtuple("Call", "crate module owner trait name public line body renamed")):
