@@ -22,3 +22,4 @@ pub mod Pieces
 pub mod Pushed
 pub mod LaidTexts
 pub mod Lines
+pub mod OneLine

@@ -1,0 +1,5 @@
+use Rattle.eds_value.proofs.OneLine as proof
+use Rattle.eds_value.proofs.law.texts_read_back.Goals as goal
+
+pub returns : goal.returns
+returns c = proof.texts_back
