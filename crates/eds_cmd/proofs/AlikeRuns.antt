@@ -4,7 +4,8 @@ use Rattle.eds_host.specs.Alike.{AlikeRuns, AlikeSystems, AlikeWires}
 use Rattle.eds_host.specs.Plans.{system}
 use Rattle.eds_host.specs.Runs.{RunGoes, unbegun}
 use Rattle.eds_host.specs.Hosts.{reading}
-use Rattle.eds_host.specs.Systems.{StateNow, World}
+use Rattle.eds_plan.specs.States.{StateNow}
+use Rattle.eds_host.specs.Systems.{World}
 use Rattle.eds_host.specs.Wires.{other_end}
 use Rattle.eds_host.specs.declared.wiring.HostFail.{HostFail}
 use Rattle.eds_host.specs.declared.wiring.Tie.{Tie}

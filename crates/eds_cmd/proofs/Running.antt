@@ -10,7 +10,8 @@ use Rattle.eds_host.specs.Hosts.{Goes, Handles, HostNow, MayAllBeHandled, asked_
 use Rattle.eds_host.specs.Plans.{MayGoOut, system}
 use Rattle.eds_host.specs.Runs.{Course, LineGoes, RestGoes, RunGoes, unbegun}
 use Rattle.eds_host.specs.Steps.{IsLine}
-use Rattle.eds_host.specs.Systems.{StateNow, System, World}
+use Rattle.eds_plan.specs.States.{StateNow}
+use Rattle.eds_host.specs.Systems.{System, World}
 use Rattle.eds_host.specs.Wires.{other_end, ties_of}
 use Rattle.eds_host.specs.declared.handled.Handled.{Handled}
 use Rattle.eds_host.specs.declared.handled.Handled.TheVariants as handled

@@ -6,7 +6,8 @@ use Rattle.eds_act.specs.Does.{Conforms}
 use Rattle.eds_host.specs.Hosts.{ArgumentsAreClear, asked_by, reading}
 use Rattle.eds_host.specs.Plans.{system}
 use Rattle.eds_host.specs.Runs.{RunGoes, unbegun}
-use Rattle.eds_host.specs.Systems.{StateNow, System, World}
+use Rattle.eds_plan.specs.States.{StateNow}
+use Rattle.eds_host.specs.Systems.{System, World}
 use Rattle.eds_host.specs.Wires.{other_end, ties_of}
 use Rattle.eds_host.specs.declared.wiring.HostFail.{HostFail}
 use Rattle.eds_host.specs.declared.wiring.Tie.{Tie}

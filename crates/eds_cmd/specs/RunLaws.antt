@@ -5,6 +5,7 @@ use Rattle.eds_types.specs.Rules.{KeepsRules}
 use Rattle.eds_plan.specs.Fitting.{PlanFits}
 use Rattle.eds_plan.specs.Outs.{Report}
 use Rattle.eds_plan.specs.Plans.{component_at}
+use Rattle.eds_plan.specs.States.{StateNow}
 use Rattle.eds_plan.specs.declared.component.ComponentPlan.{ComponentPlan}
 use Rattle.eds_act.specs.Does.{Conforms}
 use Rattle.eds_script.specs.Fitting.{FitsPlan, HaveValues}
@@ -13,7 +14,6 @@ use Rattle.eds_script.specs.Scripts.{Plot, script_of}
 use Rattle.eds_host.specs.Hosts.{HostNow, MayAllBeHandled, asked_by}
 use Rattle.eds_host.specs.Machines.{IsStateOf}
 use Rattle.eds_host.specs.Plans.{MayGoOut}
-use Rattle.eds_host.specs.Systems.{StateNow}
 use Rattle.eds_host.specs.Wires.{ties_of}
 use Rattle.eds_host.specs.declared.host.Phase.TheVariants.{Fresh}
 use Rattle.eds_cmd.specs.declared.status.Status.{Status}

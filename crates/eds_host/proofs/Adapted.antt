@@ -9,6 +9,7 @@ use Rattle.eds_plan.specs.Carried.{carried}
 use Rattle.eds_plan.specs.Ends.{end_at}
 use Rattle.eds_plan.specs.Plans.{component_at}
 use Rattle.eds_plan.specs.Sends.{Sent, primitive, halted, sent}
+use Rattle.eds_plan.specs.States.{StateNow, state_now}
 use Rattle.eds_plan.specs.declared.component.ComponentPlan.{ComponentPlan}
 use Rattle.eds_plan.specs.declared.machine.Machine.{Machine}
 use Rattle.eds_plan.specs.declared.run.CompState.{CompState}
@@ -29,7 +30,6 @@ use Rattle.eds_host.specs.Comings.{coming}
 use Rattle.eds_host.specs.Laws.{NotBefore}
 use Rattle.eds_host.specs.Machines.{at_event, outcome, reacted, started, takes, waits_of, IsStateOf}
 use Rattle.eds_host.specs.Plans.{IsSent, MayCome}
-use Rattle.eds_host.specs.Systems.{StateNow, state_now}
 
 -- ---- components
 

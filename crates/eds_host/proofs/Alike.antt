@@ -6,6 +6,7 @@ use Rattle.eds_types.specs.PackedSizes.{packs}
 use Rattle.eds_types.specs.Rows.{Table}
 use Rattle.eds_plan.specs.Alike.{AreAlike, IsAlike, seen_component}
 use Rattle.eds_plan.specs.Plans.{component_at}
+use Rattle.eds_plan.specs.States.{StateNow}
 use Rattle.eds_plan.specs.declared.component.ComponentPlan.{ComponentPlan}
 use Rattle.eds_plan.specs.declared.component.EndPlan.{EndPlan}
 use Rattle.eds_plan.specs.declared.run.End.{End}
@@ -20,7 +21,7 @@ use Rattle.eds_host.specs.Hosts.{IsRead, asked_by, reading, way_to}
 use Rattle.eds_host.specs.Machines.{at_event, outcome, reacted, started, takes, unstarted, waits_of}
 use Rattle.eds_host.specs.Plans.{system}
 use Rattle.eds_host.specs.Runs.{Reading, RunGoes}
-use Rattle.eds_host.specs.Systems.{Coming, Reaction, StateNow, System, arrival, moment}
+use Rattle.eds_host.specs.Systems.{Coming, Reaction, System, arrival, moment}
 use Rattle.eds_host.specs.Wires.{tie_at, tie_next, tie_of, ties_behind, ties_of}
 
 -- ---- components

@@ -4,13 +4,14 @@ use Rattle.std.specs.Prelude.{slice_set, slice_get, ◌⊎◌}
 use Rattle.eds_types.specs.Rows.{Table}
 use Rattle.eds_plan.specs.declared.component.ComponentPlan.{ComponentPlan}
 use Rattle.eds_plan.specs.Outs.{Report, Signal}
+use Rattle.eds_plan.specs.States.{StateNow}
 use Rattle.eds_host.specs.Machines.{IsStateOf, waits_of}
 use Rattle.eds_host.specs.Mirrors.{dues_of}
 use Rattle.eds_host.specs.Plans.{AreBegun, AreStates, NoneBefore}
 use Rattle.eds_host.specs.Laws.{NotBefore}
 use Rattle.eds_host.specs.Runs.{begun, all_fresh, all_start, happening, nothing}
 use Rattle.eds_host.specs.Settings.{world}
-use Rattle.eds_host.specs.Systems.{System, StateNow, World, Happening, leaving}
+use Rattle.eds_host.specs.Systems.{System, World, Happening, leaving}
 use Rattle.eds_host.proofs.Tied.{dues_length, dues_more, set_last}
 
 pub last_or : {A : Type 0} (xs : List A) (i : ℕ) (s x : A) → slice_get (xs ++ s ∷ []) i ≡ Some x → ((i ≡ length xs) × (s ≡ x)) ⊎ (slice_get xs i ≡ Some x)

@@ -3,11 +3,12 @@ use Rattle.std.proofs.Common.{◌≡◌, ◌≤◌, ◌<◌, ◌+◌, ◌^◌, �
 use Rattle.std.specs.Prelude.{IfSome, IsSome, slice_get, unwrap_or}
 use Rattle.eds_types.specs.Rows.{Table}
 use Rattle.eds_plan.specs.declared.component.ComponentPlan.{ComponentPlan}
+use Rattle.eds_plan.specs.States.{StateNow}
 use Rattle.eds_host.specs.declared.due.Due.{Due}
 use Rattle.eds_host.specs.Plans.{AreStates}
 use Rattle.eds_host.specs.Laws.{NotBefore}
 use Rattle.eds_host.specs.Settings.{bound, state_in}
-use Rattle.eds_host.specs.Systems.{System, StateNow, first_due, has_come, no_state}
+use Rattle.eds_host.specs.Systems.{System, first_due, has_come, no_state}
 use Rattle.eds_host.proofs.Adapted.{state_later}
 use Rattle.eds_host.proofs.Moments.{ComesBy, IsWaited, due_waited, first_late, none_before, rest_later}
 

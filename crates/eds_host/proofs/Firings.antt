@@ -6,6 +6,7 @@ use Rattle.eds_types.specs.PackedSizes.{packs}
 use Rattle.eds_types.specs.Plain.{Plain}
 use Rattle.eds_types.specs.Rows.{Table}
 use Rattle.eds_plan.specs.Plans.{component_at}
+use Rattle.eds_plan.specs.States.{StateNow}
 use Rattle.eds_plan.specs.declared.component.ComponentPlan.{ComponentPlan}
 use Rattle.eds_plan.specs.declared.machine.Machine.{Machine}
 use Rattle.eds_plan.specs.declared.machine.Transition.{Transition}
@@ -19,7 +20,7 @@ use Rattle.eds_host.specs.declared.due.Due.{Due}
 use Rattle.eds_host.specs.Firings.{FirstFires, HasToCome, IsNextToFire, OthersStay, TimersReachOne, UntakenTimersPass}
 use Rattle.eds_host.specs.Machines.{at_event, outcome, reacted, waits_of}
 use Rattle.eds_host.specs.Plans.{system}
-use Rattle.eds_host.specs.Systems.{System, StateNow, arrives, moment, next, next_by, fires, has_come, due_at, first_of, first_due, settles}
+use Rattle.eds_host.specs.Systems.{System, arrives, moment, next, next_by, fires, has_come, due_at, first_of, first_due, settles}
 use Rattle.eds_host.proofs.Moments.{IsWaited, due_waited}
 use Rattle.eds_host.proofs.Times.{come}
 

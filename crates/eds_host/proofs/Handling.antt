@@ -6,6 +6,7 @@ use Rattle.eds_base.specs.declared.fail.Memory.{Memory}
 use Rattle.eds_plan.specs.Lines.{Told, starts, passes, framed}
 use Rattle.eds_plan.specs.Lines as lines
 use Rattle.eds_plan.specs.Outs.{Report, Signal}
+use Rattle.eds_plan.specs.States.{StateNow}
 use Rattle.eds_host.specs.declared.handled.Handled.{Handled}
 use Rattle.eds_host.specs.declared.handled.Handled.TheVariants.{Done, Storm}
 use Rattle.eds_host.specs.declared.host.Phase.{Phase}
@@ -22,7 +23,7 @@ use Rattle.eds_host.specs.Resting.{IsAtRest, IsCalm, LineIs, MayBeTold}
 use Rattle.eds_host.specs.Runs.{Course, LineGoes}
 use Rattle.eds_host.specs.Steps.{IsLine}
 use Rattle.eds_host.specs.Settings.{AtRest, running}
-use Rattle.eds_host.specs.Systems.{StateNow, World}
+use Rattle.eds_host.specs.Systems.{World}
 
 module _ (s : Setting) (now : ℕ) (states : List StateNow) (queue : List Signal) (dues : List (Option (ℕ × ℕ))) where
   pub fresh_told : (l : Told) → l ≡ starts → now ≡ 0 → MayBeTold s l now states queue dues

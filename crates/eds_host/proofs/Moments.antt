@@ -4,7 +4,8 @@ use Rattle.std.specs.Prelude.{nat_lt, nat_le, slice_get}
 use Rattle.std.proofs.lemmas.Bool.Decides.{nat_tests}
 use Rattle.eds_host.specs.declared.due.Due.{Due}
 use Rattle.eds_host.specs.Laws.{NotBefore}
-use Rattle.eds_host.specs.Systems.{System, StateNow, due_at, first_of, first_due, has_come}
+use Rattle.eds_plan.specs.States.{StateNow}
+use Rattle.eds_host.specs.Systems.{System, due_at, first_of, first_due, has_come}
 
 -- what is due isn't due before this time
 abbrev pub ComesBy : ℕ → Option Due → Type 0

@@ -3,6 +3,7 @@ use Rattle.std.proofs.Common.{◌≡◌, ◌<◌, ℕ, zero, suc, List, [], ◌�
 use Rattle.eds_types.specs.PackedSizes.{packs}
 use Rattle.eds_types.specs.Rows.{Table}
 use Rattle.eds_plan.specs.Plans.{component_at}
+use Rattle.eds_plan.specs.States.{StateNow}
 use Rattle.eds_plan.specs.declared.component.ComponentPlan.{ComponentPlan}
 use Rattle.eds_plan.specs.declared.machine.Machine.{Machine}
 use Rattle.eds_plan.specs.declared.machine.Transition.{Transition}
@@ -12,7 +13,6 @@ use Rattle.eds_machine.specs.Reactions.{fires, standing}
 use Rattle.eds_machine.proofs.MachineLaws.{IsLater, moment_later, moments_pass}
 use Rattle.eds_host.specs.Hosts.{TimersFireOnce}
 use Rattle.eds_host.specs.Machines.{at_event, reacted}
-use Rattle.eds_host.specs.Systems.{StateNow}
 
 any_later : (m : MachineState) (xs : List Transition) (at : ℕ) → AnyHas m xs at → m.passed < at
 any_later m [] at h = absurd h

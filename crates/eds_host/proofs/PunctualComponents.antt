@@ -3,6 +3,7 @@ use Rattle.std.proofs.Common.{◌≤◌, ◌+◌, ℕ, List, slice_get}
 use Rattle.eds_types.specs.PackedSizes.{packs}
 use Rattle.eds_types.specs.Rows.{Table}
 use Rattle.eds_plan.specs.Plans.{component_at}
+use Rattle.eds_plan.specs.States.{StateNow}
 use Rattle.eds_plan.specs.declared.component.ComponentPlan.{ComponentPlan}
 use Rattle.eds_machine.specs.Laws as machines
 use Rattle.eds_machine.specs.Reactions.{Reacting}
@@ -10,7 +11,7 @@ use Rattle.eds_machine.proofs.Punctual.{fires_late, receives_late}
 use Rattle.eds_host.specs.Hosts.{ComponentsArePunctual}
 use Rattle.eds_host.specs.Laws.{NotBefore}
 use Rattle.eds_host.specs.Machines.{at_event, outcome, reacted, takes, waits_of}
-use Rattle.eds_host.specs.Systems.{Coming, arrival, moment, StateNow}
+use Rattle.eds_host.specs.Systems.{Coming, arrival, moment}
 use Rattle.eds_host.proofs.Adapted.{none_waits, waits_after}
 
 takes_late : (t : Table) (c : ComponentPlan) (e : Coming) (now b : ℕ) (r : Reacting) → b ≤ now + 1 → machines.NoneBefore b c.machines r.machines → machines.NoneBefore b c.machines (takes t c e now r).machines

@@ -22,6 +22,7 @@ use Rattle.eds_plan.specs.Lines as lines
 use Rattle.eds_plan.specs.Outs.{Signal}
 use Rattle.eds_plan.specs.Plans.{component_at, variable_types}
 use Rattle.eds_plan.specs.Sends.{Sent, primitive, halted}
+use Rattle.eds_plan.specs.States.{StateNow}
 use Rattle.eds_plan.specs.declared.activity.Op.TheVariants as op
 use Rattle.eds_plan.specs.declared.component.ComponentPlan.{ComponentPlan}
 use Rattle.eds_plan.specs.declared.component.EndPlan.{EndPlan}
@@ -41,7 +42,7 @@ use Rattle.eds_host.specs.Hosts.{BringsOne, brought_to, reading, way_to}
 use Rattle.eds_host.specs.Machines.{at_event, reacted, started}
 use Rattle.eds_host.specs.Plans.{Arrives, IsSent, Leaves, MayGoOut, system}
 use Rattle.eds_host.specs.Runs.{Course, LineGoes, after, all_start, begun, comes, follows, frame_goes, go_by, go_on, happening, most, nothing, storm, time_passes}
-use Rattle.eds_host.specs.Systems.{System, World, StateNow, Happening, Reaction, arrival, moment, arrives, delivered_at, first_due, fires as fires_at, has_come, leaves_at, leaving, next, next_by, no_state, queued, sent_at, settles, state_at}
+use Rattle.eds_host.specs.Systems.{System, World, Happening, Reaction, arrival, moment, arrives, delivered_at, first_due, fires as fires_at, has_come, leaves_at, leaving, next, next_by, no_state, queued, sent_at, settles, state_at}
 use Rattle.eds_host.specs.Worlds.{IsRunnable, IsSound, IsSoundCourse, LinesHaveCourses, LinesKeepSound, MayComeBy}
 use Rattle.eds_host.proofs.Adapted.{all_sent, component_has, end_is}
 use Rattle.eds_host.proofs.Beginnings.{last_or}

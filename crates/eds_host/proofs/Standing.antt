@@ -4,11 +4,12 @@ use Rattle.std.specs.Prelude.{slice_set, slice_get, slice_index_or, unwrap_or, â
 use Rattle.eds_types.specs.Rows.{Table}
 use Rattle.eds_plan.specs.declared.component.ComponentPlan.{ComponentPlan}
 use Rattle.eds_plan.specs.declared.run.CompState.{CompState}
+use Rattle.eds_plan.specs.States.{StateNow, state_now}
 use Rattle.eds_host.specs.Machines.{IsStateOf, waits_of}
 use Rattle.eds_host.specs.Plans.{AreStates, NoneBefore}
 use Rattle.eds_host.specs.Laws.{NotBefore}
 use Rattle.eds_host.specs.Settings.{state_in}
-use Rattle.eds_host.specs.Systems.{StateNow, Reaction, state_now, no_state}
+use Rattle.eds_host.specs.Systems.{Reaction, no_state}
 use Rattle.eds_plan.specs.Sends.{Sent}
 
 -- ---- lists

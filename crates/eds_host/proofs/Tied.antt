@@ -3,7 +3,8 @@ use Rattle.std.proofs.Common.{◌≡◌, ◌<◌, ◌+◌, ℕ, zero, suc, List,
 use Rattle.std.specs.Prelude.{slice_set}
 use Rattle.eds_host.specs.Mirrors.{dues_of, first_in}
 use Rattle.eds_host.specs.Settings.{state_in}
-use Rattle.eds_host.specs.Systems.{System, StateNow, due_at, first_of, first_due}
+use Rattle.eds_plan.specs.States.{StateNow}
+use Rattle.eds_host.specs.Systems.{System, due_at, first_of, first_due}
 
 pub dues_length : (sys : System) (comp : ℕ) (xs : List StateNow) → length (dues_of sys comp xs) ≡ length xs
 dues_length sys comp [] = refl

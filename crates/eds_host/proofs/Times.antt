@@ -3,10 +3,11 @@ use Rattle.std.proofs.Common.{◌≡◌, ◌≤◌, ◌+◌, ℕ, zero, suc, Lis
 use Rattle.std.specs.Prelude.{IfSome, slice_set, slice_get, unwrap_or, nat_le, ◌⊎◌}
 use Rattle.std.proofs.lemmas.Bool.Decides.{nat_tests}
 use Rattle.eds_plan.specs.Outs.{Signal}
+use Rattle.eds_plan.specs.States.{StateNow}
 use Rattle.eds_host.specs.declared.due.Due.{Due}
 use Rattle.eds_host.specs.Laws.{AllTakeTheirTime, IsOnTime, IsPunctual, NoneIsLate, NotBefore, TakesItsTime, TimeGoesOn, TimersAreOnTime, WaitFrom}
 use Rattle.eds_host.specs.Runs.{Chain}
-use Rattle.eds_host.specs.Systems.{System, World, Happening, StateNow, Coming, arrival, moment, next, next_by, fires, has_come, first_due, settles, arrives, no_state}
+use Rattle.eds_host.specs.Systems.{System, World, Happening, Coming, arrival, moment, next, next_by, fires, has_come, first_due, settles, arrives, no_state}
 use Rattle.eds_host.proofs.Moments.{ComesBy, due_waited, first_late, none_before, rest_later}
 
 got : {A : Type 0} (a b : A) → Some a ≡ Some b → a ≡ b

@@ -2,6 +2,7 @@
 use Rattle.std.specs.Prelude.{◌≡◌, ◌≢◌, ◌≤◌, ◌-◌, ℕ, List, [], Option, Some, None, slice_get, slice_set}
 use Rattle.eds_types.specs.Rows.{Table}
 use Rattle.eds_plan.specs.Plans.{component_at}
+use Rattle.eds_plan.specs.States.{StateNow}
 use Rattle.eds_plan.specs.declared.component.ComponentPlan.{ComponentPlan}
 use Rattle.eds_plan.specs.declared.machine.Machine.{Machine}
 use Rattle.eds_plan.specs.declared.machine.Trigger.TheVariants as trigger
@@ -11,7 +12,7 @@ use Rattle.eds_machine.specs.Reactions.{standing, taken}
 use Rattle.eds_host.specs.declared.due.Due.{Due}
 use Rattle.eds_host.specs.Machines.{reacted}
 use Rattle.eds_host.specs.Plans.{system}
-use Rattle.eds_host.specs.Systems.{System, StateNow, World, Happening, Coming, arrives, moment, next}
+use Rattle.eds_host.specs.Systems.{System, World, Happening, Coming, arrives, moment, next}
 
 -- ---- the first of equal moments
 

@@ -16,6 +16,7 @@ use Rattle.eds_plan.specs.Lines.{Told, starts, passes, framed}
 use Rattle.eds_plan.specs.Lines as lines
 use Rattle.eds_plan.specs.Outs.{Report}
 use Rattle.eds_plan.specs.Plans.{component_at}
+use Rattle.eds_plan.specs.States.{StateNow}
 use Rattle.eds_plan.specs.declared.activity.Op.TheVariants as op
 use Rattle.eds_plan.specs.declared.component.ComponentPlan.{ComponentPlan}
 use Rattle.eds_plan.specs.declared.component.EndPlan.{EndPlan}
@@ -39,7 +40,7 @@ use Rattle.eds_host.specs.Plans.{Arrives, system}
 use Rattle.eds_machine.specs.Moments.{HasMoment}
 use Rattle.eds_host.specs.Runs.{Course, LineGoes, Reading, RunGoes, time_after}
 use Rattle.eds_host.specs.Steps.{IsLine}
-use Rattle.eds_host.specs.Systems.{StateNow, System, World, moment, sent_at}
+use Rattle.eds_host.specs.Systems.{System, World, moment, sent_at}
 use Rattle.eds_host.specs.Wires.{other_end, ties_of}
 
 -- ---- what a host is

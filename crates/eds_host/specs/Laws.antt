@@ -2,9 +2,10 @@
 use Rattle.std.specs.Prelude.{◌≡◌, ◌≤◌, ◌+◌, ℕ, zero, suc, List, [], ◌∷◌, ◌++◌, map, take, if◌then◌else◌, slice_get, Option, Some, None, is_some, IfSome, Result, ◌⊎◌}
 use Rattle.eds_plan.specs.Outs.{Signal, Report, left, stopped}
 use Rattle.eds_plan.specs.Sends.{Sent, primitive, halted}
+use Rattle.eds_plan.specs.States.{StateNow}
 use Rattle.eds_plan.specs.declared.run.End.{End}
 use Rattle.eds_host.specs.declared.due.Due.{Due}
-use Rattle.eds_host.specs.Systems.{System, World, StateNow, Happening, Coming, arrival, arrives, moment, state_at, queued, sent_at, first_due, has_come, next}
+use Rattle.eds_host.specs.Systems.{System, World, Happening, Coming, arrival, arrives, moment, state_at, queued, sent_at, first_due, has_come, next}
 use Rattle.eds_base.specs.declared.fault.Fault.{Fault}
 use Rattle.eds_types.specs.Plain.{Plain}
 use Rattle.eds_host.specs.Runs.{Chain, Reading, Rests, Storms, all_start, comes, go_on, happening, nothing, outs_of, time_passes}

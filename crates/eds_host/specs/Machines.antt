@@ -3,12 +3,13 @@ use Rattle.std.specs.Prelude.{◌<◌, ◌^◌, ℕ, List, [], map, Option, slic
 use Rattle.eds_types.specs.PackedSizes.{packs}
 use Rattle.eds_types.specs.Rows.{Table}
 use Rattle.eds_plan.specs.Plans.{component_at, variable_types}
+use Rattle.eds_plan.specs.States.{StateNow}
 use Rattle.eds_plan.specs.declared.component.ComponentPlan.{ComponentPlan}
 use Rattle.eds_act.specs.Does.{AllConform, budget}
 use Rattle.eds_machine.specs.Conditions.{AreTimely}
 use Rattle.eds_machine.specs.Moments.{due_from}
 use Rattle.eds_machine.specs.Reactions.{Reacting, begins, fires, first_values, receives, starts}
-use Rattle.eds_host.specs.Systems.{StateNow, Coming, arrival, moment, Reaction}
+use Rattle.eds_host.specs.Systems.{Coming, arrival, moment, Reaction}
 
 -- the state of a component before it starts: first values, entry states since time 0, no transaction under way
 abbrev pub unstarted : List ComponentPlan → (component : ℕ) → StateNow

@@ -5,7 +5,8 @@ use Rattle.std.specs.declared.cmp.Ordering.{Ordering}
 use Rattle.std.specs.BTreeMap.{BTreeMap, get}
 use Rattle.eds_host.specs.declared.due.Due.{Due}
 use Rattle.eds_host.specs.declared.due.When.{When}
-use Rattle.eds_host.specs.Systems.{System, StateNow, due_at, first_of}
+use Rattle.eds_plan.specs.States.{StateNow}
+use Rattle.eds_host.specs.Systems.{System, due_at, first_of}
 
 -- by moment, and then by component
 abbrev pub when_cmp : When → When → Ordering

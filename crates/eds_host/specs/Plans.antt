@@ -6,6 +6,7 @@ use Rattle.eds_plan.specs.Carried.{OpFits, arriving, carried, leaving}
 use Rattle.eds_plan.specs.Ends.{end_at}
 use Rattle.eds_plan.specs.Outs.{Signal, Report, left, stopped, refused}
 use Rattle.eds_plan.specs.Sends.{Sent, primitive, halted}
+use Rattle.eds_plan.specs.States.{StateNow}
 use Rattle.eds_plan.specs.declared.component.ComponentPlan.{ComponentPlan}
 use Rattle.eds_plan.specs.declared.component.EndPlan.{EndPlan}
 use Rattle.eds_plan.specs.declared.instance.Member.{Member}
@@ -14,7 +15,7 @@ use Rattle.eds_plan.specs.declared.run.Way.{Way}
 use Rattle.eds_act.specs.Does.{AllConform}
 use Rattle.eds_host.specs.Machines.{unstarted, started, reacted, waits_of, IsStateOf}
 use Rattle.eds_host.specs.Laws.{NotBefore}
-use Rattle.eds_host.specs.Systems.{StateNow, System, Coming, arrival, moment, sent_at}
+use Rattle.eds_host.specs.Systems.{System, Coming, arrival, moment, sent_at}
 
 -- the components of a plan, whose ends are tied so
 abbrev pub system : Table → List ComponentPlan → (End → Option End) → System

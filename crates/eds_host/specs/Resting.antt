@@ -6,6 +6,7 @@ use Rattle.eds_plan.specs.Fitting.{PlanFits}
 use Rattle.eds_plan.specs.Lines.{Told, starts, passes, framed}
 use Rattle.eds_plan.specs.Lines as lines
 use Rattle.eds_plan.specs.Outs.{Report, Signal}
+use Rattle.eds_plan.specs.States.{StateNow}
 use Rattle.eds_plan.specs.declared.component.ComponentPlan.{ComponentPlan}
 use Rattle.eds_act.specs.Does.{Conforms}
 use Rattle.eds_host.specs.declared.host.Phase.{Phase}
@@ -17,7 +18,7 @@ use Rattle.eds_host.specs.Plans.{AreStates, Arrives, NoneBefore, WiresFit, syste
 use Rattle.eds_host.specs.Runs.{Course, LineGoes}
 use Rattle.eds_host.specs.Settings.{running}
 use Rattle.eds_host.specs.Steps.{IsLine}
-use Rattle.eds_host.specs.Systems.{StateNow, World, sent_at}
+use Rattle.eds_host.specs.Systems.{World, sent_at}
 use Rattle.eds_host.specs.Wires.{other_end}
 use Rattle.eds_host.specs.declared.handled.Handled.{Handled}
 use Rattle.eds_host.specs.declared.setting.Setting.{Setting}

@@ -6,8 +6,9 @@ use Rattle.eds_plan.specs.declared.run.Way.{Way}
 use Rattle.eds_plan.specs.Lines.{Told, starts, passes, framed}
 use Rattle.eds_plan.specs.Lines as lines
 use Rattle.eds_plan.specs.Outs.{Signal, Report, refused}
+use Rattle.eds_plan.specs.States.{StateNow}
 use Rattle.eds_types.specs.Plain.{Plain}
-use Rattle.eds_host.specs.Systems.{System, StateNow, World, Happening, Reaction, next, arrives, arrival, queued, leaving, sent_at}
+use Rattle.eds_host.specs.Systems.{System, World, Happening, Reaction, next, arrives, arrival, queued, leaving, sent_at}
 
 -- ---- the course of a line
 

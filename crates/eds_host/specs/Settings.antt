@@ -4,6 +4,7 @@ use Rattle.eds_plan.specs.Outs.{Signal, Report}
 use Rattle.eds_plan.specs.declared.component.ComponentPlan.{ComponentPlan}
 use Rattle.eds_host.specs.declared.setting.Setting.{Setting}
 use Rattle.eds_plan.specs.Fitting.{PlanFits}
+use Rattle.eds_plan.specs.States.{StateNow}
 use Rattle.eds_act.specs.Does.{Conforms}
 use Rattle.eds_host.specs.Wires.{other_end}
 use Rattle.eds_host.specs.Machines.{waits_of}
@@ -12,7 +13,7 @@ use Rattle.eds_host.specs.declared.handled.Handled.TheVariants.{Done, Storm}
 use Rattle.eds_host.specs.declared.step.Step.{Step}
 use Rattle.eds_host.specs.declared.step.Step.TheVariants as step
 use Rattle.eds_host.specs.Plans.{system, WiresFit, NoneBefore, MayAllGoOut}
-use Rattle.eds_host.specs.Systems.{System, World, StateNow, Coming, Reaction, no_state}
+use Rattle.eds_host.specs.Systems.{System, World, Coming, Reaction, no_state}
 
 -- the components that run
 abbrev pub running : Setting → System

@@ -1,27 +1,15 @@
 -- A system of components that react to what comes to them, its world, and what one event makes of that world.
-use Rattle.std.specs.Prelude.{◌+◌, ℕ, List, [], ◌∷◌, ◌++◌, map, if◌then◌else◌, nat_lt, nat_le, slice_get, slice_set, Option, Some, None, unwrap_or}
-use Rattle.eds_types.specs.Plain.{Plain, plain}
-use Rattle.eds_plan.specs.declared.run.CompState.{CompState}
+use Rattle.std.specs.Prelude.{◌+◌, ℕ, List, [], ◌∷◌, ◌++◌, if◌then◌else◌, nat_lt, nat_le, slice_get, slice_set, Option, Some, None, unwrap_or}
+use Rattle.eds_types.specs.Plain.{Plain}
 use Rattle.eds_plan.specs.declared.run.End.{End}
-use Rattle.eds_plan.specs.declared.run.MachineState.{MachineState}
-use Rattle.eds_plan.specs.declared.run.Outstanding.{Outstanding}
 use Rattle.eds_plan.specs.declared.run.Way.{Way}
 use Rattle.eds_plan.specs.declared.activity.Op.{Op}
 use Rattle.eds_plan.specs.Outs.{Signal, Report, left, stopped}
 use Rattle.eds_plan.specs.Sends.{Sent, primitive, halted}
+use Rattle.eds_plan.specs.States.{StateNow}
 use Rattle.eds_host.specs.declared.due.Due.{Due}
 
 -- ---- components
-
--- the state of a component as plain data
-pub record StateNow : Type 0 where
-  pub variables : List Plain
-  pub machines : List MachineState
-  pub outstanding : List Outstanding
-
--- the plain data of a state
-abbrev pub state_now : CompState → StateNow
-state_now s = record { variables = map plain s.variables; machines = s.machines; outstanding = s.outstanding }
 
 -- what comes to a component: a primitive, or a moment of one of its machines
 pub data Coming : Type 0 where

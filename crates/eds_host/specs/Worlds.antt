@@ -7,13 +7,14 @@ use Rattle.eds_plan.specs.Fitting.{PlanFits}
 use Rattle.eds_plan.specs.Lines.{Told, starts, passes, framed}
 use Rattle.eds_plan.specs.Lines as lines
 use Rattle.eds_plan.specs.Plans.{component_at, variable_types}
+use Rattle.eds_plan.specs.States.{StateNow}
 use Rattle.eds_plan.specs.declared.component.ComponentPlan.{ComponentPlan}
 use Rattle.eds_plan.specs.declared.run.End.{End}
 use Rattle.eds_act.specs.Does.{AllConform, Conforms}
 use Rattle.eds_host.specs.Hosts.{ArgumentsAreClear, BringsOne, reading}
 use Rattle.eds_host.specs.Plans.{Arrives, MayAllGoOut, WiresFit, system}
 use Rattle.eds_host.specs.Runs.{Course, LineGoes}
-use Rattle.eds_host.specs.Systems.{StateNow, World, sent_at}
+use Rattle.eds_host.specs.Systems.{World, sent_at}
 
 -- each component has a state, whose variables have values that pack, and what is to be delivered may arrive
 pub record IsSound (t : Table) (plan : List ComponentPlan) (w : World) : Type 0 where

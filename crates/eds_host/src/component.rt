@@ -7,7 +7,7 @@ ghost use Rattle.eds_host.specs.Comings.{coming};
 ghost use Rattle.eds_host.specs.Laws.{NotBefore};
 ghost use Rattle.eds_host.specs.Machines.{started, reacted, unstarted, waits_of, IsStateOf};
 ghost use Rattle.eds_host.specs.Plans.{MayCome, IsSent};
-ghost use Rattle.eds_host.specs.Systems.{state_now};
+ghost use Rattle.eds_plan.specs.States.{state_now};
 ghost use Rattle.eds_plan.specs.Fitting.{PlanFits};
 ghost use Rattle.eds_plan.specs.Sends.{sent};
 

@@ -109,7 +109,7 @@ impl<'a> Host<'a> {
     ghost use Rattle.eds_host.specs.Machines.{IsStateOf};
     ghost use Rattle.eds_host.specs.Links.{Stops};
     ghost use Rattle.eds_host.specs.Runs.{time_after, unbegun};
-    ghost use Rattle.eds_host.specs.Systems.{state_now};
+    ghost use Rattle.eds_plan.specs.States.{state_now};
     ghost use Rattle.eds_host.specs.Wires.{ties_of};
     ghost use Rattle.eds_host.specs.declared.host.Phase.TheVariants.{Fresh, Rests, Spent, Storm};
     ghost use Rattle.eds_plan.specs.Fitting.{PlanFits};

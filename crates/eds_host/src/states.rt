@@ -18,7 +18,7 @@ impl Model for States {
     ghost use Rattle.std.specs.Prelude.{List, map};
     ghost use Rattle.std.specs.Coded.{codes};
     ghost use Rattle.eds_types.specs.PlainCode.{plain_code};
-    ghost use Rattle.eds_host.specs.Systems.{StateNow, state_now};
+    ghost use Rattle.eds_plan.specs.States.{StateNow, state_now};
 
     ghost Value = { List StateNow };
 
@@ -31,10 +31,10 @@ impl States {
     ghost use Rattle.std.specs.Prelude.{◌≡◌, ◌≤◌, ◌<◌, ◌+◌, ◌++◌, ℕ, [], ◌∷◌, OnOk, Some, length, map, slice_get, slice_set};
     ghost use Rattle.std.specs.List.{AllByRecursion};
     ghost use Rattle.eds_plan.specs.Sends.{sent};
+    ghost use Rattle.eds_plan.specs.States.{state_now};
     ghost use Rattle.eds_host.specs.Comings.{coming};
     ghost use Rattle.eds_host.specs.Plans.{AreStates, IsSent, MayCome, NoneBefore};
     ghost use Rattle.eds_host.specs.Settings.{IsSetting, state_in, reaction_in};
-    ghost use Rattle.eds_host.specs.Systems.{state_now};
 
     /// No components.
     pub fn new(alloc: Global) -> States

@@ -3,3 +3,4 @@ pub mod Matches
 pub mod Waiting
 pub mod Called
 pub mod Alike
+pub mod PlainStates

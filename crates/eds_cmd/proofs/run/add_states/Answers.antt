@@ -1,5 +1,5 @@
 use Rattle.std.proofs.Common.{◌++◌, ap, ◌∙◌, arith}
-use Rattle.eds_host.specs.Systems.{state_now}
+use Rattle.eds_plan.specs.States.{state_now}
 use Rattle.eds_cmd.proofs.Running.{states_next}
 use Rattle.eds_cmd.proofs.run.add_states.Goals as goal
 

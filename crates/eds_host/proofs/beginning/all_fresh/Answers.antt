@@ -1,6 +1,6 @@
 use Rattle.std.proofs.Common.{arith, length}
 use Rattle.eds_host.specs.Machines.{unstarted}
-use Rattle.eds_host.specs.Systems.{state_now}
+use Rattle.eds_plan.specs.States.{state_now}
 use Rattle.eds_host.proofs.Beginnings.{fresh_next}
 use Rattle.eds_host.proofs.beginning.all_fresh.Goals as goal
 

@@ -1,7 +1,7 @@
 use Rattle.std.proofs.Common.{◌∷◌, [], None, arith, ap, sym, subst, length, length-append, List}
 use Rattle.eds_host.specs.Plans.{AreBegun}
 use Rattle.eds_host.specs.Settings.{running}
-use Rattle.eds_host.specs.Systems.{StateNow, state_now}
+use Rattle.eds_plan.specs.States.{StateNow, state_now}
 use Rattle.eds_host.proofs.Tied.{dues_length}
 use Rattle.eds_host.proofs.Beginnings.{begun_more, tied_more}
 use Rattle.eds_host.proofs.beginning.begin_one.Goals as goal

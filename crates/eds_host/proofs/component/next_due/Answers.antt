@@ -1,9 +1,9 @@
 use Rattle.eds_plan.specs.Plans.{component_at}
 use Rattle.eds_plan.specs.Fitting.{ComponentFits}
+use Rattle.eds_plan.specs.States.{state_now}
 use Rattle.eds_act.specs.Does.{Conforms}
 use Rattle.eds_machine.proofs.MachineFits.{machines_fit}
 use Rattle.eds_machine.proofs.Times.{timely_count}
-use Rattle.eds_host.specs.Systems.{state_now}
 use Rattle.eds_host.proofs.Adapted.{all_early, component_has, state_at_is}
 use Rattle.eds_host.proofs.component.next_due.Goals as goal
 

@@ -2,6 +2,7 @@ use Rattle.std.proofs.Common.{ap, sym, subst, ◌∙◌, [], List, refl}
 use Rattle.eds_types.specs.PackedSizes.{packs}
 use Rattle.eds_plan.specs.Plans.{component_at}
 use Rattle.eds_plan.specs.Fitting.{ComponentFits}
+use Rattle.eds_plan.specs.States.{state_now}
 use Rattle.eds_plan.specs.declared.run.MachineState.{MachineState}
 use Rattle.eds_plan.specs.declared.run.Send.{Send}
 use Rattle.eds_act.specs.Does.{Conforms, budget}
@@ -11,7 +12,7 @@ use Rattle.eds_machine.specs.Reactions.{reacting, reacts}
 use Rattle.eds_machine.proofs.Leaving.{reactions_send_well}
 use Rattle.eds_machine.proofs.MachineFits.{machines_fit}
 use Rattle.eds_machine.proofs.Punctual.{reactions_are_punctual}
-use Rattle.eds_host.specs.Systems.{Reaction, state_now}
+use Rattle.eds_host.specs.Systems.{Reaction}
 use Rattle.eds_host.proofs.Adapted.{component_has, may_occur, none_waits, reacted_is, sent_fits, state_at_is, state_early, state_of_is, waits_after}
 use Rattle.eds_host.proofs.component.react.Goals as goal
 

@@ -3,6 +3,7 @@ use Rattle.eds_types.specs.PackedSizes.{packs}
 use Rattle.eds_plan.specs.Plans.{component_at}
 use Rattle.eds_plan.specs.Sends.{sent}
 use Rattle.eds_plan.specs.Fitting.{ComponentFits}
+use Rattle.eds_plan.specs.States.{state_now}
 use Rattle.eds_plan.specs.declared.run.MachineState.{MachineState}
 use Rattle.eds_plan.specs.declared.run.Send.{Send}
 use Rattle.eds_act.specs.Does.{Conforms}
@@ -12,7 +13,7 @@ use Rattle.eds_machine.specs.Reactions.{starts}
 use Rattle.eds_machine.proofs.Leaving.{starts_send_well}
 use Rattle.eds_machine.proofs.MachineFits.{machines_fit}
 use Rattle.eds_machine.proofs.Punctual.{starts_are_punctual}
-use Rattle.eds_host.specs.Systems.{Reaction, state_now}
+use Rattle.eds_host.specs.Systems.{Reaction}
 use Rattle.eds_host.proofs.Adapted.{component_has, sent_fits, started_is, state_of_is, waits_after}
 use Rattle.eds_host.proofs.component.start.Goals as goal
 
