@@ -47,26 +47,7 @@ use Rattle.eds_script.specs.Stops.{unless_stop}
 use Rattle.eds_script.specs.Words.{Saying, ties, ticks, arrives, form}
 use Rattle.eds_script.proofs.Knowing.{found-there, known-at, there-known}
 use Rattle.eds_script.proofs.Scripting.{says, time-more}
-
--- ---- one step after another
-
--- what was there before the next step
-bound : {A B E : Type 0} (r : Result A E) (f : A → Result B E) (x : B) → (r >>= f) ≡ Ok x → (a : A) × (r ≡ Ok a) × (f a ≡ Ok x)
-bound (Ok a) f x h = (a, refl, h)
-bound (Err e) f x h = cc
-
--- what was there and didn't stop
-there : {A E : Type 0} (s : E) (o : Option A) (a : A) → or_stop s o ≡ Ok a → o ≡ Some a
-there s None a h = cc
-there s (Some b) a h = let is : b ≡ a = cc in ap Some is
-
--- a test that let it go on
-tested : (w : LineWhy) (b : Bool) (a : Bool) → unless_stop w b ≡ Ok a → b ≡ true
-tested w true a h = refl
-tested w false a h = cc
-
-inside : {A E : Type 0} (x y : A) → ◌≡◌ {A = Result A E} (Ok x) (Ok y) → x ≡ y
-inside x y e = cc
+use Rattle.eds_script.proofs.Steps.{bound, inside, tested, there}
 
 -- ---- ends of wires
 

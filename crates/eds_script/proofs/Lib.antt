@@ -6,11 +6,13 @@ mod Handing
 mod Knowing
 mod OnlyOne
 mod Packing
+pub mod PairLaws
 pub mod Pieces
 mod Places
 mod Printing
 mod Scripting
+pub mod Steps
 mod TextLines
-mod Utf8
+pub mod Utf8
 pub mod Alike
 pub mod Untied

@@ -1,4 +1,4 @@
--- The number of a tick.
+-- Numbers of 1 to 19 digits, and the time of a tick.
 use Rattle.std.specs.Prelude.{ℕ, ◌+◌, ◌^◌, ◌&&◌, nat_le, nat_lt, List, length, Bool, Option, Result, Ok}
 use Rattle.std.specs.Char.{is_ascii_digit}
 use Rattle.std.specs.List.{list_all}
@@ -16,10 +16,6 @@ are_digits text = nat_lt 0 (length text) && (nat_le (length text) 19 && list_all
 -- the number that 1 to 19 digits spell
 abbrev pub number_of : List ℕ → Option ℕ
 number_of text = only (are_digits text) (decimal_value 0 text)
-
--- a tick of at most 10^18 ns
-abbrev pub up_to_tick : ℕ → Option ℕ
-up_to_tick n = only (nat_le n (10 ^ 18)) n
 
 -- a tick of at most 10^18 ns that ends, after so much time, by 2^63 - 1 ns
 abbrev pub is_in_time : ℕ → ℕ → Bool

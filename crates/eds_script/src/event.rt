@@ -22,7 +22,7 @@ ghost use Rattle.eds_script.specs.Names.{machine_name as name_of_machine, member
 use crate::frame::{Frame, Spot, command_frame, front, sent_at};
 use crate::members::carried_fields;
 use crate::names::{Place, component_name, machine_name, member_name_at, place_of_end};
-use crate::print::{add, line_given, line_of, value_at};
+use crate::print::{line_given, line_of, push_octets, value_at};
 use eds_base::{CompId, Fail, Fault, Memory, Octets, TypeId};
 use eds_pack::{pack, pack_into};
 use eds_plan::{Argument, End, FieldList, Halt, Level, Member, Op, Out, Plan, Primitive};
@@ -64,7 +64,7 @@ fn add_hex(text: &mut Vec<u8>, octets: &[u8]) -> Result<(), Memory>
     let mut digits = [0u8; 2 * FEW_OCTETS];
     let hex = &mut digits[..2 * octets.len()];
     match hex::encode_to_slice(octets, hex) {
-        Ok(()) => add(text, hex),
+        Ok(()) => push_octets(text, hex),
         Err(_) => unreachable!(),
     }
 }
@@ -85,7 +85,7 @@ fn add_frame(
         Ok(size) => add_hex(text, &room[..size.div_ceil(8) as usize]),
         Err(_) => {
             let hex = frame_hex(alloc, table, id, value)?;
-            add(text, hex.as_bytes())
+            push_octets(text, hex.as_bytes())
         }
     }
 }

@@ -61,8 +61,8 @@ fn why_of(fail: Fail<ValueFail>) -> Fail<LineWhy>
     }
 }
 
-// Whether a value packs as a type.
-fn packs(table: &TypeTable, id: TypeId, value: &Value) -> bool
+/// Whether a value packs as a type.
+pub fn packs(table: &TypeTable, id: TypeId, value: &Value) -> bool
     requires known { id.0 < length table.now }
     ensures { result ≡ packs_as table.now id.0 (plain value.now) }
 {

@@ -21,8 +21,12 @@ mod words;
 
 pub use event::print_event;
 pub use frame::{Frame, frame_of};
-pub use given::frame_octets;
+pub use given::{frame_octets, packs};
 pub use lines::{cut, is_skipped, without_return};
+pub use names::{name_of_member, state_name};
+pub use number::number_of;
+pub use print::push_octets;
 pub use script::{Lines, Script, parse_script};
-pub use state::print_state;
+pub use state::{add_variables, add_waits, print_state};
 pub use why::{BadLine, LineWhy};
+pub use words::{last_word, two_words, word_and_rest};

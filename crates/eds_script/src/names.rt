@@ -33,7 +33,7 @@ fn machine_in(component: &ComponentPlan, machine: u16) -> &str
 }
 
 /// The name of a state.
-pub(crate) fn state_name(machine: &Machine, at: u16) -> &str
+pub fn state_name(machine: &Machine, at: u16) -> &str
     ensures { result.now ≡ name_of_state machine.now at }
 {
     match machine.states.get(at as usize) {
@@ -55,7 +55,8 @@ pub(crate) fn transaction_name(component: &ComponentPlan, number: u32) -> &str
 
 // ---- of members
 
-fn name_of(member: &Member) -> &str
+/// The name of a parameter or command.
+pub fn name_of_member(member: &Member) -> &str
     ensures { result.now ≡ name_in_member member.now }
 {
     match member {
@@ -76,7 +77,7 @@ pub(crate) fn member_name(end: &EndPlan, member: u16) -> &str
     ensures { result.now ≡ name_in_end (Some end.now) member }
 {
     match member_in(end, member) {
-        Some(member) => name_of(member),
+        Some(member) => name_of_member(member),
         None => "",
     }
 }

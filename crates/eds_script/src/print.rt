@@ -10,7 +10,7 @@ use eds_base::{Memory, Octets};
 use eds_types::Value;
 
 /// Puts octets behind others.
-pub(crate) fn add(text: &mut Vec<u8>, octets: &[u8]) -> Result<(), Memory>
+pub fn push_octets(text: &mut Vec<u8>, octets: &[u8]) -> Result<(), Memory>
     ensures { OnOk result (text.new.items ≡ text.old.items ++ octets.now) }
 {
     text.extend_from_slice(octets)?;
@@ -25,7 +25,7 @@ pub(crate) fn line_given(front: String, given: &[u8]) -> Result<Octets, Memory>
 {
     let mut line = front.into_bytes();
     line.push(b' ')?;
-    add(&mut line, given)?;
+    push_octets(&mut line, given)?;
     line.push(b'\n')?;
     Ok(Octets::from_vec(line))
 }

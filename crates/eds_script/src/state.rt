@@ -10,7 +10,7 @@ ghost use Rattle.eds_script.specs.Pairs.{texts_of};
 ghost use Rattle.eds_script.specs.States.{machine_line as line_of_machine, state_text, variable_line as line_of_variable, wait_line as line_of_wait};
 
 use crate::names::{end_name, member_name, state_name, transaction_name};
-use crate::print::{add, value_at};
+use crate::print::{push_octets, value_at};
 use eds_base::{CompId, Items, Memory, Octets};
 use eds_plan::{
     CompState, ComponentPlan, Machine, MachineState, Outstanding, Plan, VarPlan, end_text,
@@ -51,7 +51,7 @@ fn add_machines(
             return Ok(());
         };
         let line = machine_line(alloc, component, machine, *state)?;
-        add(text, line.as_bytes())?;
+        push_octets(text, line.as_bytes())?;
         place += 1;
         rest = after;
     }
@@ -76,12 +76,13 @@ fn add_variable(
     let name = variable.name.as_str();
     let front = format!(in alloc; "var {component} {name} ")?;
     let json = to_json(alloc, table, variable.id, value)?;
-    add(text, front.as_bytes())?;
-    add(text, json.as_slice())?;
-    add(text, "\n".as_bytes())
+    push_octets(text, front.as_bytes())?;
+    push_octets(text, json.as_slice())?;
+    push_octets(text, "\n".as_bytes())
 }
 
-fn add_variables(
+/// Puts a line `var COMPONENT VARIABLE JSON` for each variable of a component last, in document order.
+pub fn add_variables(
     alloc: Global,
     text: &mut Vec<u8>,
     table: &TypeTable,
@@ -135,7 +136,8 @@ fn wait_line(
     Ok(format!(in alloc; "wait {end} {member} {name}\n")?)
 }
 
-fn add_waits(
+/// Puts a line `wait END MEMBER NAME` for each transaction under way of a component last, in the order in which they began.
+pub fn add_waits(
     alloc: Global,
     text: &mut Vec<u8>,
     component: &ComponentPlan,
@@ -145,7 +147,7 @@ fn add_waits(
 {
     for waiting in outstanding {
         let line = wait_line(alloc, component, *waiting)?;
-        add(text, line.as_bytes())?;
+        push_octets(text, line.as_bytes())?;
     }
     Ok(())
 }

@@ -28,16 +28,16 @@ pub(crate) enum Saying<'a> {
     Arrives(Verb, &'a str, &'a str, &'a str),
 }
 
-// The first word, and the rest behind its space.
-fn word_and_rest(text: &str) -> Option<(&str, &str)>
+/// The first word of a text, and the rest behind the space that ends it. None exactly where there is no space.
+pub fn word_and_rest(text: &str) -> Option<(&str, &str)>
     ensures { option_map (λ p. (p.0.now, p.1.now)) result ≡ first_of text.now }
 {
     let (first, rest) = text.split_once(' ')?;
     Some((first, rest))
 }
 
-// A last word.
-fn last_word(text: &str) -> Option<&str>
+/// The text as a last word. None exactly where a space stands in it.
+pub fn last_word(text: &str) -> Option<&str>
     ensures { option_map (λ w. w.now) result ≡ last_of text.now }
 {
     match word_and_rest(text) {
@@ -46,7 +46,8 @@ fn last_word(text: &str) -> Option<&str>
     }
 }
 
-fn two_words(text: &str) -> Option<(&str, &str)>
+/// The two words of a text, cut by its one space. None exactly where it has fewer spaces or more.
+pub fn two_words(text: &str) -> Option<(&str, &str)>
     ensures { option_map (λ p. (p.0.now, p.1.now)) result ≡ two_of text.now }
 {
     let (first, rest) = word_and_rest(text)?;

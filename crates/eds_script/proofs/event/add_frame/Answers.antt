@@ -16,4 +16,4 @@ returns-in-Ok c =
 pub returns-in_ok-hex-in-Err : goal.returns-in_ok-hex-in-Err
 returns-in_ok-hex-in-Err c =
     let hex = c.in_ok-hex-in-Err.ensures in
-    when-done c.add.result (λ put. (hex.0, hex.1, put ∙ ap (λ o. c.args.text.now.items ++ o) (c.as_bytes.ensures.value ∙ hex.2))) c.add.ensures
+    when-done c.push_octets.result (λ put. (hex.0, hex.1, put ∙ ap (λ o. c.args.text.now.items ++ o) (c.as_bytes.ensures.value ∙ hex.2))) c.push_octets.ensures

@@ -1,7 +1,7 @@
 use Rattle.std.proofs.Common.{rules, ◌+◌, length, sym, ap, ◌∙◌, append-nil, arith}
 use Rattle.eds_script.specs.States.{machine_line}
 use Rattle.eds_plan.proofs.Called.{opened}
-use Rattle.eds_script.proofs.Printing.{texts-end, texts-step}
+use Rattle.eds_script.proofs.PairLaws.{texts-end, texts-step}
 use Rattle.eds_script.proofs.state.add_machines.Goals as goal
 
 pub returns-in_default-get : goal.returns-in_default-get
@@ -14,6 +14,6 @@ loop-rest-preserved c =
     let split = opened c.loop-rest.rest.now c.machine-item.result _ c.in-len1-up.len_at_least c.machine-item.is in
     let long = ap length split in
     record {
-      told = texts-step (machine_line c.args.component.now.name) c.loop-rest.rest.now _ c.machine-item.result c.loop-rest.place (c.loop-rest.place + 1) c.args.states.now c.in-Some.state.now c.loop-rest.text.items c.add.new.text.items _ _ split (sym c.in-Some.ensures) (search rules) (c.as_bytes.ensures.value ∙ c.in_ok-line.ensures) c.in_ok-add.ensures c.loop-rest.invariant.told;
+      told = texts-step (machine_line c.args.component.now.name) c.loop-rest.rest.now _ c.machine-item.result c.loop-rest.place (c.loop-rest.place + 1) c.args.states.now c.in-Some.state.now c.loop-rest.text.items c.push_octets.new.text.items _ _ split (sym c.in-Some.ensures) (search rules) (c.as_bytes.ensures.value ∙ c.in_ok-line.ensures) c.in_ok-push_octets.ensures c.loop-rest.invariant.told;
       within = omega (arith, long, c.loop-rest.invariant.within);
     }

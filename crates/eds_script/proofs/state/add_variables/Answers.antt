@@ -4,7 +4,7 @@ use Rattle.eds_types.specs.Plain.{Plain, plain}
 use Rattle.eds_script.specs.Fitting.{IsValueOf}
 use Rattle.eds_script.specs.States.{variable_line}
 use Rattle.eds_plan.proofs.Called.{opened}
-use Rattle.eds_script.proofs.Printing.{paired-behind, paired-here, texts-end, texts-step}
+use Rattle.eds_script.proofs.PairLaws.{paired-behind, paired-here, texts-end, texts-step}
 use Rattle.eds_script.proofs.state.add_variables.Goals as goal
 
 pub returns-in_default-value_at : goal.returns-in_default-value_at
