@@ -1,7 +1,10 @@
 //! The text of a type's layouts, made line by line, and no further once it is too long.
 
-ghost use Rattle.std.specs.Prelude.{◌≡◌, ◌∷◌, ◌++◌, [], ℕ, IfOk, OnOk, map};
+ghost use Rattle.std.specs.Prelude.{◌≡◌, ◌∷◌, ◌++◌, [], ℕ, Some, IfOk, OnOk, map};
 ghost use Rattle.std.specs.List.{flat_map};
+ghost use Rattle.eds_base.specs.declared.fault.Step.TheVariants as step;
+ghost use Rattle.eds_types.specs.Fields.{part_at};
+ghost use Rattle.eds_value.specs.Paths.{path_text as path_of_steps};
 ghost use Rattle.eds_layout.specs.AllFixed.{fix_in};
 ghost use Rattle.eds_layout.specs.Fixed.{fixed_size};
 ghost use Rattle.eds_layout.specs.Layouts.{plain_layout};
@@ -12,11 +15,12 @@ ghost use Rattle.eds_types.specs.Rows.{address, numbers_of, sequence};
 
 use crate::fixes::{fixes_of, joined, part_size};
 use crate::layouts::{is_container, keep_rising, plain_layouts};
-use crate::print::{add, add_sets, head_text, print_layout, row_text};
-use crate::rows::{part_of, row_of};
+use crate::print::{add, add_extent, add_head, add_kind, add_sets, name_of, print_layout};
+use crate::rows::{kind_of, part_of, path_of};
 use eds_base::{Memory, Octets, TypeId};
 use eds_overlap::solution_sets;
-use eds_types::{PathSet, TypeTable};
+use eds_types::{Part, PathSet, TypeTable};
+use eds_value::path_text;
 use std::alloc::Global;
 
 // How many bits the parts of a container have, which stand at these places.
@@ -38,6 +42,30 @@ fn bits_along(
     bits
 }
 
+// Puts the path of the part at a place from its container behind a text.
+fn add_path(
+    alloc: Global,
+    text: &mut Vec<u8>,
+    table: &TypeTable,
+    id: TypeId,
+    place: u16,
+    part: &Part,
+) -> Result<(), Memory>
+    requires { part_at table.now (id, place) ≡ Some part.now }
+    ensures { OnOk result (text.new.items ≡ text.old.items ++ path_of_steps table.now (step.Part id place ∷ [])) }
+{
+    match name_of(part) {
+        Some(name) => {
+            add(text, b"$.")?;
+            add(text, name.as_bytes())
+        }
+        None => {
+            let path = path_text(alloc, table, &path_of(id, place))?;
+            add(text, path.as_str().as_bytes())
+        }
+    }
+}
+
 // Puts the lines of a container's parts, which stand at these places, behind a text.
 fn add_parts(
     alloc: Global,
@@ -54,10 +82,11 @@ fn add_parts(
     let mut bits = Some(0);
     for place in places {
         let part = part_of(table, place.0, place.1);
-        let row = row_of(table, fixes, place.0, place.1, part, bits);
-        let line = row_text(alloc, table, &row)?;
-        add(text, line.as_bytes())?;
-        bits = joined(bits, row.size);
+        let size = part_size(table, fixes, part);
+        add_extent(text, bits, size)?;
+        add_path(alloc, text, table, place.0, place.1, part)?;
+        add_kind(text, kind_of(part))?;
+        bits = joined(bits, size);
     }
     Ok(())
 }
@@ -76,8 +105,7 @@ fn add_with_sets(
 {
     let sequence = table.sequence_of(alloc, id)?;
     let bits = bits_along(table, fixes, id, sequence.as_slice());
-    let head = head_text(alloc, table, id, bits)?;
-    add(text, head.as_bytes())?;
+    add_head(text, table, id, bits)?;
     add_parts(alloc, text, table, fixes, id, sequence.as_slice())?;
     add_sets(alloc, text, table, sets)?;
     Ok(())
