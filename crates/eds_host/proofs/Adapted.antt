@@ -50,7 +50,7 @@ end_is plan comp e lt same = ap (λ (o : Option ComponentPlan). o >>= λ c. slic
 
 -- ---- states
 
-timely_later : (now u : ℕ) (ms : List Machine) (rs : List MachineState) → now ≤ u → AreTimely now ms rs → AreTimely u ms rs
+pub timely_later : (now u : ℕ) (ms : List Machine) (rs : List MachineState) → now ≤ u → AreTimely now ms rs → AreTimely u ms rs
 timely_later now u [] [] le h = tt
 timely_later now u [] (r ∷ rs) le h = absurd h
 timely_later now u (m ∷ ms) [] le h = absurd h

@@ -1,5 +1,5 @@
 -- Components start one after another.
-use Rattle.std.proofs.Common.{◌≡◌, ℕ, zero, suc, ◌+◌, ◌-◌, ◌<◌, List, [], ◌∷◌, ◌++◌, Option, Some, None, refl, sym, ap, subst, ◌∙◌, append_assoc, append-nil, arith, length, inl, inr}
+use Rattle.std.proofs.Common.{◌≡◌, ℕ, zero, suc, ◌+◌, ◌-◌, ◌<◌, List, [], ◌∷◌, ◌++◌, Option, Some, None, refl, sym, ap, subst, ◌∙◌, append_assoc, append-nil, arith, length, take, inl, inr}
 use Rattle.std.specs.Prelude.{slice_set, slice_get, ◌⊎◌}
 use Rattle.eds_types.specs.Rows.{Table}
 use Rattle.eds_plan.specs.declared.component.ComponentPlan.{ComponentPlan}
@@ -73,3 +73,22 @@ fresh_next f i n xs ys s all lt e is more =
 pub fresh_length : (f : ℕ → StateNow) (i n : ℕ) → length (all_fresh f i n) ≡ n
 fresh_length f i zero = refl
 fresh_length f i (suc n) = ap suc (fresh_length f (i + 1) n)
+
+-- ---- states that are given
+
+-- one more of some states
+pub take_more : (xs : List StateNow) (i : ℕ) (s : StateNow) → slice_get xs i ≡ Some s → take (i + 1) xs ≡ take i xs ++ s ∷ []
+take_more [] i s e = absurd cc
+take_more (x ∷ xs) zero s e = cc
+take_more (x ∷ xs) (suc i) s e = let next : suc i + 1 ≡ suc (i + 1) = omega arith in ap (λ n. take n (x ∷ xs)) next ∙ ap (λ ys. x ∷ ys) (take_more xs i s e)
+
+pub take_length : (xs : List StateNow) (i : ℕ) → i < length xs → length (take i xs) ≡ i
+take_length [] i lt = absurd (omega (arith, lt))
+take_length (x ∷ xs) zero lt = refl
+take_length (x ∷ xs) (suc i) lt = ap suc (take_length xs i (omega (arith, lt)))
+
+pub take_all : (xs : List StateNow) (i : ℕ) → i ≡ length xs → take i xs ≡ xs
+take_all [] zero e = refl
+take_all [] (suc i) e = refl
+take_all (x ∷ xs) zero e = absurd (omega (arith, e))
+take_all (x ∷ xs) (suc i) e = ap (λ ys. x ∷ ys) (take_all xs i (omega (arith, e)))

@@ -25,7 +25,7 @@ module _ (sys : System) where
       go [] e = absurd cc
       go (s ∷ ss) e = let same : arrives sys s.end.comp.0 (arrival s) (record w { queue = ss }) ≡ h = cc in ap (λ (k : Happening). k.world.now) (sym same)
 
-  stays : (left : ℕ) (w v : World) → (go_on sys left None w).end ≡ Some v → v.now ≡ w.now
+  pub stays : (left : ℕ) (w v : World) → (go_on sys left None w).end ≡ Some v → v.now ≡ w.now
   unfolding go_on
   stays zero w v e = go (next sys None w) e
     where

@@ -13,7 +13,7 @@ use Rattle.eds_host.specs.Runs.{Course, LineGoes, Reading, RestGoes, RunGoes, fr
 use Rattle.eds_host.specs.Systems.{System, World}
 
 module _ (sys : System) (reading : Reading) where
-  joined : (one two : List Told) (w v : World) (outs more : List (List Report)) (end : Option World) → RunGoes sys reading one w outs (Some v) → RunGoes sys reading two v more end → RunGoes sys reading (one ++ two) w (outs ++ more) end
+  pub joined : (one two : List Told) (w v : World) (outs more : List (List Report)) (end : Option World) → RunGoes sys reading one w outs (Some v) → RunGoes sys reading two v more end → RunGoes sys reading (one ++ two) w (outs ++ more) end
   joined [] two w v outs more end h k =
       let same : v ≡ w = let e = h.1 in cc in
       subst (λ os. RunGoes sys reading two w (os ++ more) end) (sym h.0) (subst (λ u. RunGoes sys reading two u more end) same k)
@@ -31,7 +31,7 @@ module _ (sys : System) (reading : Reading) where
       go None = (refl, refl)
       go (Some u) = (refl, refl)
 
-  one_course : (l : Told) (w : World) (c d : Course) → ReadsOne reading → LineGoes sys reading l w c → LineGoes sys reading l w d → c ≡ d
+  pub one_course : (l : Told) (w : World) (c d : Course) → ReadsOne reading → LineGoes sys reading l w c → LineGoes sys reading l w d → c ≡ d
   one_course starts w c d one h k = h ∙ sym k
   one_course (passes n) w c d one h k = h ∙ sym k
   one_course (lines.arrives comp end member way o vs) w c d one h k = h ∙ sym k

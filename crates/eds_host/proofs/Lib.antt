@@ -31,3 +31,6 @@ pub mod Alike
 pub mod Sounding
 pub mod Firings
 pub mod Halting
+pub mod Pausing
+pub mod Resumed
+pub mod LaterMachines

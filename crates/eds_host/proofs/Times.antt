@@ -32,7 +32,7 @@ come (Some u) (Some y) x e = go (nat_le y.moment u) e
     go false e = absurd cc
 
 -- and it has come by then
-come_by : (until : Option ℕ) (d : Option Due) (x : Due) → has_come until d ≡ Some x → IfSome until (λ u. x.moment ≤ u)
+pub come_by : (until : Option ℕ) (d : Option Due) (x : Due) → has_come until d ≡ Some x → IfSome until (λ u. x.moment ≤ u)
 come_by None d x e = tt
 come_by (Some u) None x e = absurd cc
 come_by (Some u) (Some y) x e = go (nat_le y.moment u) refl e
@@ -43,7 +43,7 @@ come_by (Some u) (Some y) x e = go (nat_le y.moment u) refl e
 
 module _ (sys : System) (punctual : IsPunctual sys) where
   -- an event comes to a component at a time before which nothing waits
-  reacted : (comp : ℕ) (e : Coming) (b now : ℕ) (xs : List StateNow) → b ≤ now + 1 → WaitFrom sys b xs → WaitFrom sys b (slice_set xs comp (sys.reacts comp e now (unwrap_or (slice_get xs comp) no_state)).state)
+  pub reacted : (comp : ℕ) (e : Coming) (b now : ℕ) (xs : List StateNow) → b ≤ now + 1 → WaitFrom sys b xs → WaitFrom sys b (slice_set xs comp (sys.reacts comp e now (unwrap_or (slice_get xs comp) no_state)).state)
   reacted comp e b now xs le h i s g = elim (set_or xs comp i _ s g) [
     | inl q ↦ subst (λ n. NotBefore b (sys.waits n s)) (sym q.0) (subst (λ (y : StateNow). NotBefore b (sys.waits comp y)) q.1 (here (slice_get xs comp) q.2 q.3 refl))
     | inr q ↦ h i s q

@@ -16,3 +16,4 @@ pub mod Alike
 pub mod Worlds
 pub mod Firings
 pub mod Halts
+pub mod Resuming

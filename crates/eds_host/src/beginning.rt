@@ -14,9 +14,8 @@ use crate::dues::Dues;
 use crate::queue::Queue;
 use crate::sending::send_all;
 use crate::setting::Setting;
-use crate::states::States;
 use eds_base::{CompId, Memory};
-use eds_plan::{Outs, Plan, Sends};
+use eds_plan::{Outs, Plan, Sends, States};
 use std::alloc::Global;
 
 /// The states of all components before they start.
@@ -114,4 +113,25 @@ pub(crate) fn begin_all(
 {
     each_begins(alloc, setting, states, queue, dues, out)?;
     Ok(())
+}
+
+/// The moments for which components in such states wait.
+pub(crate) fn all_due(
+    alloc: Global,
+    setting: &Setting<'_>,
+    states: &States,
+    now: u64,
+) -> Result<Dues, Memory>
+    requires setting { IsSetting setting.now }
+    requires states { AreStates setting.now.table.now setting.now.plan.now now states.now }
+    ensures { IfOk result (λ d. d ≡ dues_of (running setting.now) 0 states.now) }
+{
+    let mut dues = Dues::new(alloc);
+    for i in 0..setting.plan.len() {
+        let comp = CompId(i as u32);
+        let due = next_due(setting.table, setting.plan, comp, states.at(comp), now);
+        dues.push()?;
+        dues.set(comp.0, due)?;
+    }
+    Ok(dues)
 }

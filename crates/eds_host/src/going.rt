@@ -16,11 +16,10 @@ use crate::dues::Dues;
 use crate::handled::Handled;
 use crate::queue::Queue;
 use crate::setting::Setting;
-use crate::states::States;
 use crate::step::Step;
 use eds_base::{CompId, Memory};
 use eds_machine::Event;
-use eds_plan::Outs;
+use eds_plan::{Outs, States};
 use std::alloc::Global;
 
 // The least moment for which a component waits.

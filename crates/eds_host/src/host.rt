@@ -4,19 +4,22 @@ ghost use Rattle.std.specs.Prelude.{◌≡◌, ℕ, List, Ok, IfOk, IfErr, map};
 ghost use Rattle.std.specs.HashMap.{get_by_text};
 ghost use Rattle.eds_host.specs.Hosts.{asked_by};
 ghost use Rattle.eds_host.specs.Links.{Stops};
-ghost use Rattle.eds_host.specs.Wires.{ties_of};
+ghost use Rattle.eds_host.specs.Mirrors.{dues_of};
+ghost use Rattle.eds_host.specs.Plans.{AreStates, WiresFit, system};
+ghost use Rattle.eds_host.specs.Wires.{other_end, ties_of};
+ghost use Rattle.eds_act.specs.Does.{Conforms};
 ghost use Rattle.eds_plan.specs.Ends.{end_named};
+ghost use Rattle.eds_plan.specs.Fitting.{PlanFits};
 
-use crate::beginning::all_fresh;
+use crate::beginning::{all_due, all_fresh};
 use crate::dues::Dues;
 use crate::handled::Handled;
 use crate::line::any_line;
 use crate::queue::Queue;
 use crate::setting::Setting;
-use crate::states::States;
 use crate::wiring::{Asked, HostFail, Links, tie_all};
 use eds_base::{CompId, Fail, Items, Memory};
-use eds_plan::{CompState, End, EndIndex, Line, Outs, Plan, Wires, index_ends};
+use eds_plan::{CompState, End, EndIndex, Line, Outs, Plan, States, Wires, index_ends};
 use eds_types::TypeTable;
 use eds_unpack::Segments;
 use std::alloc::Global;
@@ -101,6 +104,29 @@ fn links_of(alloc: Global, plan: &Plan, wires: &Wires) -> Result<Links, Fail<Hos
     tie_all(alloc, plan, asked.as_slice())
 }
 
+// The moments for which components in such states wait, over these wires.
+fn dues_by(
+    alloc: Global,
+    segments: &Segments<'_>,
+    plan: &Plan,
+    links: &Links,
+    states: &States,
+    now: u64,
+) -> Result<Dues, Memory>
+    requires plan { PlanFits segments.now (Conforms segments.now) plan.now }
+    requires wires { WiresFit plan.now (other_end links.now) }
+    requires states { AreStates segments.now plan.now now states.now }
+    ensures { IfOk result (λ d. d ≡ dues_of (system segments.now plan.now (other_end links.now)) 0 states.now) }
+{
+    let setting = Setting {
+        table: segments.table(),
+        segments,
+        plan,
+        links,
+    };
+    all_due(alloc, &setting, states, now)
+}
+
 impl<'a> Host<'a> {
     ghost use Rattle.std.specs.Prelude.{◌≡◌, ◌<◌, ◌∷◌, List, Ok, IfOk, IfErr, Some, length, map, slice_get};
     ghost use Rattle.eds_act.specs.Does.{Conforms};
@@ -108,6 +134,7 @@ impl<'a> Host<'a> {
     ghost use Rattle.eds_host.specs.Plans.{MayAllGoOut};
     ghost use Rattle.eds_host.specs.Machines.{IsStateOf};
     ghost use Rattle.eds_host.specs.Links.{Stops};
+    ghost use Rattle.eds_host.specs.Resuming.{MayResume, resumed};
     ghost use Rattle.eds_host.specs.Runs.{time_after, unbegun};
     ghost use Rattle.eds_plan.specs.States.{state_now};
     ghost use Rattle.eds_host.specs.Wires.{ties_of};
@@ -147,6 +174,48 @@ impl<'a> Host<'a> {
             dues: Dues::new(alloc),
             phase: Phase::Fresh,
         })
+    }
+
+    /// A host that goes on from a time, in nanoseconds, and the states of all components at that time, with wires between their
+    /// ends: it takes lines at once, with no start. The error is that of [`Host::new`].
+    pub fn resume(
+        alloc: Global,
+        table: &'a TypeTable,
+        plan: &'a Plan,
+        wires: &Wires,
+        states: States,
+        now: u64,
+    ) -> Result<Host<'a>, Fail<HostFail>>
+        requires plan { PlanFits table.now (Conforms table.now) plan.now }
+        requires clear { ArgumentsAreClear table.now plan.now }
+        requires from { MayResume table.now plan.now now states }
+        ensures table { IfOk result (λ h. h.table ≡ table.now) }
+        ensures plan { IfOk result (λ h. h.plan ≡ plan.now) }
+        ensures wires { IfOk result (λ h. ties_of plan.now (map (asked_by plan.now) wires.now) ≡ Ok h.wires) }
+        ensures world { IfOk result (λ h. h.world ≡ resumed now states) }
+        ensures phase { IfOk result (λ h. h.phase ≡ Rests) }
+        ensures fail { IfErr result (λ f. Stops f (ties_of plan.now (map (asked_by plan.now) wires.now))) }
+    {
+        let segments = Segments::of(alloc, table)?;
+        let links = links_of(alloc, plan, wires)?;
+        let dues = dues_by(alloc, &segments, plan, &links, &states, now)?;
+        Ok(Host {
+            segments,
+            plan,
+            links,
+            time: now,
+            states,
+            queue: Queue::new(alloc),
+            dues,
+            phase: Phase::Rests,
+        })
+    }
+
+    /// The states of all components, in document order, with no copy.
+    pub fn into_states(self) -> States
+        ensures { result ≡ self.entry.world.states }
+    {
+        self.states
     }
 
     /// Has one line happen, and puts what leaves the run behind what `out` has. A line is a storm where more than 10,000

@@ -5,6 +5,7 @@ ghost use Rattle.eds_host.specs.Firings.{FirstFires, OthersStay, TimersReachOne,
 ghost use Rattle.eds_host.specs.Halts.{ActionsKeep, HaltsKeep};
 ghost use Rattle.eds_host.specs.Hosts.{ComponentsArePunctual, FirstMayBeHandled, FramesHaveOneOutcome, LinesTakeTheirTime, PlansReadOne, RunsGoOn, RunsHaveOneOutcome, RunsJoin, TimersFireOnce, UnnamedEndsAreOutside};
 ghost use Rattle.eds_host.specs.Laws.{ArrivalsSendOn, CoursesAreChains, CoursesGoOnOrStorm, EachIsDelivered, EachLeaves, NoneIsLate, SendingsAreSent, StartsSendOn, TicksAdd, TimeGoesOn, TimersAreOnTime};
+ghost use Rattle.eds_host.specs.Resuming.{EndsMayResume, JoinedRunsResume, LaterMachinesWait, ResumedEndsMayResume, RunsTakeTheirTime, WiresTieAlike};
 ghost use Rattle.eds_host.specs.Worlds.{LinesHaveCourses, LinesKeepSound};
 
 use eds_overlap::law::one_outcome;
@@ -131,3 +132,25 @@ pub fn lines_keep_sound()
     packed_sizes();
     one_outcome();
 }
+
+/// Where a run has ended without a storm, nothing is to be delivered, and lines may go on from its time and states; what they
+/// come to is what they come to behind the lines of that run.
+pub fn runs_resume()
+    ensures ends { EndsMayResume }
+    ensures further { ResumedEndsMayResume }
+    ensures join { JoinedRunsResume }
+{
+    packed_sizes();
+    one_outcome();
+}
+
+/// A component whose machines all wait for later moments than a time waits for none up to it.
+pub fn later_machines_wait()
+    ensures { LaterMachinesWait }
+{}
+
+/// Wires tie the same in whatever lines they stand; and the time at the end of a run is that to which its lines lead.
+pub fn ends_are_told_by_lines()
+    ensures wires { WiresTieAlike }
+    ensures time { RunsTakeTheirTime }
+{}

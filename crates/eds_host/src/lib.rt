@@ -15,7 +15,6 @@ mod line;
 mod queue;
 mod sending;
 mod setting;
-mod states;
 mod step;
 mod wiring;
 

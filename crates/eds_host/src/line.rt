@@ -29,11 +29,12 @@ use crate::host::Phase;
 use crate::queue::Queue;
 use crate::sending::leave;
 use crate::setting::Setting;
-use crate::states::States;
 use crate::wiring::end_plan;
 use eds_base::{Fail, Memory, Octets, TypeId};
 use eds_machine::Event;
-use eds_plan::{Argument, End, Line, Member, Mode, Op, Out, Outs, Plan, Primitive, Values, Way};
+use eds_plan::{
+    Argument, End, Line, Member, Mode, Op, Out, Outs, Plan, Primitive, States, Values, Way,
+};
 use eds_types::Value;
 use std::alloc::Global;
 

@@ -23,7 +23,7 @@ use Rattle.eds_act.specs.Does.{AllConform}
 use Rattle.eds_machine.specs.declared.event.Event.{Event}
 use Rattle.eds_machine.specs.declared.event.Event.TheVariants as event
 use Rattle.eds_machine.specs.Conditions.{AreTimely, IsTimely, HasStates, IsStateAt}
-use Rattle.eds_machine.specs.Reactions.{Reacting, standing, settles, stays, taken, is_open, at_entry, at_exit, acts, moves, goes_or_stays, machine_reacts, machines_react, map_reacts, mapped, mapped_by, maps_to, is_required, fires, reacts, starts, fresh, begins, trigger_of}
+use Rattle.eds_machine.specs.Reactions.{Reacting, standing, settles, stays, taken, is_open, at_entry, at_exit, acts, moves, goes_or_stays, machine_reacts, machines_react, map_reacts, mapped, mapped_by, maps_to, is_required, fires, receives, reacts, starts, fresh, begins, trigger_of}
 
 timely_set : (now : ℕ) (ms : List Machine) (rs : List MachineState) (i : ℕ) (machine : Machine) (m : MachineState) → slice_get ms i ≡ Some machine → IsTimely now machine m → AreTimely now ms rs → AreTimely now ms (slice_set rs i m)
 timely_set now [] rs i machine m at ok h = absurd cc
@@ -110,15 +110,21 @@ module _ (packs : ℕ → Plain → Bool) (t : Table) (c : ComponentPlan) where
   all_keep : (now : ℕ) (e : Trigger) (args : List Plain) (r : Reacting) → AllByRecursion HasStates c.machines → AreTimely now c.machines r.machines → AreTimely now c.machines (machines_react packs t c now e args 0 c.machines r).machines
   all_keep now e args r states h = machines_keep now e args 0 c.machines r (λ k. let z : 0 + k ≡ k = omega arith in ap (slice_get c.machines) z) states h
 
-  pub reacts_keep : (now : ℕ) (e : Event) (r : Reacting) → AllByRecursion HasStates c.machines → AreTimely now c.machines r.machines → AreTimely now c.machines (reacts packs t c now e r).machines
-  reacts_keep now (event.Prim p) r states h =
-      all_keep now (trigger_of p.op p.end.face p.member) (map plain p.arguments) (map_reacts c p.end.face p.member p.op (map plain p.arguments) r) states
-      (subst (AreTimely now c.machines) (sym (map_same c p.end.face p.member p.op (map plain p.arguments) r)) h)
-  reacts_keep now (event.Timer i) r states h = go (slice_get c.machines i) refl
+  pub receives_keep : (now face number : ℕ) (o : Op) (args : List Plain) (r : Reacting) → AllByRecursion HasStates c.machines → AreTimely now c.machines r.machines → AreTimely now c.machines (receives packs t c now face number o args r).machines
+  receives_keep now face number o args r states h =
+      all_keep now (trigger_of o face number) args (map_reacts c face number o args r) states
+      (subst (AreTimely now c.machines) (sym (map_same c face number o args r)) h)
+
+  pub fires_keep : (now i : ℕ) (r : Reacting) → AllByRecursion HasStates c.machines → AreTimely now c.machines r.machines → AreTimely now c.machines (fires packs t c now i (slice_get c.machines i) r).machines
+  fires_keep now i r states h = go (slice_get c.machines i) refl
     where
       go : (o : Option Machine) → slice_get c.machines i ≡ o → AreTimely now c.machines (fires packs t c now i o r).machines
       go None q = h
       go (Some machine) q = machine_keeps now (trigger.Timer (now - (standing r.machines i).entered)) [] i machine r q (states_at c.machines i machine q states) h
+
+  pub reacts_keep : (now : ℕ) (e : Event) (r : Reacting) → AllByRecursion HasStates c.machines → AreTimely now c.machines r.machines → AreTimely now c.machines (reacts packs t c now e r).machines
+  reacts_keep now (event.Prim p) r states h = receives_keep now p.end.face p.member p.op (map plain p.arguments) r states h
+  reacts_keep now (event.Timer i) r states h = fires_keep now i r states h
 
   pub starts_keep : (comp : ℕ) (out : List Sent) → AllByRecursion HasStates c.machines → AreTimely 0 c.machines (starts packs t c comp out).machines
   starts_keep comp out states = all_keep 0 trigger.Start [] (fresh c comp out) states (begin_timely c.machines states)

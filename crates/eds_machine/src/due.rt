@@ -30,9 +30,9 @@ fn sooner(a: Option<u64>, b: Option<u64>) -> Option<u64>
     }
 }
 
-/// The least moment to come of a machine.
+/// The least moment to come of a machine that stands so, in nanoseconds; None exactly where no timer of its state is to come.
 #[tactic(auto, using(crate::proofs::MomentLaws::sooner_assoc, crate::proofs::MomentLaws::sooner_none))]
-fn next_moment(standing: MachineState, transitions: &Transitions) -> Option<u64>
+pub fn next_moment(standing: MachineState, transitions: &Transitions) -> Option<u64>
     requires near { AllByRecursion (λ (x : transition_plan). IsNear x.event) transitions.now }
     requires early { standing.entered < 2 ^ 63 }
     ensures { result ≡ next_moment_of standing transitions.now }

@@ -10,7 +10,7 @@ mod starting;
 mod transition;
 mod waiting;
 
-pub use due::next_due;
+pub use due::{next_due, next_moment};
 pub use event::Event;
 pub use reaction::react;
 pub use starting::{fresh_state, start};
