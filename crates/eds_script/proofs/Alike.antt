@@ -1,5 +1,5 @@
 -- What is told over plans that are seen alike.
-use Rattle.std.proofs.Common.{◌≡◌, ℕ, List, [], ◌∷◌, ◌++◌, map, Bool, Option, slice_get, option_map, Result, Ok, refl, ap, ap₂, ◌∙◌}
+use Rattle.std.proofs.Common.{◌≡◌, ℕ, List, [], ◌∷◌, ◌++◌, map, Bool, Option, slice_get, option_map, Result, Ok, refl, sym, ap, ap₂, ◌∙◌}
 use Rattle.std.specs.Prelude.{not}
 use Rattle.std.specs.List.{flat_map}
 use Rattle.std.proofs.Math.Path.{fun_ext, subst₂}
@@ -33,6 +33,7 @@ use Rattle.eds_script.specs.Scripts.{at_line, meanings, plot_of}
 use Rattle.eds_script.specs.States.{machine_line, variable_line, wait_line}
 use Rattle.eds_script.specs.Stops.{unless_stop}
 use Rattle.eds_script.specs.Words.{Saying, ties, ticks, arrives, form}
+use Rattle.eds_script.proofs.Starting.{from-start}
 
 -- ---- scripts
 
@@ -55,7 +56,9 @@ module _ (t : Table) (p q : List ComponentPlan) (h : AreAlike p q) (wired : List
   saying_alike late time (arrives verb end name rest) = ap (λ (r : Result Told LineWhy). r >>= λ x. Ok (comes x)) (arrival_alike verb end name rest)
 
   meaning_alike : (before : List (List ℕ)) (line : List ℕ) → meaning t p wired before line ≡ meaning t q wired before line
-  meaning_alike before line = ap (λ (f : Saying → Result Meaning LineWhy). form line >>= f) (fun_ext (saying_alike (begun before) (time_of before)))
+  meaning_alike before line =
+      from-start t p wired before line ∙ ap (λ (f : Saying → Result Meaning LineWhy). form line >>= f) (fun_ext (saying_alike (begun before) (time_of before)))
+      ∙ sym (from-start t q wired before line)
 
   meanings_alike : (before : List (List ℕ)) (lines : List Numbered) → meanings t p wired before lines ≡ meanings t q wired before lines
   meanings_alike before [] = refl

@@ -52,3 +52,13 @@ among-more now before true later whole e all = ap (λ b. b || later) e ∙ sym (
     or-true true l = refl
     or-true false l = refl
 among-more now before false later whole e all = ap (λ b. b || later) e ∙ all
+
+-- two texts that were put one after the other
+pub two-noted : (a b before one two : Bool) → one ≡ (a || before) → two ≡ (b || one) → two ≡ ((a || b) || before)
+two-noted a b before one two e f = f ∙ ap (λ x. b || x) e ∙ turned a b
+  where
+    turned : (a b : Bool) → (b || (a || before)) ≡ ((a || b) || before)
+    turned true true = refl
+    turned true false = refl
+    turned false true = refl
+    turned false false = refl

@@ -48,11 +48,12 @@ use Rattle.eds_script.specs.Words.{Saying, ties, ticks, arrives, form}
 use Rattle.eds_script.proofs.Knowing.{found-there, known-at, there-known}
 use Rattle.eds_script.proofs.Scripting.{says, time-more}
 use Rattle.eds_script.proofs.Steps.{bound, inside, tested, there}
+use Rattle.eds_script.proofs.Starting.{from-start}
 
 -- ---- ends of wires
 
 -- the ends of all wires are wired ones
-abbrev Cover : (List ℕ → Bool) → List Wire → Type 0
+abbrev pub Cover : (List ℕ → Bool) → List Wire → Type 0
 Cover wired wires = AllByRecursion (λ (w : Wire). (wired w.lower ≡ true) × (wired w.upper ≡ true)) wires
 
 apart : (wired : List ℕ → Bool) (q r : List ℕ) → q ≡ r → wired q ≡ true → wired r ≡ false → ⊥
@@ -64,7 +65,7 @@ unnamed wired [] text out covers = tt
 unnamed wired (w ∷ wires) text out covers = (((λ h. apart wired w.lower text h covers.0.0 out), (λ h. apart wired w.upper text h covers.0.1 out)), unnamed wired wires text out covers.1)
 
 -- so an end whose text isn't wired is free
-free : (plan : List ComponentPlan) (wired : List ℕ → Bool) (wires : List Wire) (text : List ℕ) (e : End) → end_named plan text ≡ Some e → wired text ≡ false → Cover wired wires → IsFree plan wires e
+pub free : (plan : List ComponentPlan) (wired : List ℕ → Bool) (wires : List Wire) (text : List ℕ) (e : End) → end_named plan text ≡ Some e → wired text ≡ false → Cover wired wires → IsFree plan wires e
 free plan wired wires text e named out covers = record { text = text; named = named; unnamed = unnamed wired wires text out covers }
 
 -- ---- members
@@ -144,7 +145,7 @@ module _ (t : Table) (rules : KeepsRules t) where
 -- ---- what arrives
 
 -- what arrives is something at this end that may arrive there, or a frame that may
-abbrev Fitting : Table → List ComponentPlan → End → Told → Type 0
+abbrev pub Fitting : Table → List ComponentPlan → End → Told → Type 0
 Fitting t plan e starts = ⊥
 Fitting t plan e (passes n) = ⊥
 Fitting t plan e (lines.arrives comp face number way o vs) = (end_of comp face ≡ e) × MayArrive t plan (end_of comp face) number way o vs
@@ -337,7 +338,7 @@ module _ (t : Table) (rules : KeepsRules t) (plan : List ComponentPlan) (known :
       )
 
   -- so it may happen, and no time goes on by it
-  fitting-happens : (wires : List Wire) (time : ℕ) (e : End) (x : Told) → Fitting t plan e x → IsFree plan wires e → MayHappen t plan wires time x × (passed x ≡ 0)
+  pub fitting-happens : (wires : List Wire) (time : ℕ) (e : End) (x : Told) → Fitting t plan e x → IsFree plan wires e → MayHappen t plan wires time x × (passed x ≡ 0)
   fitting-happens wires time e starts h out = absurd h
   fitting-happens wires time e (passes n) h out = absurd h
   fitting-happens wires time e (lines.arrives comp face number way o vs) h out = ((subst (IsFree plan wires) (sym h.0) out, h.1), refl)
@@ -379,7 +380,7 @@ module _ (t : Table) (rules : KeepsRules t) (plan : List ComponentPlan) (known :
       go (Err w) g = cc
 
   -- a line that means a tick ends in time
-  tick-said : (late : Bool) (time : ℕ) (r : Result Saying LineWhy) (n : ℕ) → (r >>= λ s. saying_meaning t plan wired late time s) ≡ Ok (tick n) → time + n < 2 ^ 63
+  pub tick-said : (late : Bool) (time : ℕ) (r : Result Saying LineWhy) (n : ℕ) → (r >>= λ s. saying_meaning t plan wired late time s) ≡ Ok (tick n) → time + n < 2 ^ 63
   tick-said late time (Err w) n h = cc
   tick-said true time (Ok (ties l u)) n h = cc
   tick-said false time (Ok (ties l u)) n h = cc
@@ -395,7 +396,7 @@ module _ (t : Table) (rules : KeepsRules t) (plan : List ComponentPlan) (known :
       go (Err w) g = cc
 
   -- a line by which something comes
-  coming-said : (late : Bool) (time : ℕ) (r : Result Saying LineWhy) (x : Told) → (r >>= λ s. saying_meaning t plan wired late time s) ≡ Ok (comes x)
+  pub coming-said : (late : Bool) (time : ℕ) (r : Result Saying LineWhy) (x : Told) → (r >>= λ s. saying_meaning t plan wired late time s) ≡ Ok (comes x)
       → (end : List ℕ) × (e : End) × (end_named plan end ≡ Some e) × (wired end ≡ false) × Fitting t plan e x
   coming-said late time (Err w) x h = cc
   coming-said true time (Ok (ties l u)) x h = cc
@@ -460,7 +461,7 @@ module _ (t : Table) (rules : KeepsRules t) (plan : List ComponentPlan) (known :
     where
       go : (m : Meaning) → meaning t plan wired before line.1 ≡ Ok m → (more : List (ℕ × Meaning)) → Cover wired (wires_of more) → Cover wired (wires_of ((line.0, m) ∷ more))
       go (wire lower upper) means more rest =
-          let said : form line.1 ≡ Ok (ties lower upper) = wire-said (begun before) (time_of before) (form line.1) lower upper means in
+          let said : form line.1 ≡ Ok (ties lower upper) = wire-said (begun before) (time_of before) (form line.1) lower upper (sym (from-start t plan wired before line.1) ∙ means) in
           let here : Wires (lower ∷ upper ∷ []) = subst (λ r. Wires (tied r)) said (wires-here (tied (form line.1)) (tied_lines ls) all) in
           ((here lower (rw (same-text lower) refl), here upper (second lower upper)), rest)
         where
@@ -480,7 +481,7 @@ module _ (t : Table) (rules : KeepsRules t) (plan : List ComponentPlan) (known :
   happens wires covered before [] ms h = let none : [] ≡ ms = inside [] ms h in subst (λ xs. MayAllHappen t plan wires (time_of before) (happenings_of xs)) none tt
   happens wires covered before (line ∷ ls) ms h =
       let s = parted before line ls ms h in
-      let agree = says t plan wired (begun before) (time_of before) (form line.1) s.m s.means in
+      let agree = says t plan wired (begun before) (time_of before) (form line.1) s.m (sym (from-start t plan wired before line.1) ∙ s.means) in
       let later : time_of (before ++ line.1 ∷ []) ≡ time_of before + ticks_by s.m = time-more before line.1 ∙ ap (λ n. time_of before + n) agree.1 in
       subst (λ xs. MayAllHappen t plan wires (time_of before) (happenings_of xs)) s.all
       (go s.m s.means s.more (subst (λ n. MayAllHappen t plan wires n (happenings_of s.more)) later (happens wires covered (before ++ line.1 ∷ []) ls s.more s.behind)))
@@ -488,9 +489,9 @@ module _ (t : Table) (rules : KeepsRules t) (plan : List ComponentPlan) (known :
       go : (m : Meaning) → meaning t plan wired before line.1 ≡ Ok m → (more : List (ℕ × Meaning)) → MayAllHappen t plan wires (time_of before + ticks_by m) (happenings_of more)
           → MayAllHappen t plan wires (time_of before) (happenings_of ((line.0, m) ∷ more))
       go (wire lower upper) means more rest = subst (λ n. MayAllHappen t plan wires n (happenings_of more)) (omega arith) rest
-      go (tick n) means more rest = (tick-said (begun before) (time_of before) (form line.1) n means, rest)
+      go (tick n) means more rest = (tick-said (begun before) (time_of before) (form line.1) n (sym (from-start t plan wired before line.1) ∙ means), rest)
       go (comes x) means more rest =
-          let c = coming-said (begun before) (time_of before) (form line.1) x means in
+          let c = coming-said (begun before) (time_of before) (form line.1) x (sym (from-start t plan wired before line.1) ∙ means) in
           let f = fitting-happens wires (time_of before) c.1 x c.4 (free plan wired wires c.0 c.1 c.2 c.3 covered) in
           (f.0, subst (λ n. MayAllHappen t plan wires n (happenings_of more)) (ap (λ n. time_of before + n) (sym f.1)) rest)
 

@@ -3,6 +3,7 @@ mod Carrying
 mod Digits
 mod Framing
 mod Handing
+mod Joining
 mod Knowing
 mod OnlyOne
 mod Packing
@@ -11,6 +12,7 @@ pub mod Pieces
 mod Places
 mod Printing
 mod Scripting
+mod Starting
 pub mod Steps
 mod TextLines
 pub mod Utf8

@@ -16,14 +16,14 @@ use Rattle.eds_script.specs.declared.why.LineWhy.{LineWhy}
 use Rattle.eds_base.specs.Numbers.{decimal_value}
 use Rattle.eds_script.specs.Arrivals.{arrival_told}
 use Rattle.eds_script.specs.Lines.{Numbered}
-use Rattle.eds_script.specs.Meaning.{Meaning, wire, tick, comes, is_wire, ticks_by, is_tie, ticks_of, begun, time_of, meaning, saying_meaning}
+use Rattle.eds_script.specs.Meaning.{Meaning, wire, tick, comes, is_wire, ticks_by, is_tie, ticks_of, begun, time_of, meaning_from, saying_meaning}
 use Rattle.eds_script.specs.Numbers.{tick_of, is_in_time, are_digits}
-use Rattle.eds_script.specs.Scripts.{Plot, happenings_of, meanings, wires_of}
+use Rattle.eds_script.specs.Scripts.{Plot, happenings_of, meanings_from, plot_from, wires_of, with_meanings}
 use Rattle.eds_script.specs.Words.{Saying, ties, ticks, arrives, form}
 
 -- a script that goes on by meanings
-abbrev pub grown : List Wire → List (ℕ × Told) → List (ℕ × Meaning) → Plot
-grown ws hs ms = record { wires = ws ++ wires_of ms; lines = hs ++ happenings_of ms }
+abbrev grown : List Wire → List (ℕ × Told) → List (ℕ × Meaning) → Plot
+grown ws hs ms = with_meanings (record { wires = ws; lines = hs }) ms
 
 grown-more : (ws : List Wire) (hs : List (ℕ × Told)) (n : ℕ) (m : Meaning) (ms : List (ℕ × Meaning))
     → grown (ws ++ wires_of ((n, m) ∷ [])) (hs ++ happenings_of ((n, m) ∷ [])) ms ≡ grown ws hs ((n, m) ∷ ms)
@@ -31,16 +31,16 @@ grown-more ws hs n (wire lower upper) ms = rw (append_assoc ws (wires_of ((n, wi
 grown-more ws hs n (tick k) ms = rw (append_assoc ws [] (wires_of ms), append_assoc hs (happenings_of ((n, tick k) ∷ [])) (happenings_of ms)) refl
 grown-more ws hs n (comes x) ms = rw (append_assoc ws [] (wires_of ms), append_assoc hs (happenings_of ((n, comes x) ∷ [])) (happenings_of ms)) refl
 
-module _ (t : Table) (plan : List ComponentPlan) (wired : List ℕ → Bool) where
+module _ (t : Table) (plan : List ComponentPlan) (wired : List ℕ → Bool) (first : Bool) (start : ℕ) where
   -- what is left to read makes of the script so far
   abbrev pub Left : List (List ℕ) → List Numbered → List Wire → List (ℕ × Told) → Result Plot BadLine
-  Left before rest ws hs = meanings t plan wired before rest >>= λ ms. Ok (grown ws hs ms)
+  Left before rest ws hs = meanings_from t plan wired first start before rest >>= λ ms. Ok (grown ws hs ms)
 
   -- one line more
   pub read-more : (before : List (List ℕ)) (line : Numbered) (rest : List Numbered) (ws : List Wire) (hs : List (ℕ × Told)) (m : Meaning)
-      → meaning t plan wired before line.1 ≡ Ok m
+      → meaning_from t plan wired first start before line.1 ≡ Ok m
       → Left (before ++ line.1 ∷ []) rest (ws ++ wires_of ((line.0, m) ∷ [])) (hs ++ happenings_of ((line.0, m) ∷ [])) ≡ Left before (line ∷ rest) ws hs
-  read-more before line rest ws hs m is = rw is (go (meanings t plan wired (before ++ line.1 ∷ []) rest))
+  read-more before line rest ws hs m is = rw is (go (meanings_from t plan wired first start (before ++ line.1 ∷ []) rest))
     where
       go : (r : Result (List (ℕ × Meaning)) BadLine) → (r >>= λ ms. Ok (grown (ws ++ wires_of ((line.0, m) ∷ [])) (hs ++ happenings_of ((line.0, m) ∷ [])) ms)) ≡ ((r >>= λ ms. Ok ((line.0, m) ∷ ms)) >>= λ ms. Ok (grown ws hs ms))
       go (Ok ms) = ap Ok (grown-more ws hs line.0 m ms)
@@ -48,7 +48,7 @@ module _ (t : Table) (plan : List ComponentPlan) (wired : List ℕ → Bool) whe
 
   -- a line that means nothing
   pub read-stop : (before : List (List ℕ)) (line : Numbered) (rest : List Numbered) (ws : List Wire) (hs : List (ℕ × Told)) (w : LineWhy)
-      → meaning t plan wired before line.1 ≡ Err w → Left before (line ∷ rest) ws hs ≡ Err (record { line = line.0; why = w })
+      → meaning_from t plan wired first start before line.1 ≡ Err w → Left before (line ∷ rest) ws hs ≡ Err (record { line = line.0; why = w })
   read-stop before line rest ws hs w is = rw is refl
 
 -- ---- what stands before the next line
@@ -101,17 +101,21 @@ time-more before line = sum_by-append (λ l. ticks_of (form l)) before (line ∷
     last : (n : ℕ) → sum_by (λ (l : List ℕ). n) (line ∷ []) ≡ n
     last n = omega arith
 
+or-assoc : (a b c : Bool) → ((a || b) || c) ≡ (a || (b || c))
+or-assoc true b c = refl
+or-assoc false b c = refl
+
 -- ---- one line more of a list
 
 abbrev pub texts : List Numbered → List (List ℕ)
 texts lines = map (λ n. n.1) lines
 
-module _ (t : Table) (plan : List ComponentPlan) (wired : List ℕ → Bool) where
+module _ (t : Table) (plan : List ComponentPlan) (wired : List ℕ → Bool) (first : Bool) (start : ℕ) where
   -- what is known before a line, and behind it
   pub record Stands (ls : List Numbered) (i : ℕ) (late : Bool) (time : ℕ) (ws : List Wire) (hs : List (ℕ × Told)) (target : Result Plot BadLine) : Type 0 where
-    pub late_is : late ≡ begun (texts (take i ls))
-    pub time_is : time ≡ time_of (texts (take i ls))
-    pub whole : Left t plan wired (texts (take i ls)) (drop i ls) ws hs ≡ target
+    pub late_is : late ≡ (first || begun (texts (take i ls)))
+    pub time_is : time ≡ start + time_of (texts (take i ls))
+    pub whole : Left t plan wired first start (texts (take i ls)) (drop i ls) ws hs ≡ target
 
   pub stands-more : (ls : List Numbered) (i : ℕ) (line : Numbered) (late next : Bool) (time then : ℕ) (m : Meaning) (ws us : List Wire) (hs gs : List (ℕ × Told)) (target : Result Plot BadLine)
       → drop i ls ≡ line ∷ drop (i + 1) ls → take (i + 1) ls ≡ take i ls ++ line ∷ []
@@ -121,20 +125,23 @@ module _ (t : Table) (plan : List ComponentPlan) (wired : List ℕ → Bool) whe
   stands-more ls i line late next time then m ws us hs gs target opens takes means later goes wires happens st =
       let agree = says t plan wired late time (form line.1) m means in
       let front : texts (take (i + 1) ls) ≡ texts (take i ls) ++ line.1 ∷ [] = ap texts takes ∙ map-append (λ (n : Numbered). n.1) (take i ls) (line ∷ []) in
-      let known : meaning t plan wired (texts (take i ls)) line.1 ≡ Ok m = rw (st.late_is, st.time_is) at means in
+      let known : meaning_from t plan wired first start (texts (take i ls)) line.1 ≡ Ok m = rw (st.late_is, st.time_is) at means in
+      let sums : (start + time_of (texts (take i ls))) + ticks_of (form line.1) ≡ start + (time_of (texts (take i ls)) + ticks_of (form line.1)) = omega arith in
       record {
-        late_is = later ∙ ap (λ b. b || not (is_wire m)) st.late_is ∙ ap (λ b. begun (texts (take i ls)) || not b) (sym agree.0) ∙ sym (begun-more (texts (take i ls)) line.1) ∙ ap begun (sym front);
-        time_is = goes ∙ ap (λ n. n + ticks_by m) st.time_is ∙ ap (λ n. time_of (texts (take i ls)) + n) (sym agree.1) ∙ sym (time-more (texts (take i ls)) line.1) ∙ ap time_of (sym front);
-        whole = ap (λ b. Left t plan wired b (drop (i + 1) ls) us gs) front ∙ ap (λ u. Left t plan wired (texts (take i ls) ++ line.1 ∷ []) (drop (i + 1) ls) u gs) wires ∙ ap (λ g. Left t plan wired (texts (take i ls) ++ line.1 ∷ []) (drop (i + 1) ls) (ws ++ wires_of ((line.0, m) ∷ [])) g) happens
-            ∙ read-more t plan wired (texts (take i ls)) line (drop (i + 1) ls) ws hs m known ∙ ap (λ r. Left t plan wired (texts (take i ls)) r ws hs) (sym opens) ∙ st.whole;
+        late_is = later ∙ ap (λ b. b || not (is_wire m)) st.late_is ∙ ap (λ b. (first || begun (texts (take i ls))) || not b) (sym agree.0) ∙ or-assoc first (begun (texts (take i ls))) (not (is_tie (form line.1)))
+            ∙ ap (λ b. first || b) (sym (begun-more (texts (take i ls)) line.1) ∙ ap begun (sym front));
+        time_is = goes ∙ ap (λ n. n + ticks_by m) st.time_is ∙ ap (λ n. (start + time_of (texts (take i ls))) + n) (sym agree.1) ∙ sums
+            ∙ ap (λ n. start + n) (sym (time-more (texts (take i ls)) line.1) ∙ ap time_of (sym front));
+        whole = ap (λ b. Left t plan wired first start b (drop (i + 1) ls) us gs) front ∙ ap (λ u. Left t plan wired first start (texts (take i ls) ++ line.1 ∷ []) (drop (i + 1) ls) u gs) wires ∙ ap (λ g. Left t plan wired first start (texts (take i ls) ++ line.1 ∷ []) (drop (i + 1) ls) (ws ++ wires_of ((line.0, m) ∷ [])) g) happens
+            ∙ read-more t plan wired first start (texts (take i ls)) line (drop (i + 1) ls) ws hs m known ∙ ap (λ r. Left t plan wired first start (texts (take i ls)) r ws hs) (sym opens) ∙ st.whole;
       }
 
   pub stands-stop : (ls : List Numbered) (i : ℕ) (line : Numbered) (late : Bool) (time : ℕ) (w : LineWhy) (ws : List Wire) (hs : List (ℕ × Told)) (target : Result Plot BadLine)
       → drop i ls ≡ line ∷ drop (i + 1) ls → (form line.1 >>= λ s. saying_meaning t plan wired late time s) ≡ Err w
       → Stands ls i late time ws hs target → target ≡ Err (record { line = line.0; why = w })
   stands-stop ls i line late time w ws hs target opens means st =
-      let known : meaning t plan wired (texts (take i ls)) line.1 ≡ Err w = rw (st.late_is, st.time_is) at means in
-      sym st.whole ∙ ap (λ r. Left t plan wired (texts (take i ls)) r ws hs) opens ∙ read-stop t plan wired (texts (take i ls)) line (drop (i + 1) ls) ws hs w known
+      let known : meaning_from t plan wired first start (texts (take i ls)) line.1 ≡ Err w = rw (st.late_is, st.time_is) at means in
+      sym st.whole ∙ ap (λ r. Left t plan wired first start (texts (take i ls)) r ws hs) opens ∙ read-stop t plan wired first start (texts (take i ls)) line (drop (i + 1) ls) ws hs w known
 
 -- ---- places of a list
 
@@ -161,3 +168,12 @@ item-opens f xs i d lt = opened-at f xs i (get_or xs i d) d lt refl
 
 pub item-taken : {A B : Type 0} (f : A → B) (xs : List A) (i : ℕ) (d : A) → i < length xs → take (i + 1) (map f xs) ≡ take i (map f xs) ++ f (get_or xs i d) ∷ []
 item-taken f xs i d lt = taken-at f xs i (get_or xs i d) d lt refl
+
+-- ---- whole scripts
+
+-- lines stand for the same over the same wired ends
+pub same-plot : (t : Table) (plan : List ComponentPlan) (late : Bool) (time : ℕ) (wired other : List ℕ → Bool) (p q : Plot) (ls ks : List Numbered)
+    → ((end : List ℕ) → wired end ≡ other end) → p ≡ q → ls ≡ ks → plot_from t plan wired late time p ls ≡ plot_from t plan other late time q ks
+same-plot t plan late time wired other p q ls ks ends plots lines =
+    let all : wired ≡ other = (λ i end. ends end i) in
+    ap (λ w. plot_from t plan w late time p ls) all ∙ ap (λ x. plot_from t plan other late time x ls) plots ∙ ap (λ l. plot_from t plan other late time q l) lines

@@ -10,6 +10,7 @@ pub mod Given
 pub mod Arrivals
 pub mod Meaning
 pub mod Scripts
+pub mod More
 pub mod Pairs
 pub mod Places
 pub mod Names
@@ -20,3 +21,4 @@ pub mod States
 pub mod Laws
 pub mod Handing
 pub mod Alike
+pub mod Joined

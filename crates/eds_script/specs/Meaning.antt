@@ -1,6 +1,6 @@
 -- What a line means, or why it means nothing: of the reasons that hold of it the first in the order in which they are
 -- judged.
-use Rattle.std.specs.Prelude.{ℕ, not, List, [], ◌∷◌, Bool, true, false, Option, Some, None, Result, Ok, Err, if◌then◌else◌, sum_by}
+use Rattle.std.specs.Prelude.{ℕ, ◌+◌, ◌||◌, not, List, [], ◌∷◌, Bool, true, false, Option, Some, None, Result, Ok, Err, if◌then◌else◌, sum_by}
 use Rattle.std.specs.List.{flat_map, list_any}
 use Rattle.eds_base.specs.Answering.{◌>>=◌}
 use Rattle.eds_base.specs.Reading.{same}
@@ -91,6 +91,10 @@ module _ (t : Table) (plan : List ComponentPlan) (wired : List ℕ → Bool) whe
   abbrev pub line_says : (late : Bool) → (time : ℕ) → (line : List ℕ) → Result Meaning LineWhy
   line_says late time line = form line >>= λ s. saying_meaning late time s
 
-  -- what a line means behind the lines before it
+  -- what a line means behind the lines before it, which go on from a time, where a wire is too late before all of them or not
+  abbrev pub meaning_from : (late : Bool) → (time : ℕ) → (before : List (List ℕ)) → (line : List ℕ) → Result Meaning LineWhy
+  meaning_from late time before line = line_says (late || begun before) (time + time_of before) line
+
+  -- what a line means behind the lines before it, which begin a script
   abbrev pub meaning : (before : List (List ℕ)) → (line : List ℕ) → Result Meaning LineWhy
-  meaning before line = line_says (begun before) (time_of before) line
+  meaning before line = meaning_from false 0 before line

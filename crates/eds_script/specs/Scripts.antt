@@ -1,5 +1,5 @@
 -- The script that a text stands for, or its first bad line.
-use Rattle.std.specs.Prelude.{ℕ, List, [], ◌∷◌, ◌++◌, Bool, Result, Ok, Err}
+use Rattle.std.specs.Prelude.{ℕ, List, [], ◌∷◌, ◌++◌, Bool, false, Result, Ok, Err}
 use Rattle.eds_base.specs.Answering.{◌>>=◌}
 use Rattle.eds_types.specs.Rows.{Table}
 use Rattle.eds_plan.specs.declared.component.ComponentPlan.{ComponentPlan}
@@ -8,7 +8,7 @@ use Rattle.eds_plan.specs.Lines.{Told, starts, passes}
 use Rattle.eds_script.specs.declared.why.BadLine.{BadLine}
 use Rattle.eds_script.specs.declared.why.LineWhy.{LineWhy}
 use Rattle.eds_script.specs.Lines.{Numbered, script_lines}
-use Rattle.eds_script.specs.Meaning.{Meaning, wire, tick, comes, meaning, wired_in}
+use Rattle.eds_script.specs.Meaning.{Meaning, wire, tick, comes, meaning_from, wired_in}
 
 -- a script as plain data: its wires, and what its lines have happen, each with the number of its line
 pub record Plot : Type 0 where
@@ -35,6 +35,10 @@ happenings_of ((n, comes x) ∷ ms) = (n, x) ∷ happenings_of ms
 abbrev pub plot_of : List (ℕ × Meaning) → Plot
 plot_of ms = record { wires = wires_of ms; lines = (0, starts) ∷ happenings_of ms }
 
+-- a script with what meanings add to it
+abbrev pub with_meanings : Plot → List (ℕ × Meaning) → Plot
+with_meanings p ms = record { wires = p.wires ++ wires_of ms; lines = p.lines ++ happenings_of ms }
+
 -- ---- from lines
 
 -- what is found in a line, or why nothing is, with the line's number
@@ -43,13 +47,22 @@ at_line n (Ok x) = Ok x
 at_line n (Err w) = Err (record { line = n; why = w })
 
 module _ (t : Table) (plan : List ComponentPlan) (wired : List ℕ → Bool) where
-  -- the meanings of lines, each behind those before it, or the first of them that has none
-  abbrev pub meanings : (before : List (List ℕ)) → List Numbered → Result (List (ℕ × Meaning)) BadLine
-  meanings before [] = Ok []
-  meanings before (line ∷ lines) = do
-    m ← at_line line.0 (meaning t plan wired before line.1)
-    ms ← meanings (before ++ line.1 ∷ []) lines
+  -- the meanings of lines that go on from a time, each behind those before it, or the first of them that has none; a wire is
+  -- too late before all of them or not
+  abbrev pub meanings_from : (late : Bool) → (time : ℕ) → (before : List (List ℕ)) → List Numbered → Result (List (ℕ × Meaning)) BadLine
+  meanings_from late time before [] = Ok []
+  meanings_from late time before (line ∷ lines) = do
+    m ← at_line line.0 (meaning_from t plan wired late time before line.1)
+    ms ← meanings_from late time (before ++ line.1 ∷ []) lines
     Ok ((line.0, m) ∷ ms)
+
+  -- the meanings of lines that begin a script
+  abbrev pub meanings : (before : List (List ℕ)) → List Numbered → Result (List (ℕ × Meaning)) BadLine
+  meanings before lines = meanings_from false 0 before lines
+
+  -- a script with what lines mean that go on behind it, or the first of them that means nothing, and why
+  abbrev pub plot_from : (late : Bool) → (time : ℕ) → Plot → List Numbered → Result Plot BadLine
+  plot_from late time p lines = meanings_from late time [] lines >>= λ ms. Ok (with_meanings p ms)
 
   -- the script that lines stand for, or the first of them that means nothing, and why
   abbrev pub plot_by : List Numbered → Result Plot BadLine

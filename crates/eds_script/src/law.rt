@@ -2,6 +2,7 @@
 
 ghost use Rattle.eds_script.specs.Alike.{AlikeEvents, AlikeScripts, AlikeStates};
 ghost use Rattle.eds_script.specs.Handing.{ScriptsMayRun};
+ghost use Rattle.eds_script.specs.Joined.{MoreMayHappen, TextsJoin};
 ghost use Rattle.eds_script.specs.Laws.{FramesRead, OneLine};
 
 /// The hex of a frame is read as octets that begin with the frame's bits, with at most 7 more.
@@ -25,4 +26,11 @@ pub fn alike_plans_are_told_alike()
     ensures scripts { AlikeScripts }
     ensures events { AlikeEvents }
     ensures states { AlikeStates }
+{}
+
+/// The script of joined texts is that of the first one with what the second one has happen that goes on from its end. What a
+/// text has happen that goes on behind wires fits its plan, keeps away from their ends, and stays within the time.
+pub fn texts_join()
+    ensures join { TextsJoin }
+    ensures more { MoreMayHappen }
 {}

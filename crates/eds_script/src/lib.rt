@@ -26,7 +26,7 @@ pub use lines::{cut, is_skipped, without_return};
 pub use names::{name_of_member, state_name};
 pub use number::number_of;
 pub use print::push_octets;
-pub use script::{Lines, Script, parse_script};
+pub use script::{Lines, Script, parse_more, parse_script};
 pub use state::{add_variables, add_waits, print_state};
 pub use why::{BadLine, LineWhy};
 pub use words::{last_word, two_words, word_and_rest};

@@ -4,12 +4,14 @@ ghost use Rattle.std.specs.Prelude.{◌≡◌, ◌||◌, [], ℕ, List, IsFalse,
 ghost use Rattle.std.specs.List.{list_any};
 ghost use Rattle.eds_base.specs.Reading.{same};
 ghost use Rattle.eds_script.specs.Meaning.{tied, wired_in};
+ghost use Rattle.eds_script.specs.More.{tied_by};
 ghost use Rattle.eds_script.specs.Seen.{is_among, line_of};
 ghost use Rattle.eds_script.specs.Words.{form as form_of};
 
 use crate::lines::ScriptLine;
 use crate::words::{Saying, form};
 use eds_base::Memory;
+use eds_plan::Wire;
 use indexmap::IndexSet;
 use std::alloc::Global;
 
@@ -69,6 +71,25 @@ pub(crate) fn wired_ends(alloc: Global, lines: &[ScriptLine<'_>]) -> Result<EndS
     let mut ends = IndexSet::new(alloc);
     for line in lines {
         note_line(alloc, &mut ends, line.text)?;
+    }
+    Ok(ends)
+}
+
+fn note_wire(alloc: Global, ends: &mut EndSet, wire: &Wire) -> Result<(), Memory>
+    ensures { OnOk result ((q : List ℕ) → is_among (map string_bytes ends.new.keys) q ≡ ((same q wire.now.lower || same q wire.now.upper) || is_among (map string_bytes ends.old.keys) q)) }
+{
+    note_end(alloc, ends, wire.lower.as_str())?;
+    note_end(alloc, ends, wire.upper.as_str())?;
+    Ok(())
+}
+
+/// The ends that stand in wires.
+pub(crate) fn ends_of_wires(alloc: Global, wires: &[Wire]) -> Result<EndSet, Memory>
+    ensures { IfOk result (λ s. (q : List ℕ) → is_among (map string_bytes s.keys) q ≡ tied_by wires.now q) }
+{
+    let mut ends = IndexSet::new(alloc);
+    for wire in wires {
+        note_wire(alloc, &mut ends, wire)?;
     }
     Ok(ends)
 }
