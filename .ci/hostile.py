@@ -465,6 +465,12 @@ def layouts():
     told = sorted(f"where $.{name} {k % 4096}..{k % 4096}\n" for k, (name, _) in enumerate(parts))
     yield "a layout of 32,767 entries with a constraint each", "layout P/K s", {"s": sheet(*wide)}, (
         0, "container P/D bits 393204\n" + rows(*parts) + "".join(sorted(told, key=lambda it: it.split(" ")[1].encode())))  # fmt: skip
+    parts = [("k", 12), *((f"e{k}", 8) for k in range(32766))]
+    many = [U8, U12, container("B", *(entry(name, f"U{size}") for name, size in parts)), *(derived(f"D{i}", "B", asks("k", i)) for i in range(511))]
+    many[2][1]["abstract"] = "true"
+    yield "a layout of 511 containers of 32,767 parts", "layout P/B s", {"s": sheet(*many)}, (7, "limit report 67108864\n")
+    yield "a layout of one of 511 containers of 32,767 parts", "layout P/D0 s", {"s": sheet(*many)}, (
+        0, f"container P/D0 bits {12 + 8 * 32766}\n" + rows(*parts) + "where $.k 0..0\n")  # fmt: skip
     kinds = ",".join(f"{i}..{i}" for i in range(2, 512, 2))
     yield "a layout of 511 containers, of which each leaves 255 intervals", "layout P/B s", {"s": sheet(*scattered(511, 510))}, (
         0, "".join(f"container P/E{i} bits 24\n0 12 $.n entry\n12 12 $.x entry\nwhere $.n {i}..{i}\nwhere $.x {kinds}\n" for i in range(511)))  # fmt: skip

@@ -371,16 +371,8 @@ def arguments(count):
     return package
 
 
-def layouts():
-    entries = [entry("k", "U16"), *(entry(f"e{k}", "U8") for k in range(32766))]
-    kinds = [derived(f"D{i}", "B", [value_is("k", i)]) for i in range(511)]
-    wide = sheet(U8, U16, abstract(container("B", *entries)), *kinds)
-    yield "a layout of 511 containers of 32,767 parts", "layout P/B s", {"s": wide}
-    yield "a layout of one of 511 containers of 32,767 parts", "layout P/D0 s", {"s": wide}
-
-
 def inputs():
-    for group in (one_hash, sheets, layouts, frames, values, recordings, runs, sent, scripts):
+    for group in (one_hash, sheets, frames, values, recordings, runs, sent, scripts):
         yield from group()
 
 

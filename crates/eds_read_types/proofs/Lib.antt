@@ -21,6 +21,7 @@ pub mod LengthFacts
 pub mod PlainRules
 pub mod MeasureFacts
 pub mod PartFacts
+mod PartNameFacts
 pub mod ChainFacts
 pub mod Circles
 pub mod NumberFacts

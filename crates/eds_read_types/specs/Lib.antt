@@ -13,6 +13,7 @@ pub mod Unbroken
 pub mod ConstraintElements
 pub mod Used
 pub mod Parts
+pub mod PartNames
 pub mod Nesting
 pub mod TypeCycle
 pub mod LimitChain

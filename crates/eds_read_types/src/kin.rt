@@ -19,7 +19,7 @@ pub(crate) fn mark_at(marks: &[bool], id: usize) -> bool
 }
 
 /// Marks a number, if there is room for its mark.
-fn set_mark(marks: &mut [bool], id: usize)
+pub(crate) fn set_mark(marks: &mut [bool], id: usize)
     ensures long { length marks.new ≡ length marks.old }
     ensures set { (k : ℕ) → k < length marks.old → mark marks.new k ≡ (mark marks.old k || id == k) }
 {

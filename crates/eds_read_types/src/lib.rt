@@ -26,6 +26,7 @@ mod limit_items;
 mod limit_nesting;
 mod open_constraint;
 mod part_element;
+mod part_names;
 mod reference;
 mod reference_row;
 mod rule_list_field;

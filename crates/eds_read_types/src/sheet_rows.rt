@@ -14,8 +14,10 @@ ghost use Rattle.eds_type_rows.specs.TableRows.{table_rows};
 ghost use Rattle.eds_nesting.specs.Families.{families as families_of, nesting as nesting_of, family_sizes as family_sizes_of, endless_met as endless_met_of};
 ghost use Rattle.eds_read_types.specs.Parts.{parts_in, judged_part, judged_parts};
 ghost use Rattle.eds_read_types.specs.LimitFamily.{family_size};
+ghost use Rattle.eds_read_types.specs.PartNames.{AreNames};
 ghost use Rattle.eds_read_types.specs.Nesting.{course_of, meets_base_cycle};
 
+use crate::part_names::Names;
 use eds_base::{Memory, Place, Refusal, TypeId};
 use eds_graph::Course;
 use eds_type_rows::base_graph::BaseGraph;
@@ -38,11 +40,14 @@ pub(crate) struct SheetRows<'a> {
     pub(crate) sizes: &'a [usize],
     /// The kind of each type that a fixed value names, if it is neither an array nor a container.
     pub(crate) kinds: &'a [Option<ValueKind>],
+    /// The names of the parts of each type from which another derives.
+    pub(crate) names: &'a [Names],
     ghost read: { rows.now ≡ table_rows graph.now.sheet.now.trees.now graph.now.sheet.now.space.now },
     ghost nested: { nesting.now ≡ nesting_of rows.now (families_of rows.now) },
     ghost met: { endless.now ≡ endless_met_of rows.now (families_of rows.now) },
     ghost sized: { sizes.now ≡ family_sizes_of rows.now (families_of rows.now) },
     ghost valued: { AreRead graph.now.sheet.now.trees.now graph.now.sheet.now.space.now kinds.now } by { Prim.hlevel kind_set },
+    ghost named: { AreNames rows.now names.now },
 }
 
 impl<'a> SheetRows<'a> {

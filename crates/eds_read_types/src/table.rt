@@ -14,6 +14,7 @@ ghost use Rattle.eds_read_types.specs.SheetTable.{sheet_table};
 ghost use Rattle.eds_read_types.specs.TableRead.{typed_of, table_read};
 
 use crate::constraint_element::asked_lists;
+use crate::part_names::names_of_bases;
 use crate::rules::least_break;
 use crate::sheet_rows::SheetRows;
 use crate::used::used_types;
@@ -118,6 +119,7 @@ fn least_of(alloc: Global, kinds: &ValueKinds, rows: &TypeRows) -> Result<Option
     let nesting = courses_of(alloc, rows)?;
     let endless = endless_of(alloc, rows)?;
     let sizes = sizes_of(alloc, rows)?;
+    let names = names_of_bases(alloc, rows)?;
     let sheet = SheetRows {
         graph: kinds.graph,
         rows,
@@ -125,6 +127,7 @@ fn least_of(alloc: Global, kinds: &ValueKinds, rows: &TypeRows) -> Result<Option
         sizes: &sizes,
         kinds: kinds.known,
         endless: &endless,
+        names: &names,
     };
     least_break(alloc, &sheet)
 }
