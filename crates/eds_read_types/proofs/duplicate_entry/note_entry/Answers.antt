@@ -41,5 +41,5 @@ returns-clause-found c =
     let above = names_above 16 c.args.above.now.rows.now (base_of c.args.above.now.rows.now c.args.id) in
     let name = c.args.name.now in
     let absent : is_among (own ++ above) name ≡ false =
-      list_any-append (same name) own above ∙ ap (λ b. b || is_among above name) (among_ordered keys name ∙ sym c.contains.ensures ∙ c.if-contains.false) ∙ (sym c.have.ensures ∙ c.if-have.false) in
+    list_any-append (same name) own above ∙ ap (λ b. b || is_among above name) (among_ordered keys name ∙ sym c.contains.ensures ∙ c.if-contains.false) ∙ (sym c.have.ensures ∙ c.if-have.false) in
     rw (repeat_of-absent _ c.args.at c.args.name.now absent) (sym (first_of-none c.args.found))
