@@ -5,10 +5,10 @@
 
 PROGRAM (by default crates/eds_prog/out/eds_prog) runs a script and replays a session that is this script with a recording of
 each event. In the session of `lines` each line is a frame that comes to a component, which sends it back; in that of `ticks` a
-timer of a component comes 10,000 times in each line and sends a frame. Recordings are the texts of the events, or have other
-letters, so that each frame has to be read. Names are short, since a session holds no more octets. Of each command the least
-processor time of some turns counts, less that of an empty script, so that start and sheet don't count. The last number of a
-line is the ratio of the two times.
+timer of a component comes 10,000 times in each line and sends a frame of 7 bits. Recordings are the texts of the events, or have
+their hex in other letters, or another bit behind the value, so that each frame has to be read. Names are short, since a session
+holds no more octets. Of each command the least processor time of some turns counts, less that of an empty script, so that start
+and sheet don't count. The last number of a line is the ratio of the two times.
 """
 
 import argparse
@@ -21,6 +21,8 @@ sys.dont_write_bytecode = True
 from runs import TOP, activity, command, integer, machine, run, timer, variables, write  # noqa: E402
 
 FIRINGS = 10_000  # of one line, at most
+HEX = "0a"  # of each frame: the value 5 in 7 bits
+KINDS = {"as events' texts": HEX, "in other letters": HEX.upper(), "with other fill bits": "0b"}
 
 
 def sheet():
@@ -28,33 +30,32 @@ def sheet():
     unit = ["ArgumentValue", {"name": "u"}, ["ArgumentRef", {"argumentRef": "u"}]]
     own = ["ArgumentValue", {"name": "u"}, ["VariableRef", {"variableRef": "n"}]]
     send = ["SendCommandPrimitive", {"interface": "b", "command": "s"}]
-    echo, beat = activity("echo", [*send, unit], arguments=[("u", "U8")]), activity("beat", [*send, own])
+    echo, beat = activity("echo", [*send, unit], arguments=[("u", "U7")]), activity("beat", [*send, own])
     machines = [machine("e", command("b", "r"), "echo", unit), machine("t", timer(1), "beat")]
-    commands = [["Command", {"name": name}, ["Argument", {"name": "u", "type": "U8", "mode": mode}]] for name, mode in (("s", "in"), ("r", "notify"))]
+    commands = [["Command", {"name": name}, ["Argument", {"name": "u", "type": "U7", "mode": mode}]] for name, mode in (("s", "in"), ("r", "notify"))]
     face = ["Interface", {"name": "B", "level": "subnetwork"}, ["CommandSet", *commands]]
     inside = [variables("n"), ["ActivitySet", echo, beat], ["StateMachineSet", *machines]]
-    inside[0][1][1].update(type="U8", initialValue="10")
+    inside[0][1][1].update(type="U7", initialValue="5")
     component = ["Component", {"name": "C"}, ["RequiredInterfaceSet", ["Interface", {"name": "b", "type": "B"}]], ["Implementation", *inside]]
-    sets = [["DataTypeSet", integer(8), integer(64)], ["DeclaredInterfaceSet", face], ["ComponentSet", component]]
+    sets = [["DataTypeSet", integer(7), integer(64)], ["DeclaredInterfaceSet", face], ["ComponentSet", component]]
     return ["PackageFile", ["Package", {"name": "P"}, *sets]]
 
 
 def lines(count):
     """Lines of a script, each with the events that it makes."""
     for _ in range(count):
-        yield "frame P/C:b r 0a", ["0 frame P/C:b s 0a"]
+        yield f"frame P/C:b r {HEX}", [f"0 frame P/C:b s {HEX}"]
 
 
 def ticks(count):
     for first in range(1, count + 1, FIRINGS):
         last = min(first + FIRINGS, count + 1)
-        yield f"tick {last - first}", [f"{at} frame P/C:b s 0a" for at in range(first, last)]
+        yield f"tick {last - first}", [f"{at} frame P/C:b s {HEX}" for at in range(first, last)]
 
 
-def session(made, is_otherwise):
-    """The lines with recordings behind them: the texts of the events, or frames in other letters."""
-    shown = [(line, [it[:-2] + "0A" for it in events] if is_otherwise else events) for line, events in made]
-    return "".join(f"{line}\n" + "".join(f"> {it}\n" for it in events) for line, events in shown)
+def session(made, recorded):
+    """The lines with recordings behind them: the texts of the events, with this hex."""
+    return "".join(f"{line}\n" + "".join(f"> {it.removesuffix(HEX)}{recorded}\n" for it in events) for line, events in made)
 
 
 def least(words, turns):
@@ -74,12 +75,10 @@ def measure(program, recordings, turns):
             events = [it for _, events in of for it in events]
             if report.splitlines()[: len(events)] != events:
                 sys.exit(f"{name}: the run has other events")
-            for is_otherwise in (False, True):
-                recorded = write(room, "session", session(of, is_otherwise))
-                replayed, report = least([program, "replay", recorded, made], turns)
-                if report != f"agrees {recordings} respelled {recordings if is_otherwise else 0}\n":
+            for kind, recorded in KINDS.items():
+                replayed, report = least([program, "replay", write(room, "session", session(of, recorded)), made], turns)
+                if report != f"agrees {recordings} respelled {0 if recorded == HEX else recordings}\n":
                     sys.exit(f"{name}: {report}")
-                kind = "in other letters" if is_otherwise else "as events' texts"
                 times = f"run {ran - none:.3f} s, replay {replayed - none:.3f} s"
                 print(f"{recordings} recordings of {name}, {kind}: {times}: {(replayed - none) / (ran - none):.2f}", flush=True)
 

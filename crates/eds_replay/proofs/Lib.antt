@@ -6,7 +6,10 @@ mod Comparing
 mod Owned
 mod Judging
 mod Heads
+mod HexText
+mod Letters
 mod FrameTypes
+mod FrameTexts
 mod Keeping
 mod Forgotten
 mod Deciding

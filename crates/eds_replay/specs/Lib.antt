@@ -1,5 +1,6 @@
 pub mod Shown
 pub mod Sessions
+pub mod HexText
 pub mod Frames
 pub mod Agreement
 pub mod Differences

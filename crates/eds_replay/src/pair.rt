@@ -9,6 +9,7 @@ ghost use Rattle.eds_script.specs.Known.{KnowsTypes};
 ghost use Rattle.eds_replay.specs.Agreement.{ArgumentsAreClear, IsEventText, IsRespelled};
 ghost use Rattle.eds_replay.specs.Pairs.{IsPair};
 
+use crate::hex_text::are_same;
 use crate::spelling::respells;
 use eds_base::{Memory, Text};
 use eds_plan::{Out, Plan};
@@ -62,24 +63,28 @@ pub(crate) fn event_text(
     text_of(alloc, without_feed(line.as_slice()))
 }
 
-// Whether a recording spells the frame of an event otherwise.
+// Whether a recording spells the frame of an event otherwise, where this is the event's text.
 fn is_respelled(
     alloc: Global,
     table: &TypeTable,
     segments: &Segments<'_>,
     plan: &Plan,
-    text: &str,
     event: &Out,
+    line: &[u8],
+    text: &[u8],
 ) -> Result<bool, Memory>
     requires segments { segments.now ≡ table.now }
     requires known { KnowsTypes table.now plan.now }
     requires clear { ArgumentsAreClear table.now plan.now }
+    requires fits { FitsPlan table.now plan.now (report event.now) }
+    requires line { IsEventText table.now plan.now (report event.now) line.now }
     ensures holds { IfOk result (λ b. IsTrue b → IsRespelled table.now plan.now (report event.now) text.now) }
     ensures only { IfOk result (λ b. IsRespelled table.now plan.now (report event.now) text.now → IsTrue b) }
 {
+    table.keeps_rules();
     match frame_of(plan, event) {
         None => Ok(false),
-        Some(frame) => respells(alloc, table, segments, &frame, text.as_bytes()),
+        Some(frame) => respells(alloc, table, segments, &frame, line, text),
     }
 }
 
@@ -102,10 +107,11 @@ pub(crate) fn pair_of(
     one_line();
     let line = print_event(alloc, table, plan, event)?;
     let got = without_feed(line.as_slice());
-    if got == text.as_bytes() {
+    let recorded = text.as_bytes();
+    if are_same(got, recorded) {
         return Ok(Pair::Same);
     }
-    if is_respelled(alloc, table, segments, plan, text, event)? {
+    if is_respelled(alloc, table, segments, plan, event, got, recorded)? {
         return Ok(Pair::Otherwise);
     }
     Ok(Pair::Other(text_of(alloc, got)?))

@@ -4,11 +4,12 @@ ghost use Rattle.std.specs.Prelude.{◌≡◌, ◌<◌, ◌≤◌, ◌+◌, ◌*
 ghost use Rattle.eds_types.specs.Overlap.{IsClear};
 ghost use Rattle.eds_types.specs.Plain.{plain};
 ghost use Rattle.eds_script.specs.Frames.{framed};
-ghost use Rattle.eds_replay.specs.Frames.{HoldValue, Respells};
+ghost use Rattle.eds_replay.specs.Frames.{HoldValue, IsFrameText, Respells};
 
-use crate::hex_text::hex_behind;
+use crate::hex_text::{hex_behind, parted};
 use eds_base::{Fail, Memory, TypeId};
 use eds_bits::BitView;
+use eds_script::law::frames_read;
 use eds_script::{Frame, frame_octets};
 use eds_types::{TypeTable, Value};
 use eds_unpack::{Segments, unpack_by};
@@ -60,24 +61,31 @@ fn holds_value(
     }
 }
 
-/// Whether a text is that of a frame with the same head, whose octets spell the same value.
+/// Whether a text is that of a frame with the same head, whose octets spell the same value, where a line is the frame's own text.
+/// Hex in other letters stands for the same octets, so that no value is read.
 pub(crate) fn respells(
     alloc: Global,
     table: &TypeTable,
     segments: &Segments<'_>,
     frame: &Frame<'_>,
+    line: &[u8],
     text: &[u8],
 ) -> Result<bool, Memory>
     requires segments { segments.now ≡ table.now }
     requires known { frame.now.id.0 < length table.now }
     requires clear { IsClear table.now frame.now.id.0 }
+    requires line { IsFrameText table.now (framed frame.now) line.now }
     ensures holds { IfOk result (λ b. IsTrue b → Respells table.now (framed frame.now) text.now) }
     ensures only { IfOk result (λ b. Respells table.now (framed frame.now) text.now → IsTrue b) }
 {
-    let head = frame.head(alloc)?;
-    let Some(hex) = hex_behind(head.as_bytes(), text) else {
+    frames_read();
+    let (head, told) = parted(line);
+    let Some(hex) = hex_behind(head, text) else {
         return Ok(false);
     };
+    if hex.eq_ignore_ascii_case(told) {
+        return Ok(true);
+    }
     let Some(octets) = frame_octets(alloc, hex)? else {
         return Ok(false);
     };
