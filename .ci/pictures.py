@@ -1,7 +1,7 @@
 #!/usr/bin/env python3
 """Makes the pages, timelines, tables and plots of the examples by the scripts in tools/, and checks them.
 
-  .ci/pictures.py [--sheets N] [--keep FOLDER] [--large]
+  .ci/pictures.py [--sheets N] [--keep FOLDER] [--screens FOLDER] [--large]
 
 What is checked: a page is well formed as HTML, its links lead somewhere in it, it asks for nothing outside, its headings,
 tables and drawings have what readers of the screen need; every number in a layout's picture and table is that of `eds
@@ -9,7 +9,8 @@ layout`, asked for each container by itself; a timeline has every line that `eds
 values of `eds split`. A sheet with marks of HTML in each place of a free text is shown as text. What tools/sheets.py reads of
 N random sheets (40 by default) is what bench/model reads, and the layouts on their pages are those of `eds layout` too. Where
 Chromium is installed, all pages are opened in it at two widths: no error, and what must be seen is there. With --large a
-sheet of 4,096 types and a run of 10,000 events are opened too, and the times are told. With --keep the pages stay in FOLDER,
+sheet of 4,096 types and a run of 10,000 events are opened too, and the times are told, the least of five turns: two seconds at
+most to open, and half of one to zoom, scroll or search in the run. With --keep the pages stay in FOLDER,
 and with --screens FOLDER Chromium takes the pictures of docs/PICTURES.md. EDS may name another program than ./eds. What is
 skipped is said.
 """
@@ -607,10 +608,35 @@ def large_sheet():
     return ["PackageFile", ["Package", {"name": "Large"}, ["DataTypeSet", *numbers, *containers]]]
 
 
-def seconds_to_open(gate, path):
-    begun = time.time()
-    opened(chromium(), path, gate.room, None)
-    return time.time() - begun
+# when a page has been read and laid out, and how long the slowest of some actions on a run's drawing takes, in milliseconds
+TIMES = """<script>addEventListener('load',function(){
+document.body.getBoundingClientRect();
+var out={opened:performance.now(),slowest:0},view=document.getElementById('view');
+function act(what){var begun=performance.now();what();document.body.getBoundingClientRect();out.slowest=Math.max(out.slowest,performance.now()-begun);}
+function click(id){act(function(){document.getElementById(id).click();});}
+if(view){
+['in','out','fit','in','each'].forEach(click);
+[.1,.5,.9].forEach(function(it){act(function(){view.scrollTop=it*view.scrollHeight;view.dispatchEvent(new Event('scroll'));});});
+act(function(){var it=document.getElementById('mode');it.value='time';it.dispatchEvent(new Event('change'));});
+['in','out','fit','in','each'].forEach(click);
+act(function(){var it=document.getElementById('find');it.value='clock';it.dispatchEvent(new Event('input'));});
+}
+document.documentElement.innerHTML='<pre id="times">'+JSON.stringify(out)+'</pre>';
+});</script>"""
+AT_ONCE = "<script>window.requestAnimationFrame=function(it){it();return 0;};</script>"
+
+
+def times_of(gate, path):
+    """What the page says of itself, the least of some turns: the milliseconds until it was opened, and those of the slowest action."""
+    with open(path, encoding="utf-8") as file:
+        front, _, end = file.read().rpartition("</body>")
+    probe, found = os.path.join(gate.room, "times.html"), []
+    with open(probe, "w", encoding="utf-8") as file:
+        file.write(front.replace("<head>", "<head>" + AT_ONCE, 1) + TIMES + "</body>" + end)
+    for _ in range(5):
+        text, _ = opened(chromium(), probe, gate.room, None)
+        found.append(json.loads(re.search(r'<pre id="times">(.*?)</pre>', text)[1]))
+    return min(it["opened"] for it in found), min(it["slowest"] for it in found)
 
 
 def large(gate):
@@ -628,11 +654,10 @@ def large(gate):
         with open(path, "wb") as file:
             file.write(octets)
         if chromium():
-            least = min(seconds_to_open(gate, os.path.join(gate.room, "page-flat.html")) for _ in range(3))
-            took = min(seconds_to_open(gate, path) for _ in range(3))
-            print(f"pictures: large {name}: Chromium starts, opens it and ends in {took:.1f} s, with a small page in {least:.1f} s")
-            if took - least > 2:
-                gate.wrong.append(f"the large {name} takes {took - least:.1f} s to open")
+            took, slowest = times_of(gate, path)
+            print(f"pictures: large {name}: opened in {took / 1000:.2f} s, the slowest action {slowest:.0f} ms; load {os.getloadavg()[0]:.1f}")
+            if took > 2000 or slowest > 500:
+                gate.wrong.append(f"the large {name} takes {took / 1000:.2f} s to open, and {slowest:.0f} ms for an action")
 
 
 # the pictures of docs/PICTURES.md: the page, how far down it begins, its width and its height

@@ -118,7 +118,7 @@ class Floating:
 
 
 def part(number, row, name, detail, pieces, style):
-    """One part of the picture: its pieces, with its name on the widest."""
+    """One part of the picture: its pieces, with what is told of it on the widest, and its name on the others too."""
     widest = max(range(len(pieces)), key=lambda at: pieces[at][2])
     out, size = [], "varies" if row.size is None else str(row.size)
     first = "varies" if row.offset is None else str(row.offset)
@@ -129,8 +129,11 @@ def part(number, row, name, detail, pieces, style):
         if at == widest:
             fits = 6 * len(told) <= width - 4
             out.append(label(x, y, width, number, name, told if fits else size, first if at == 0 else None))
-        elif at == 0:
+            continue
+        if at == 0:
             out.append(f'<text class="first" x="{x + 3}" y="{y + 10}">{first}</text>')
+        if 6 * len(name) <= width - 6:
+            out.append(f'<text class="again" x="{x + width // 2}" y="{y + 27}">{shown(name)}</text>')
     return f'<g data-row="{number}" data-offset="{first}" data-size="{size}">{"".join(out)}</g>'
 
 

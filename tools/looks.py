@@ -33,6 +33,7 @@ code{overflow-wrap:anywhere}
 .legend,.place,.told{color:var(--soft);font-size:.9rem}
 .told{font-style:italic}
 p.told{max-width:70ch}
+td .told{display:block}
 .place{margin:.1rem 0 .5rem;overflow-wrap:anywhere}
 .by{display:inline-block;font:normal 600 .68rem/1.35 sans-serif;letter-spacing:.02em;padding:0 .35em;border-radius:3px;vertical-align:.1em;white-space:nowrap}
 .by.eds{background:#0d6235;color:#fff}
@@ -54,9 +55,6 @@ nav summary{font-weight:600;cursor:pointer;padding:.3rem 0}
 .small{display:grid;grid-template-columns:repeat(auto-fill,minmax(23rem,1fr));gap:1rem;margin:0 0 1rem}
 .small .item{margin:0;padding:.75rem 1rem;contain-intrinsic-size:auto 150px}
 .small .facts div{grid-template-columns:5rem minmax(0,1fr)}
-.small{display:grid;grid-template-columns:repeat(auto-fill,minmax(23rem,1fr));gap:1rem;margin:0 0 1rem}
-.small .item{margin:0;padding:.75rem 1rem;contain-intrinsic-size:auto 150px}
-.small .facts div{grid-template-columns:5rem minmax(0,1fr)}
 .package{background:none;border:0;padding:.5rem 0 0;margin-bottom:.75rem}
 .item:target{border-color:#d97706;box-shadow:0 0 0 2px #d97706}
 b:target,h5:target{background:#fff1d6}
@@ -64,7 +62,9 @@ b:target,h5:target{background:#fff1d6}
 .facts div{display:grid;grid-template-columns:8rem minmax(0,1fr);gap:.75rem}
 .facts dt{color:var(--soft)}
 .facts dd{margin:0;overflow-wrap:anywhere}
-.wide{overflow-x:auto;margin:.4rem 0}
+.wide,.chunk{overflow-x:auto;background:linear-gradient(90deg,var(--under) 40%,transparent) left top/2.2rem calc(100% + 2px) no-repeat local,linear-gradient(270deg,var(--under) 40%,transparent) right top/2.2rem calc(100% + 2px) no-repeat local,linear-gradient(90deg,#1c273330,transparent) left/.7rem 100% no-repeat scroll,linear-gradient(270deg,#1c273330,transparent) right/.7rem 100% no-repeat scroll}
+.wide{--under:var(--paper);margin:.4rem 0}
+.chunk,.plain .wide{--under:var(--ground)}
 table{border-collapse:collapse;font-size:.92rem}
 th,td{text-align:left;padding:.28rem .8rem .28rem 0;border-bottom:1px solid #e3e8ee;vertical-align:top}
 th{font-weight:600;color:#3d4955;white-space:nowrap;border-bottom-color:var(--line)}
@@ -79,12 +79,13 @@ ul{margin:.3rem 0;padding-left:1.2rem}
 .note{background:#fff6e3;border-left:4px solid #d97706;padding:.4rem .7rem}
 pre{margin:.3rem 0 .6rem;padding:.6rem .8rem;background:var(--ground);border-radius:6px;white-space:pre-wrap;overflow-wrap:anywhere;line-height:1.45}
 .source{white-space:pre-wrap}
-.source .line{display:block;padding-left:4.5em;text-indent:-4.5em}
+.source .line{display:block;padding-left:var(--gutter);text-indent:calc(-1*var(--gutter))}
 mark{background:#ffd9d9;color:inherit}
 .bits svg{display:block;width:100%;min-width:620px;max-width:760px;height:auto}
 .bits text{font:12px "Helvetica Neue",Helvetica,Arial,"Liberation Sans",sans-serif;text-anchor:middle;fill:#16202b}
 .bits text.first{font-size:9.5px;text-anchor:start;fill:#36434f}
 .bits text.size{font-size:11px;fill:#36434f}
+.bits text.again{font-size:11px;fill:#52606d}
 .bits text.key{font-weight:600;font-size:11px}
 text.ruler{font:9px "Helvetica Neue",Helvetica,Arial,"Liberation Sans",sans-serif;text-anchor:middle;fill:#52606d}
 .bits text.gutter{font-size:10.5px;text-anchor:end;fill:#52606d}
@@ -96,7 +97,7 @@ text.ruler{font:9px "Helvetica Neue",Helvetica,Arial,"Liberation Sans",sans-seri
 [hidden]{display:none!important}
 @media (max-width:56rem){
 th,td{padding-right:.55rem}
-.parts td:last-child{min-width:11rem}
+td .told,.says{display:block;min-width:12rem}
 .frame{grid-template-columns:minmax(0,1fr);padding:1rem .75rem;gap:.5rem}
 header{padding:1rem .9rem}
 nav{position:static;max-height:none;overflow:visible;padding:0}
@@ -115,7 +116,7 @@ header{padding:0 0 .6rem}
 figure,tr,pre,.bits,.graph{break-inside:avoid}
 h2,h3,h4,h5{break-after:avoid}
 a{color:inherit;text-decoration:none}
-.wide{overflow:visible}
+.wide,.chunk{overflow:visible;background:none}
 .bits svg{min-width:0}
 }
 """
@@ -178,7 +179,7 @@ RUN_STYLE = """
 .tools button{cursor:pointer;min-width:2.4rem}
 .tools input{width:11rem}
 .tools label{display:inline-flex;gap:.35rem;align-items:center}
-.view{position:relative;height:min(72vh,46rem);overflow:auto;background:#fff;border:1px solid var(--line);border-radius:8px}
+.view{position:relative;min-height:12rem;max-height:min(72vh,46rem);overflow:auto;background:#fff;border:1px solid var(--line);border-radius:8px}
 .view .tall{position:relative}
 .view svg{position:sticky;left:0;display:block}
 .view .lanes{position:sticky;top:0;z-index:1;height:44px;background:#fff;border-bottom:1px solid var(--line)}
@@ -205,8 +206,8 @@ table.steps{table-layout:fixed;width:100%;min-width:44rem}
 .steps tr:target{background:#fff1d6}
 main>h2{margin:1.6rem 0 .5rem}main>h3{margin:1rem 0 .3rem}
 .wires summary{font-weight:600;cursor:pointer}
-@media (max-width:56rem){main{overflow-x:auto}.chunk{overflow-x:auto}.tools input{width:8rem}}
-@media print{.tools,.now{display:none}.view{height:auto;overflow:visible;border:0}.view.empty{display:none}.chunk{content-visibility:visible}table.steps{min-width:0}}
+@media (max-width:56rem){table.steps{min-width:52rem}.steps col:nth-child(1){width:3rem}.steps col:nth-child(4){width:11rem}.tools input{width:8rem}}
+@media print{.tools,.now{display:none}.view{max-height:none;overflow:visible;border:0}.view.empty{display:none}.chunk{content-visibility:visible}table.steps{min-width:0}}
 """
 RUN_SCRIPT = r"""
 (function(){
@@ -231,7 +232,7 @@ tops[many]=y+30;
 }
 function measure(){
 var room=view.clientWidth-2;gutter=room<600?64:96;var each=(room-gutter-24)/lanes.length;
-lane=Math.max(118,Math.min(320,each));width=Math.max(room,gutter+lane*lanes.length+24);
+lane=Math.max(150,Math.min(320,each));width=Math.max(room,gutter+lane*lanes.length+24);
 var out='';lanes.forEach(function(it,at){out+='<span style="left:'+x(at)+'px">'+esc(it)+'</span>';});
 heads.innerHTML=out;heads.style.width=width+'px';
 }
@@ -263,7 +264,7 @@ out+=bars(from,to,low,high);
 lanes.forEach(function(_,at){out+='<path class="life" d="M'+x(at)+' 0V'+Math.min(tallness,tops[many]-low)+'"/>';});
 for(var i=from;i<to;i++){
 var it=steps[i],y=tops[i]-low+half;
-if(y-before<.5&&to-from>1500&&it[1]<5)continue;
+if(y-before<1&&to-from>1500&&it[1]<5)continue;
 before=y;
 var gap=(i+1<many?tops[i+1]-tops[i]:99),roomy=y-lastLabel>=12.5&&(mode.value!=='time'||zoom>6)&&(zoom>=12||mode.value==='time'),found=hits.length&&hits.indexOf(i)>=0;
 out+='<g data-step="'+i+'"><title>'+esc(time(it[0])+' '+it[4])+'</title>';
@@ -301,7 +302,8 @@ var at=where===undefined?view.clientHeight/2:where,near=Math.max(0,Math.min(many
 change();size();if(many)view.scrollTop=Math.max(0,tops[near]-off);redraw();
 }
 function by(factor,where){anchor(function(){zoom=Math.max(.02,Math.min(mode.value==='time'?26e4:80,zoom*factor));while(mode.value!=='time'&&many*zoom>MOST*4)zoom/=1.2;},where);}
-function fit(){anchor(function(){zoom=mode.value==='time'?26*(view.clientHeight-BAR-40)/Math.min(MOST,many*26):Math.max(.02,(view.clientHeight-BAR-30)/Math.max(1,many));zoom=Math.min(zoom,mode.value==='time'?26e4:40);});view.scrollTop=0;redraw();}
+function fit(){anchor(function(){zoom=mode.value==='time'?26*(most()-BAR-40)/Math.min(MOST,many*26):Math.max(.02,(most()-BAR-30)/Math.max(1,many));zoom=Math.min(zoom,mode.value==='time'?26e4:40);});view.scrollTop=0;redraw();}
+function most(){return parseFloat(getComputedStyle(view).maxHeight)||view.clientHeight;}
 function on(id,what){document.getElementById(id).addEventListener('click',what);}
 on('in',function(){by(1.5);});on('out',function(){by(1/1.5);});on('fit',fit);on('each',function(){anchor(function(){zoom=26;});});
 mode.addEventListener('change',function(){anchor(function(){zoom=26;});});
@@ -354,7 +356,7 @@ def verdict(files, report, is_good):
     names = " ".join(shown(it) for it in files)
     word, _, rest = report.strip().partition(" ")
     mark = f'<b class="{"good" if is_good else "bad"}">{shown(word)}</b>'
-    lines = f"<span>{shown(rest)}</span> {BY_EDS}"
+    lines = f"<span>{shown(rest)} {BY_EDS}</span>"
     return f'<p class="verdict">{mark}{lines}</p><p class="legend"><code>eds check {names}</code></p>'
 
 
@@ -369,6 +371,6 @@ def page(title, head, nav, main, style="", script=SEARCH, is_lazy=False):
     return (
         f'<!DOCTYPE html>\n<html lang="en">\n<head>\n<meta charset="utf-8">\n<meta name="viewport" content="width=device-width, initial-scale=1">\n'
         f'<title>{shown(title)}</title>\n<link rel="icon" href="data:,">\n<style>{STYLE}{KIND_RULES}{style}</style>\n</head>\n<body>\n'
-        f'<a class="skip" href="#main">To the sheet</a>\n<header><h1>{shown(title)}</h1>{head}</header>\n'
+        f'<a class="skip" href="#main">To the contents</a>\n<header><h1>{shown(title)}</h1>{head}</header>\n'
         f'<div class="frame{"" if side else " plain"}">{side}\n<main id="main">\n{main}</main></div>\n<script>{LAZY.replace("CHUNK", str(CHUNK)) if is_lazy else ""}{script}</script>\n</body>\n</html>\n'
     )
