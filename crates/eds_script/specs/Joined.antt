@@ -10,7 +10,7 @@ use Rattle.eds_script.specs.declared.why.BadLine.{BadLine}
 use Rattle.eds_script.specs.Handing.{MayAllHappen, passed}
 use Rattle.eds_script.specs.Known.{KnowsTypes}
 use Rattle.eds_script.specs.Lines.{Numbered, is_feed, script_lines}
-use Rattle.eds_script.specs.Meaning.{is_tie}
+use Rattle.eds_script.specs.Meaning.{begun, is_tie, line_says, meaning, time_of}
 use Rattle.eds_script.specs.More.{more_of}
 use Rattle.eds_script.specs.Scripts.{Plot, script_of}
 use Rattle.eds_script.specs.Words.{form}
@@ -55,3 +55,8 @@ TextsJoin = (t : Table) (plan : List ComponentPlan) (s u : List ℕ) (p : Plot) 
 abbrev pub MoreMayHappen : Type 0
 MoreMayHappen = (t : Table) (plan : List ComponentPlan) (wires : List Wire) (now : ℕ) (octets : List ℕ) (q : Plot) → KeepsRules t → KnowsTypes t plan → more_of t plan wires now octets ≡ Ok q →
     (q.wires ≡ []) × MayAllHappen t plan wires now q.lines
+
+-- What a line means behind the lines that begin a script: it comes at their time, and a wire is too late where one of them is
+-- no wire.
+abbrev pub LinesBegin : Type 0
+LinesBegin = (t : Table) (plan : List ComponentPlan) (wired : List ℕ → Bool) (before : List (List ℕ)) (line : List ℕ) → meaning t plan wired before line ≡ line_says t plan wired (begun before) (time_of before) line

@@ -2,7 +2,7 @@
 
 ghost use Rattle.eds_script.specs.Alike.{AlikeEvents, AlikeScripts, AlikeStates};
 ghost use Rattle.eds_script.specs.Handing.{ScriptsMayRun};
-ghost use Rattle.eds_script.specs.Joined.{MoreMayHappen, TextsJoin};
+ghost use Rattle.eds_script.specs.Joined.{LinesBegin, MoreMayHappen, TextsJoin};
 ghost use Rattle.eds_script.specs.Laws.{FramesRead, OneLine};
 
 /// The hex of a frame is read as octets that begin with the frame's bits, with at most 7 more.
@@ -33,4 +33,9 @@ pub fn alike_plans_are_told_alike()
 pub fn texts_join()
     ensures join { TextsJoin }
     ensures more { MoreMayHappen }
+{}
+
+/// A line behind those that begin a script comes at their time, and a wire is too late where one of them is no wire.
+pub fn lines_begin()
+    ensures { LinesBegin }
 {}
