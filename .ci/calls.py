@@ -15,7 +15,15 @@ import sys
 
 TOP = os.path.dirname(os.path.dirname(os.path.realpath(__file__)))
 PROGRAMS = {"eds_prog": "program", "eds_cases": "cases", "eds_trials": "trials", "eds_bench": ""}
-WAITING = {}
+GOES_ON = "a run that goes on from a snapshot calls it, and no command does that yet"
+WAITING = {
+    "eds_plan::States::into_items": GOES_ON,
+    "eds_script::parse_more": GOES_ON,
+    "eds_host::Host::resume": GOES_ON,
+    "eds_host::Host::into_states": GOES_ON,
+    "eds_snap::print_snap": GOES_ON,
+    "eds_snap::parse_snap": GOES_ON,
+}
 
 
 class Call(collections.namedtuple("Call", "crate module owner trait name public line body renamed")):
