@@ -1,0 +1,11 @@
+pub mod Values
+pub mod Slots
+pub mod LineLaws
+pub mod GoingOn
+pub mod Gone
+pub mod Wording
+pub mod Rowing
+pub mod Named
+pub mod Finding
+pub mod Telling
+pub mod ReadAgain

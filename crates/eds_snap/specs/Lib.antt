@@ -1,0 +1,11 @@
+pub mod Lines
+pub mod Words
+pub mod Stops
+pub mod Order
+pub mod Places
+pub mod Entries
+pub mod Readings
+pub mod Texts
+pub mod Seen
+pub mod Laws
+pub mod Written
