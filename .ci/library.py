@@ -3,15 +3,17 @@
 
   .ci/library.py [--all | --fuzz SECONDS]
 
-The library is made of the proved crate eds_c as `make -C bindings` makes it; where that isn't proved yet, rt proves it first. The
-environment's EDS_C may name another static library, such as one without a proof: EDS_C=$(tools/quick eds_c) .ci/library.py.
+The library is the proved one that `make -C bindings` left in crates/eds_c/out, where no source is younger. Else, as in the gate,
+which proves eds_c but builds no static library of it, tools/quick builds one of the same sources without a proof, and that is
+said. The environment's EDS_C may name another static library.
 
 Each case is a request to library.c, which holds status and report octet by octet to what the case wants, in rooms of no octet, of
 one, of the exact size and of one octet less. Small requests are cut behind each octet, and with these each allocation is refused
-in turn. The same cases run in four threads at once, and, where these are there, under AddressSanitizer and, one in fifty,
-under valgrind. One in ten runs through the Python module, whose wheel is made and unpacked for that, and the examples of
-docs/LIBRARY.md print what stands there. With --all each case runs under valgrind too. --fuzz changes octets of requests at
-random for so many seconds: a call has to answer, and leave alone what it doesn't own.
+in turn. One case in ten runs in four threads at once, one in ten under AddressSanitizer and one in 200 under valgrind, where these
+are there. One in ten runs through the Python module, whose wheel is made and unpacked for that, and the examples of bindings and
+of docs/LIBRARY.md print what they have to. With --all each case runs in threads and under AddressSanitizer, and one in 20 under
+valgrind. --fuzz changes octets of requests at random for so many seconds: a call has to answer, and leave alone what it doesn't
+own.
 """
 
 import os
@@ -28,15 +30,27 @@ sys.dont_write_bytecode = True
 import cases as case_files  # noqa: E402
 
 TOP = os.path.dirname(os.path.dirname(os.path.abspath(__file__)))
+sys.path.insert(0, os.path.join(TOP, "tools"))
+import packet_types  # noqa: E402
+
+PROVED = os.path.join(TOP, "crates/eds_c/out/libeds_c.a")
 BINDINGS = os.path.join(TOP, "bindings")
 EXAMPLES = os.path.join(BINDINGS, "examples")
 # Requests of at most so many octets are cut and refused memory; there are enough of them.
 SMALL, FEW = 1500, 40
+# One case of so many, in threads and under AddressSanitizer, and under valgrind; with --all
+SAMPLE, ALL = (10, 200), (1, 20)
+# Requests of at most so many octets are changed at random.
+CHANGED = 20_000
 STRICT = ["-Wall", "-Wextra", "-Werror", "-pedantic"]
 
 
 class Failed(Exception):
     """What went another way than it has to."""
+
+
+class Lacking(Exception):
+    """What isn't here, so that nothing can be tried."""
 
 
 def must(words, **how):
@@ -95,8 +109,9 @@ def few(requests):
     found = {}
     for it in sorted(requests, key=Request.size):
         kind = found.setdefault((*it.words[:1], it.status), [])
-        # a demonstration makes its own sheet, and a storm a long report, however small the request is
-        if max(it.size(), len(it.report)) <= SMALL and len(kind) < 3 and it.words[:1] != [b"demo"]:
+        # a demonstration makes its own sheet, and a storm a long report or very many deliveries, however small the request is
+        is_storm = it.words[:1] == [b"demo"] or it.words[:1] in ([b"run"], [b"replay"]) and it.status == 7
+        if max(it.size(), len(it.report)) <= SMALL and len(kind) < 3 and not is_storm:
             kind.append(it)
     return [it for kind in found.values() for it in kind][:FEW]
 
@@ -110,11 +125,25 @@ def put(requests, file):
 # ---- the library and its callers
 
 
+def static_library():
+    """The static library to be tried."""
+    if os.environ.get("EDS_C"):
+        return os.path.abspath(os.environ["EDS_C"])
+    if packet_types.is_newest(PROVED):
+        return PROVED
+    print("library: no proved static library is here, so one of the same sources is tried that tools/quick builds without a proof", flush=True)
+    ran = subprocess.run([os.path.join(TOP, "tools/quick"), "eds_c"], stdin=subprocess.DEVNULL, stdout=subprocess.PIPE, check=False)
+    if ran.returncode == 3:
+        raise Lacking("the toolchain in use builds nothing without a proof")
+    if ran.returncode:
+        raise Failed(f"tools/quick eds_c ended with status {ran.returncode}")
+    return ran.stdout.decode().strip()
+
+
 def make(room):
     """Makes and installs the library below a folder, and gives that."""
     settings = {**os.environ, "MAKEFLAGS": ""}
-    other = [f"PROVED={os.path.abspath(os.environ['EDS_C'])}"] if os.environ.get("EDS_C") else []
-    must(["make", "-C", BINDINGS, "install", f"BUILD={room}/out", f"PREFIX={room}/usr", *other], env=settings)
+    must(["make", "-C", BINDINGS, "install", f"BUILD={room}/out", f"PREFIX={room}/usr", f"PROVED={static_library()}"], env=settings)
     shown = must(["nm", "-D", "--defined-only", f"{room}/usr/lib/libeds.so.0"]).split()
     if shown[2:] != ["eds_call"] or shown[1] != "T":
         raise Failed(f"the shared library shows {shown}")
@@ -144,12 +173,12 @@ def drive(words, tally, what, **how):
 # ---- what is tried
 
 
-def with_c(usr, room, requests, tally):
-    every, small = put(requests, f"{room}/every"), put(few(requests), f"{room}/small")
+def with_c(usr, room, requests, each, tally):
+    every, some, small = (put(it, f"{room}/{name}") for name, it in (("every", requests), ("some", requests[::each]), ("small", few(requests))))
     plain = driver(usr, room, "plain")
     drive([plain, "rooms", every], tally, "rooms")
     drive([plain, "cuts", small], tally, "cuts")
-    drive([plain, "threads", every], tally, "threads")
+    drive([plain, "threads", some], tally, "threads")
     wraps = [f"-Wl,--wrap={it}" for it in ("malloc", "realloc", "free")]
     drive([driver(usr, room, "wrapped", "-DWRAPPED", *wraps), "memory", small], tally, "memory")
 
@@ -160,39 +189,48 @@ def with_sanitizer(usr, room, tally):
     except Failed:
         return print("library: AddressSanitizer isn't here, so nothing ran under it")
     settings = {**os.environ, "ASAN_OPTIONS": "detect_leaks=1"}
-    for mode, file in (("rooms", "every"), ("cuts", "small")):
+    for mode, file in (("rooms", "some"), ("cuts", "small")):
         drive([checked, mode, f"{room}/{file}"], tally, f"{mode} under AddressSanitizer", env=settings)
 
 
-def with_valgrind(room, requests, is_all, tally):
+def with_valgrind(room, requests, each, tally):
     if not shutil.which("valgrind"):
         return print("library: valgrind isn't here, so nothing ran under it")
-    some = put(requests if is_all else requests[::50], f"{room}/some")
+    few_of_all = put(requests[::each], f"{room}/few")
     how = ["valgrind", "-q", "--leak-check=full", "--errors-for-leak-kinds=all", "--error-exitcode=99"]
-    drive([*how, f"{room}/plain", "rooms", some], tally, "rooms under valgrind")
-    drive([*how, f"{room}/plain", "cuts", f"{room}/small"], tally, "cuts under valgrind") if is_all else None
+    drive([*how, f"{room}/plain", "rooms", few_of_all], tally, "rooms under valgrind")
+
+
+# The examples: source, compilers with their words, the words of a command, and what it prints.
+EXAMPLES_OF = [
+    ("unpack.c", (("cc", "-std=c99"), ("g++", "-x", "c++")), "unpack Flat/Word examples/flat/frame.hex examples/flat/sheet.json", "examples/flat/unpack.stdout"),
+    ("split.cpp", (("g++", "-std=c++17"),), "split Space/Packet examples/split/packets.bin examples/ccsds/sheet.json", "examples/split/split.stdout"),
+    ("split.cpp", (("g++", "-std=c++17"),), "split Space/Packet examples/split/noise.bin examples/ccsds/sheet.json", "examples/split/noise.stdout"),
+]  # fmt: skip
 
 
 def examples(usr, room, tally):
-    """Each example in C, compiled as its page says, statically and not, and as C++."""
+    """Each example in C and in C++, compiled as its page says, statically and not, and the one in C as C++ too."""
     settings = {**os.environ, "PKG_CONFIG_PATH": f"{usr}/lib/pkgconfig", "LD_LIBRARY_PATH": f"{usr}/lib"}
-    source = os.path.join(EXAMPLES, "unpack.c")
-    words = ["Flat/Word", "examples/flat/frame.hex", "examples/flat/sheet.json"]
-    with open(os.path.join(TOP, "examples/flat/unpack.stdout"), encoding="utf-8") as file:
-        wanted = file.read()
     flags = [f"-I{usr}/include", f"-L{usr}/lib", "-leds"]
     if shutil.which("pkg-config"):
         flags = must(["pkg-config", "--cflags", "--libs", "eds"], env=settings).split()
     else:
         print("library: pkg-config isn't here, so what it says of the library wasn't read")
-    for compiler, how in (("cc", ["-std=c99"]), ("g++", ["-x", "c++"])):
-        if not shutil.which(compiler):
-            print(f"library: {compiler} isn't here, so the header wasn't compiled by it")
-            continue
-        for link in (flags, [f"-I{usr}/include", "-x", "none", f"{usr}/lib/libeds.a"]):
-            must([compiler, *how, *STRICT, "-o", f"{room}/unpack", source, *link])
-            printed = must([f"{room}/unpack", *words], cwd=TOP, env=settings)
-            tally("examples in C", printed == wanted, printed != wanted)
+    for source, compilers, line, wanted_in in EXAMPLES_OF:
+        with open(os.path.join(TOP, wanted_in), "rb") as file:
+            wanted = file.read()
+        for compiler, *how in compilers:
+            if not shutil.which(compiler):
+                print(f"library: {compiler} isn't here, so {source} wasn't compiled by it")
+                continue
+            for link in (flags, [f"-I{usr}/include", "-x", "none", f"{usr}/lib/libeds.a"]):
+                must([compiler, *how, *STRICT, "-o", f"{room}/example", os.path.join(EXAMPLES, source), *link])
+                ran = subprocess.run([f"{room}/example", *line.split()[1:]], cwd=TOP, env=settings, stdout=subprocess.PIPE, check=False)
+                is_well = ran.stdout == wanted and ran.returncode == (3 if b"fault" in wanted else 0)
+                if not is_well:
+                    print(f"library: {source} prints {ran.stdout[:300]}, status {ran.returncode}")
+                tally("examples in C and C++", is_well, not is_well)
 
 
 def shown(kind):
@@ -250,6 +288,7 @@ def with_python(room, requests, tally):
 def fuzz(usr, room, requests, seconds):
     """Changes octets of requests for so many seconds, and runs them under AddressSanitizer: each has to be answered."""
     checked = driver(usr, room, "checked", "-fsanitize=address,undefined")
+    requests = [it for it in requests if 0 < it.size() <= CHANGED and it.words[:1] != [b"demo"]]
     until, tried = os.times().elapsed + seconds, 0
     while os.times().elapsed < until:
         changed = []
@@ -286,12 +325,15 @@ def main(words):
             usr = make(room)
             if words[:1] == ["--fuzz"]:
                 return fuzz(usr, room, requests, float(words[1]))
-            with_c(usr, room, requests, tally)
+            each, each_slow = ALL if words == ["--all"] else SAMPLE
+            with_c(usr, room, requests, each, tally)
             with_sanitizer(usr, room, tally)
-            with_valgrind(room, requests, words == ["--all"], tally)
+            with_valgrind(room, requests, each_slow, tally)
             examples(usr, room, tally)
             page(usr, room, tally)
             with_python(room, requests, tally)
+        except Lacking as why:
+            print(f"library: {why}, so nothing was tried")
         except Failed as why:
             print(f"library: {why}")
             tally("steps", 0, 1)
