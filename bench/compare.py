@@ -7,12 +7,12 @@ PROGRAM is a built program (by default crates/eds_prog/out/eds_prog), or `-` for
 checked, and where it is accepted, frames and values of its types are read and packed, and packets are split. WORDS say what
 sheets may hold: `built`, `whole`, `scalars`, or words of `EVERYTHING` in bench/model/run_model.py with commas between them.
 With `runs` sheets have components, and where they are accepted, scripts are run over them; with `sessions` these hold
-recordings of what is sent, right and wrong ones, and are replayed. With `recordings` the
-containers of an accepted sheet split recordings of some hundred packets each, with `templates` those of a sheet whose parts
-stand at fixed places. With `changed` a run is one of
-bench/fuzz.py: a command of the cases and examples, of whose files some are changed. Each difference is printed with its words
-and files. The last lines count the answers, of scripts what their runs show, the packets, and the differences. The same seed
-makes the same inputs.
+recordings of what is sent, right and wrong ones, and are replayed; with `snapshots`, of which the model alone (`-`) knows, they
+are cut at some places, and the rest goes on from the snapshot of what stands before it, or from one with something changed. With
+`recordings` the containers of an accepted sheet split recordings of some hundred packets each, with `templates` those of a sheet
+whose parts stand at fixed places. With `changed` a run is one of bench/fuzz.py: a command of the cases and examples, of whose
+files some are changed. Each difference is printed with its words and files. The last lines count the answers, of scripts what
+their runs show, the packets, and the differences. The same seed makes the same inputs.
 """
 
 import argparse
@@ -36,6 +36,7 @@ import gen  # noqa: E402
 import gen_components  # noqa: E402
 import gen_scripts  # noqa: E402
 import gen_sessions  # noqa: E402
+import gen_snapshots  # noqa: E402
 import gen_templates  # noqa: E402
 import run_model  # noqa: E402
 import runs  # noqa: E402
@@ -130,6 +131,35 @@ def of_sessions(seed, stage):
     yield from of_lines(dice, gen_sessions.sheet(seed, dice), stage, "replay", gen_sessions.session)
 
 
+def of_snapshots(seed, stage):
+    """The words and files of one run: scripts that are cut, snapshots of their fronts, and rests that go on from these."""
+    dice = random.Random(seed)
+    for words, files in of_lines(dice, gen_components.octets(gen_components.case(seed)), stage, "run", gen_scripts.script):
+        yield words, files
+        if words[0] == "run":
+            yield from cut(dice, files, stage)
+
+
+def cut(dice, files, stage):
+    """The words and files of a script that is cut at some places. Both parts come to what the whole comes to, or the model is wrong."""
+    def answer(words, files):
+        return in_time(run_model.answer, words, files, stage)
+
+    whole = answer(["run", "lines", "sheet"], files)
+    for front, rest, lines in gen_snapshots.parts(dice, files["lines"]) if whole else ():
+        before = {"sheet": files["sheet"], "lines": front}
+        snap, told = answer(["snapshot", "lines", "sheet"], before), answer(["run", "lines", "sheet"], before)
+        yield ["snapshot", "lines", "sheet"], before
+        if snap is None or told is None or snap[0]:
+            continue
+        behind = {"sheet": files["sheet"], "snap": snap[1].encode(), "lines": rest}
+        more = answer(["resume", "snap", "lines", "sheet"], behind)
+        yield ["resume", "snap", "lines", "sheet"], behind
+        if more is not None and not gen_snapshots.joined(told, more, whole, lines):
+            raise AssertionError(f"{told} and {more} aren't {whole}")
+        yield ["resume", "snap", "lines", "sheet"], {**behind, "snap": gen_snapshots.spoiled(dice, snap[1])}
+
+
 def of_recordings(seed, stage):
     """The words and files of one run: recordings of many packets of an accepted sheet's containers."""
     dice = random.Random(seed)
@@ -164,7 +194,7 @@ def of_changed(seed, _):
     yield fuzz.Maker(seeds(), seed).made()
 
 
-OTHER = {"runs": of_scripts, "sessions": of_sessions, "recordings": of_recordings, "templates": of_templates, "changed": of_changed}
+OTHER = {"runs": of_scripts, "sessions": of_sessions, "snapshots": of_snapshots, "recordings": of_recordings, "templates": of_templates, "changed": of_changed}
 
 
 def replay_shown(status, report):
@@ -181,12 +211,13 @@ def shown_by(words, status, report):
     """What an answer shows: of a run its events too."""
     if words[0] == "replay" and not report.startswith("bad line"):
         return {"replay " + it for it in replay_shown(status, report)}
-    if words[0] != "run" or status not in (0, 7):
+    if words[0] not in ("run", "resume") or status not in (0, 7):
         first = report.split("\n")[0]
-        return {"bad line " + first.split(" ")[3] if first.startswith("bad line") else first.split(" at ")[0] if status else words[0] + " done"}
+        bad = re.match("(bad (?:snapshot )?line) [0-9]+ (.*)", first)
+        return {f"{bad[1]} {bad[2]}" if bad else first.split(" at ")[0] if status else words[0] + " done"}
     events = [line.split(" ") for line in report.splitlines() if line[0].isdigit()]
-    shown = {"run with " + " ".join(it[1:2] + it[4:5] * (it[1] in ("halt", "reject"))) for it in events}
-    return shown | {"run with " + it for it, times in runs.SEEN.items() if times} | {"run done" if status == 0 else "limit deliveries"}
+    shown = {words[0] + " with " + " ".join(it[1:2] + it[4:5] * (it[1] in ("halt", "reject"))) for it in events}
+    return shown | {"run with " + it for it, times in runs.SEEN.items() if times} | {words[0] + " done" if status == 0 else "limit deliveries"}
 
 
 def packets_read(words, report):

@@ -1,5 +1,6 @@
 #!/usr/bin/env python3
-"""The model against answers that were worked out by hand: the cases of the program, and the rows of runs.
+"""The model against answers that were worked out by hand: the cases of the program, the rows of runs, and those of snapshots and of
+runs that go on from them, for which the program has no command.
 
     rows.py [WORD..]      the cases and rows whose file or words hold one of the words; without words all of them
 
@@ -60,7 +61,7 @@ def beat_twice():
 
 
 def main(words):
-    every = list(cases.cases()) + list(cases.cases([HERE / "rows.json"])) + list(long_ticks())
+    every = list(cases.cases()) + list(cases.cases([HERE / "rows.json", HERE / "snapshots.json"])) + list(long_ticks())
     chosen = [(file, case) for file, case in every if "reads" not in case and "writes" not in case
               and (not words or any(word in "%s %s" % (file, case["words"]) for word in words))]
     differ = 0

@@ -5,6 +5,7 @@
   run_model.py run SCRIPT FILE...            run_model.py pack TYPE JSONFILE FILE...
   run_model.py layout TYPE FILE...           run_model.py split TYPE BINFILE FILE...
   run_model.py replay SESSION FILE...        run_model.py demo N
+  run_model.py snapshot SCRIPT FILE...       run_model.py resume SNAP SCRIPT FILE...
 
 Prints what `eds` prints and ends with its status. `answer(words, files, stage)` is the same as a function, with files a
 dict from names to bytes. A stage is a set of words of what is built; see STAGES.
@@ -20,6 +21,7 @@ from layouts import text as layout_text
 from runs import Host, Rejected, Storm
 from scripts import BadLine, Script, end_report, event_text
 from sessions import replayed
+from snapshots import BadSnap, Snapshot, snapshot_text
 
 EVERYTHING = m.EVERYTHING | {"interfaces", "ends", "activities", "machines", "transactions"}
 STAGES = {"whole": EVERYTHING, "built": (m.EVERYTHING | {"interfaces", "ends"}) - {"inherit"}, "scalars": set()}
@@ -77,9 +79,10 @@ def judged(files, word=None, stage=EVERYTHING):
 
 # ---------------------------------------------------------------- the answer
 
-def run(judge, script):
-    """(host, number of the line that is a Storm or None) of a script."""
-    host = Host(judge, script.joined())
+def run(judge, script, snapshot=None):
+    """(host, number of the line that is a Storm or None) of a script, which may go on from a snapshot."""
+    wires = script.joined()
+    host = snapshot.host(wires) if snapshot else Host(judge, wires)
     for number, line in script.lines:
         try:
             host.handle(line)
@@ -88,13 +91,13 @@ def run(judge, script):
     return host, None
 
 
-def run_answer(judge, octets):
-    """(status, report) of a script over an accepted sheet."""
-    if len(octets) > MOST_SCRIPT:
-        return (7, "limit input %d\n" % MOST_SCRIPT)
+def run_answer(judge, octets, snap=None):
+    """(status, report) of a script over an accepted sheet, which may go on from the octets of a snapshot."""
     try:
-        host, storm = run(judge, Script(judge, octets))
-    except BadLine as bad:
+        snapshot = None if snap is None else Snapshot(judge, snap)
+        script = Script(judge, octets, snapshot)
+        host, storm = run(judge, script, snapshot)
+    except (BadSnap, BadLine) as bad:
         return (3, bad.report())
     events = "".join(event_text(judge, time, event) for time, event in host.outs)
     if storm is not None:
@@ -102,16 +105,21 @@ def run_answer(judge, octets):
     return within_limit(events + end_report(judge, host))
 
 
+def snapshot_answer(judge, octets):
+    """(status, report) of a script of which the end is told as a snapshot."""
+    try:
+        script = Script(judge, octets)
+        host, storm = run(judge, script)
+    except BadLine as bad:
+        return (3, bad.report())
+    if storm is not None:
+        return (7, "limit deliveries 10000 at line %d\n" % storm)
+    return within_limit(snapshot_text(judge, script.wires, host))
+
+
 def within_limit(report):
     """(status, report) of a report that is as long as it is."""
     return (0, report) if len(report.encode()) <= MOST_REPORT else (7, "limit report %d\n" % MOST_REPORT)
-
-
-def replay_answer(judge, octets):
-    """(status, report) of a session over an accepted sheet."""
-    if len(octets) > MOST_SCRIPT:
-        return (7, "limit input %d\n" % MOST_SCRIPT)
-    return replayed(judge, octets)
 
 
 def sheets_of(names, files):
@@ -131,8 +139,8 @@ def sheets_of(names, files):
     return sheets, None
 
 
-LEAST_WORDS = {"split": 4, "check": 2, "unpack": 4, "pack": 4, "run": 3, "replay": 3, "layout": 3, "demo": 2}
-FIRST_SHEET = {"check": 1, "run": 2, "replay": 2, "layout": 2}
+LEAST_WORDS = {"split": 4, "check": 2, "unpack": 4, "pack": 4, "run": 3, "replay": 3, "layout": 3, "demo": 2, "snapshot": 3, "resume": 4}
+FIRST_SHEET = {"check": 1, "run": 2, "replay": 2, "layout": 2, "snapshot": 2}
 
 
 def answer(words, files, stage=EVERYTHING):
@@ -153,7 +161,9 @@ def answer(words, files, stage=EVERYTHING):
         return (0, "accepted types %d containers %d interfaces %d components %d\n" % counts(judge))
     if command == "layout":
         return within_limit(layout_text(judge, judge.word))
-    return input_answer(command, judge, words[1 if command in ("run", "replay") else 2], files)
+    if command in OVER_LINES:
+        return lines_answer(command, judge, words[1:FIRST_SHEET.get(command, 3)], files)
+    return input_answer(command, judge, words[2], files)
 
 
 def counts(judge):
@@ -179,12 +189,23 @@ def split_answer(judge, octets):
     return (0, "".join(lines) + "packets %d octets %d\n" % (len(lines), len(octets)))
 
 
+OVER_LINES = {"run": run_answer, "replay": replayed, "snapshot": snapshot_answer, "resume": lambda judge, snap, script: run_answer(judge, script, snap)}
+
+
+def lines_answer(command, judge, names, files):
+    """(status, report) of a command that reads files of lines, over an accepted sheet."""
+    for name in names:
+        if name not in files:
+            return (8, "no file %s\n" % name)
+        if len(files[name]) > MOST_SCRIPT:
+            return (7, "limit input %d\n" % MOST_SCRIPT)
+    return OVER_LINES[command](judge, *[files[name] for name in names])
+
+
 def input_answer(command, judge, name, files):
     """(status, report) of a command that reads an input file, over an accepted sheet."""
     if name not in files:
         return (8, "no file %s\n" % name)
-    if command in ("run", "replay"):
-        return (run_answer if command == "run" else replay_answer)(judge, files[name])
     if command == "split":
         return split_answer(judge, files[name])
     most = 1048576 if command == "unpack" else 4194304

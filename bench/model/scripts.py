@@ -83,14 +83,18 @@ def checked(judge, types, values):
 
 
 class Script:
-    """The lines of a script for the components of a sheet, or its first BadLine."""
+    """The lines of a script for the components of a sheet, or its first BadLine. One that goes on from a snapshot has its wires and
+    begins at its time, without a start."""
 
-    def __init__(self, judge, octets):
+    def __init__(self, judge, octets, snapshot=None):
         self.j = judge
         self.ends = {c.name + ":" + e.name: (i, k) for i, c in enumerate(judge.components) for k, e in enumerate(c.ends)}
         self.wires, self.lines, self.time, self.began = [], [(0, ("start",))], 0, False
         listed = lines_of(octets)
         self.wired = {e for _, x in listed if is_wire(x) for e in words_of(x)[1:]}
+        if snapshot is not None:
+            self.wires, self.lines, self.time, self.began = list(snapshot.wires), [], snapshot.now, True
+            self.wired = {e for _, *ends in snapshot.wires for e in ends}
         for number, x in listed:
             try:
                 self.line(number, words_of(x))
